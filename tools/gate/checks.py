@@ -1,0 +1,79 @@
+"""What the gate asks of the crates beyond `rt ci`. Each check returns the faults that it found, as texts."""
+
+import re
+from pathlib import Path
+
+# What every verdict carries: the kit's logic and libraries come built. Any other `=trusted` is a result of the quick loop.
+BUILT = {"logic-built", "libraries-built"}
+# A proof that no longer fits the code's shape: such a refusal says nothing about a fact.
+UNFIT = re.compile(r"has no `Need-|parse error|not in scope|unresolved|no such")
+
+
+def listed_crates(root: Path) -> dict[str, list[str]]:
+    """The crates of crates.txt with what each depends on."""
+    crates = {}
+    for line in (root / "crates.txt").read_text().splitlines():
+        line = line.split("#")[0].strip()
+        if line:
+            name, _, deps = line.partition(":")
+            crates[name.strip()] = deps.split()
+    return crates
+
+
+def unlisted(root: Path) -> list[str]:
+    """A folder of crates/ that crates.txt does not list, or a listed crate that has no folder."""
+    names = set(listed_crates(root))
+    folders = {path.name for path in (root / "crates").iterdir() if path.is_dir()}
+    faults = [f"crates/{name} is not listed in crates.txt" for name in sorted(folders - names)]
+    return faults + [f"crates.txt lists {name}, which has no folder" for name in sorted(names - folders)]
+
+
+def verdict_faults(name: str, is_library: bool, log: str) -> list[str]:
+    """What is wrong with the verdict that closes a crate's log."""
+    verdicts = [line for line in log.splitlines() if line.startswith("logic=")]
+    if len(verdicts) != 1:
+        return [f"{name}: {len(verdicts)} verdict lines instead of one"]
+    words = dict(word.partition("=")[::2] for word in verdicts[0].split())
+    faults = []
+    if words["logic"] != "proved":
+        faults.append(f"{name}: logic={words['logic']}")
+    if is_library and words.get("axioms", "0") != "0":
+        faults.append(f"{name}: a library with axioms={words['axioms']}")
+    for word, value in words.items():
+        if value == "trusted" and word not in BUILT:
+            faults.append(f"{name}: {word}=trusted is of the quick loop and no verdict")
+    return faults
+
+
+def verdicts(root: Path) -> tuple[int, list[str]]:
+    """How many crates have a verdict that counts, and the faults of the others."""
+    passed, faults = 0, []
+    for name in listed_crates(root):
+        log = root / "target" / "log" / f"{name}.out"
+        is_library = (root / "crates" / name / "src" / "lib.rt").exists()
+        found = verdict_faults(name, is_library, log.read_text()) if log.exists() else [f"{name}: no log of its check"]
+        passed += not found
+        faults += found
+    return passed, faults
+
+
+def edit_faults(label: str, log: str) -> list[str]:
+    """Whether a must-fail edit was refused because a fact fails, as the first error of its log says."""
+    errors = [line for line in log.splitlines() if ": error: " in line]
+    if not errors:
+        return [f"must-fail {label}: no error in its log"]
+    if UNFIT.search(errors[0]):
+        return [f"must-fail {label}: refused for its shape and not for a fact: {errors[0][:200]}"]
+    return []
+
+
+def edits(root: Path) -> tuple[int, list[str]]:
+    """How many must-fail edits were refused for a fact, and the faults of the others."""
+    passed, faults = 0, []
+    for edit in sorted((root / "crates").glob("*/must-fail/*.edit")):
+        label = f"{edit.parent.parent.name}/{edit.stem}"
+        log = root / "target" / "must-fail" / label / ".log"
+        found = edit_faults(label, log.read_text()) if log.exists() else [f"must-fail {label}: it was not tried"]
+        passed += not found
+        faults += found
+    return passed, faults

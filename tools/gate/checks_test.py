@@ -1,0 +1,88 @@
+"""The gate's checks are tried on what they must refuse."""
+
+import tempfile
+import unittest
+from pathlib import Path
+
+import checks
+
+PROVED = "fn maps::compared: proved\nlogic=proved functions=1 sum=0 native=nat logic-built=trusted libraries-built=trusted\n"
+
+
+class Verdicts(unittest.TestCase):
+    def test_a_library_without_axioms_passes(self):
+        self.assertEqual(checks.verdict_faults("maps", True, PROVED), [])
+        self.assertEqual(checks.verdict_faults("maps", True, PROVED.replace("sum=0", "axioms=0 sum=0")), [])
+
+    def test_a_library_with_an_axiom_fails(self):
+        self.assertEqual(
+            checks.verdict_faults("maps", True, PROVED.replace("sum=0", "axioms=1 sum=0")),
+            ["maps: a library with axioms=1"],
+        )
+
+    def test_a_program_may_have_axioms(self):
+        self.assertEqual(checks.verdict_faults("replay", False, PROVED.replace("sum=0", "axioms=3 sum=0")), [])
+
+    def test_a_result_of_the_quick_loop_fails(self):
+        for word in ("incremental", "cache"):
+            self.assertEqual(
+                checks.verdict_faults("maps", True, PROVED.replace("sum=0", f"{word}=trusted sum=0")),
+                [f"maps: {word}=trusted is of the quick loop and no verdict"],
+            )
+
+    def test_an_unproved_crate_fails(self):
+        self.assertEqual(checks.verdict_faults("maps", True, PROVED.replace("logic=proved", "logic=failed")), ["maps: logic=failed"])
+        self.assertEqual(checks.verdict_faults("maps", True, "nothing\n"), ["maps: 0 verdict lines instead of one"])
+        self.assertEqual(checks.verdict_faults("maps", True, PROVED + PROVED), ["maps: 2 verdict lines instead of one"])
+
+
+class Edits(unittest.TestCase):
+    def test_an_edit_that_breaks_a_fact_passes(self):
+        self.assertEqual(checks.edit_faults("maps/x", "proofs/A.antt:1:2: error: `returns`: `omega`: the goal does not follow\n"), [])
+
+    def test_an_edit_that_breaks_the_shape_fails(self):
+        log = "proofs/A.antt:1:2: error: `lts` has no `Need-returns-2` that can be named from here\n"
+        self.assertEqual(len(checks.edit_faults("maps/x", log)), 1)
+        self.assertEqual(len(checks.edit_faults("maps/x", "all is well\n")), 1)
+
+
+class Folders(unittest.TestCase):
+    def setUp(self):
+        self.folder = tempfile.TemporaryDirectory()
+        self.addCleanup(self.folder.cleanup)
+        self.root = Path(self.folder.name)
+        (self.root / "crates" / "maps" / "src").mkdir(parents=True)
+        (self.root / "crates" / "maps" / "src" / "lib.rt").touch()
+        (self.root / "crates.txt").write_text("# a comment\nmaps: io libc # another\n")
+
+    def log(self, text):
+        (self.root / "target" / "log").mkdir(parents=True)
+        (self.root / "target" / "log" / "maps.out").write_text(text)
+
+    def test_crates_txt_is_read(self):
+        self.assertEqual(checks.listed_crates(self.root), {"maps": ["io", "libc"]})
+        self.assertEqual(checks.unlisted(self.root), [])
+
+    def test_an_unlisted_folder_fails(self):
+        (self.root / "crates" / "extra").mkdir()
+        self.assertEqual(checks.unlisted(self.root), ["crates/extra is not listed in crates.txt"])
+
+    def test_a_listed_crate_without_a_folder_fails(self):
+        (self.root / "crates.txt").write_text("maps:\nimage: maps\n")
+        self.assertEqual(checks.unlisted(self.root), ["crates.txt lists image, which has no folder"])
+
+    def test_a_crate_without_a_log_fails(self):
+        self.assertEqual(checks.verdicts(self.root), (0, ["maps: no log of its check"]))
+
+    def test_a_log_is_read(self):
+        self.log(PROVED)
+        self.assertEqual(checks.verdicts(self.root), (1, []))
+
+    def test_an_edit_that_was_not_tried_fails(self):
+        (self.root / "crates" / "maps" / "must-fail").mkdir()
+        (self.root / "crates" / "maps" / "must-fail" / "x.edit").touch()
+        self.assertEqual(checks.edits(self.root), (0, ["must-fail maps/x: it was not tried"]))
+
+
+if __name__ == "__main__":
+    unittest.main()

@@ -1,0 +1,118 @@
+#!/usr/bin/env python3
+"""All tests of the repository. The last line is `N passed, M failed`, the sum of what ran; what could not run is named and not counted."""
+
+import os
+import re
+import shutil
+import subprocess
+import sys
+import time
+from pathlib import Path
+
+import checks
+
+ROOT = Path(__file__).resolve().parents[2]
+ORACLE = ROOT / "target" / "oracle" / "oracle"
+ANSWERS = ROOT / "tools" / "oracle" / "answers.bin"
+SUMMARY = re.compile(r"^(\d+) passed, (\d+) failed$")
+
+
+class Gate:
+    def __init__(self):
+        self.passed = 0
+        self.faults = []
+        self.left_out = []
+
+    def count(self, passed: int, faults: list[str]):
+        self.passed += passed
+        self.faults += faults
+
+    def stage(self, name: str, work):
+        """Runs one stage; a stage that breaks is a fault and not the end."""
+        print(f"== {name}", flush=True)
+        start = time.monotonic()
+        try:
+            work()
+        except Exception as error:
+            self.faults.append(f"{name}: {error}")
+        print(f"== {name}: {time.monotonic() - start:.0f} s", flush=True)
+
+    def command(self, name: str, *words) -> list[str]:
+        """Counts a command as one check: it passes with exit status 0."""
+        status, lines = run(*words)
+        self.count(status == 0, [] if status == 0 else [f"{name}: exit status {status}"])
+        return lines
+
+    def suite(self, name: str, *words):
+        """Counts a command by its last line, `N passed, M failed`."""
+        status, lines = run(*words)
+        summary = SUMMARY.match(lines[-1]) if lines else None
+        if not summary:
+            self.faults.append(f"{name}: its last line is no summary")
+            return
+        passed, failed = int(summary[1]), int(summary[2])
+        self.count(passed, [f"{name}: failed"] * failed)
+        if (status != 0) != (failed > 0) or passed == 0:
+            self.faults.append(f"{name}: exit status {status} with '{lines[-1]}'")
+
+    def finish(self) -> int:
+        for reason in self.left_out:
+            print(f"left out: {reason}")
+        for fault in self.faults:
+            print(f"FAILED: {fault}")
+        print(f"{self.passed} passed, {len(self.faults)} failed", flush=True)
+        return 1 if self.faults or self.passed == 0 else 0
+
+
+def run(*words) -> tuple[int, list[str]]:
+    """The exit status and the lines of a command, which are printed too."""
+    process = subprocess.Popen([str(word) for word in words], cwd=ROOT, stdout=subprocess.PIPE, stderr=subprocess.STDOUT, text=True)
+    lines = []
+    for line in process.stdout:
+        print(line, end="", flush=True)
+        lines.append(line.rstrip("\n"))
+    return process.wait(), lines
+
+
+def crates(gate: Gate):
+    faults = checks.unlisted(ROOT)
+    gate.count(not faults, faults)
+    gate.command("rt fmt --check", "rt", "fmt", "--check")
+    gate.suite("rt ci", "rt", "ci")
+    gate.count(*checks.verdicts(ROOT))
+    gate.count(*checks.edits(ROOT))
+
+
+def gate_tests(gate: Gate):
+    gate.command("tools/gate", sys.executable, "tools/gate/checks_test.py", "-q", "-b")
+
+
+def oracle(gate: Gate):
+    if not shutil.which("rustc"):
+        gate.left_out.append("tools/oracle and the recorded answers: there is no rustc")
+        return
+    sources = Path(os.environ.get("VEXIL_SRC", ROOT.parent / "shared" / "docs" / "src"))
+    words = []
+    if not (sources / "crates" / "vexil-lang" / "src" / "compat.rs").exists():
+        gate.left_out.append(f"the comparison with the Rust `check`: its sources are not in {sources}")
+        words = ["--without-vexil"]
+    gate.command("tools/oracle/build.sh", "bash", "tools/oracle/build.sh", *words)
+    gate.suite("oracle selftest", ORACLE, "selftest")
+    gate.command("oracle verify", ORACLE, "verify", ANSWERS)
+    again = ROOT / "target" / "oracle" / "answers.bin"
+    gate.command("oracle generate", ORACLE, "generate", again)
+    gate.command("the recorded answers are what the generator writes", "cmp", again, ANSWERS)
+
+
+def main() -> int:
+    gate = Gate()
+    if len(sys.argv) > 1:
+        sys.exit(__doc__)
+    gate.stage("crates", lambda: crates(gate))
+    gate.stage("gate", lambda: gate_tests(gate))
+    gate.stage("oracle", lambda: oracle(gate))
+    return gate.finish()
+
+
+if __name__ == "__main__":
+    sys.exit(main())
