@@ -2,7 +2,7 @@
 -- Assumes nothing.
 use mathlib.Core.Path.{_≡_, refl, sym, ap, _∙_}
 use mathlib.Core.Bool.{Bool, cond}
-use mathlib.Core.List.{List, [], _∷_, _++_, flatMap, append-assoc}
+use mathlib.Core.List.{List, [], _∷_, _++_, map, flatMap, append-assoc, map-append}
 use Prim.Native.Nat.{ℕ, suc, _+_, _≤_, _<_, max}
 use native.Mathlib.Omega.{arith}
 use native.Mathlib.Numerals.{add-one}
@@ -40,10 +40,10 @@ module _ {S A : Type 0} (step : S → A → S) where
   pass-end s l i h = rw (drop-of-length-le l h)
 
   -- what each step keeps
-  pub pass-keeps : (P : S → Type 0) → ((s : S) (a : A) → P s → P (step s a)) → (s : S) (l : List A) → P s → P (pass step s l)
-  unfolding pass
-  pass-keeps P k s [] h = h
-  pass-keeps P k s (a ∷ l) h = pass-keeps P k (step s a) l (k s a h)
+  pub pass-keeps : (P : S → Type 0) (Q : A → Type 0) → ((s : S) (a : A) → P s → Q a → P (step s a)) → (s : S) (l : List A) → P s → All Q l → P (pass step s l)
+  unfolding pass All
+  pass-keeps P Q k s [] h q = h
+  pass-keeps P Q k s (a ∷ l) h q = pass-keeps P Q k (step s a) l (k s a h (q .0)) (q .1)
 
 -- a view of the pass is a pass of the view
 pub pass-view : {S T A : Type 0} (step : S → A → S) (step′ : T → A → T) (v : S → T) → ((s : S) (a : A) → v (step s a) ≡ step′ (v s) a)
@@ -59,6 +59,13 @@ module _ {A : Type 0} (w : A → ℕ) where
   unfolding largest
   largest-append [] ys = omega arith
   largest-append (a ∷ xs) ys = omega (arith, largest-append xs ys)
+
+  -- a bound of both parts is one of the whole, and the other way
+  pub largest-whole : (b : ℕ) (xs ys : List A) → largest w xs ≤ b → largest w ys ≤ b → largest w (xs ++ ys) ≤ b
+  largest-whole b xs ys h k = omega (arith, largest-append xs ys)
+
+  pub largest-parts : (b : ℕ) (xs ys : List A) → largest w (xs ++ ys) ≤ b → (largest w xs ≤ b) × (largest w ys ≤ b)
+  largest-parts b xs ys h = omega (arith, largest-append xs ys)
 
   pub largest-bound : (b : ℕ) (l : List A) → All (λ a. w a ≤ b) l → largest w l ≤ b
   unfolding largest All
@@ -101,13 +108,43 @@ unfolding total
 total-zero [] = refl
 total-zero (a ∷ l) = omega (arith, total-zero l)
 
+pub count-append : {A : Type 0} (p : A → Bool) (xs ys : List A) → count p (xs ++ ys) ≡ count p xs + count p ys
+unfolding count
+count-append p = total-append (λ a. cond (p a) 1 0)
+
 -- ---- lists put together
+
+-- an element for each is the list itself
+pub flatMap-single : {A : Type 0} (l : List A) → flatMap (λ a. a ∷ []) l ≡ l
+unfolding flatMap
+flatMap-single [] = refl
+flatMap-single (a ∷ l) = rw (flatMap-single l)
+
+pub flatMap-none : {A C : Type 0} (l : List A) → flatMap {B = C} (λ (a : A). []) l ≡ []
+unfolding flatMap
+flatMap-none [] = refl
+flatMap-none (a ∷ l) = flatMap-none l
 
 module _ {A C : Type 0} (f : A → List C) where
   pub flatMap-append : (xs ys : List A) → flatMap f (xs ++ ys) ≡ flatMap f xs ++ flatMap f ys
   unfolding flatMap
   flatMap-append [] ys = refl
   flatMap-append (a ∷ xs) ys = rw (flatMap-append xs ys) (sym (append-assoc (f a) (flatMap f xs) (flatMap f ys)))
+
+  pub map-flatMap : {D : Type 0} (h : C → D) (l : List A) → map h (flatMap f l) ≡ flatMap (λ a. map h (f a)) l
+  unfolding flatMap
+  map-flatMap h [] = refl
+  map-flatMap h (a ∷ l) = map-append h (f a) (flatMap f l) ∙ rw (map-flatMap h l)
+
+  pub length-flatMap : (l : List A) → length (flatMap f l) ≡ total (λ a. length (f a)) l
+  unfolding flatMap total
+  length-flatMap [] = refl
+  length-flatMap (a ∷ l) = omega (arith, length-append (f a) (flatMap f l), length-flatMap l)
+
+  pub flatMap-same : (g : A → List C) (l : List A) → All (λ a. f a ≡ g a) l → flatMap f l ≡ flatMap g l
+  unfolding flatMap All
+  flatMap-same g [] h = refl
+  flatMap-same g (a ∷ l) h = rw (h .0, flatMap-same g l (h .1))
 
   pub largest-flatMap : (w : C → ℕ) (l : List A) → largest w (flatMap f l) ≡ largest (λ a. largest w (f a)) l
   unfolding largest flatMap
