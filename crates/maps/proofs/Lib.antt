@@ -6,3 +6,5 @@ pub mod Searches
 pub mod Walking
 pub mod Places
 pub mod Distance
+pub mod Sums
+pub mod Examples

@@ -110,3 +110,11 @@ module _ {K E : Type 0} {lt : K → K → Bool} (key : E → K) (S : Strict K lt
       go : (l : List E) → After key lt (key f) l → All (λ e. lookup key lt (key e) m ≡ some e) l → All (λ e. lookup key lt (key e) (f ∷ m) ≡ some e) l
       go [] h q = tt
       go (e ∷ l) h q = (rw (after-other S (key e) (key f) (h .0)) (q .0), go l (h .1) (q .1))
+
+  -- by what a map has under the key of an entry
+  pub lookup-cases : (e : E) (m : List E) (P : Option E → Type 0) → P none → ((f : E) → key e ≡ key f → P (some f)) → P (lookup key lt (key e) m)
+  lookup-cases e m P z h = go (lookup key lt (key e) m) refl
+    where
+      go : (o : Option E) → lookup key lt (key e) m ≡ o → P o
+      go none p = z
+      go (some f) p = h f (sym (lookup-key (key e) m f p))
