@@ -5,6 +5,6 @@ pub mod Survivors
 pub mod Searches
 pub mod Walking
 pub mod Places
-pub mod Distance
+pub mod Levels
 pub mod Sums
 pub mod Examples

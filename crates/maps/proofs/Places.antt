@@ -9,7 +9,7 @@ use Rattle.maps.specs.Lists.{pass, All}
 use Rattle.maps.specs.Orders.{same}
 use Rattle.maps.specs.Keyed.{insert, survivors, lookup}
 use Rattle.maps.specs.Walk.{past, next}
-use Rattle.maps.proofs.Survivors.{all-insert, all-survivors}
+use Rattle.maps.proofs.Survivors.{insert-cases, all-insert, all-survivors}
 
 module _ {K E P : Type 0} (key : E → K) (lt : K → K → Bool) (f : P → E) (at : P → K) where
   -- the key at each place is that of the entry there
@@ -19,13 +19,11 @@ module _ {K E P : Type 0} (key : E → K) (lt : K → K → Bool) (f : P → E) 
   insert-map : (m : List P) (p : P) → Placed m → key (f p) ≡ at p → insert key lt (map f m) (f p) ≡ map f (insert at lt m p)
   unfolding insert All
   insert-map [] p h e = refl
-  insert-map (q ∷ m) p h e = rw (e, h .0) (go (lt (at p) (at q)) (lt (at q) (at p)) (insert-map m p (h .1) e))
-    where
-      go : (u v : Bool) → insert key lt (map f m) (f p) ≡ map f (insert at lt m p)
-          → cond u (f p ∷ f q ∷ map f m) (cond v (f q ∷ insert key lt (map f m) (f p)) (f p ∷ map f m)) ≡ map f (cond u (p ∷ q ∷ m) (cond v (q ∷ insert at lt m p) (p ∷ m)))
-      go true v ih = refl
-      go false true ih = ap (λ (l : List E). f q ∷ l) ih
-      go false false ih = refl
+  insert-map (q ∷ m) p h e =
+      insert-cases at lt q m p (λ l. insert key lt (map f (q ∷ m)) (f p) ≡ map f l)
+      (λ u. rw (e, h .0, u))
+      (λ u v. rw (e, h .0, u, v) (ap (λ (l : List E). f q ∷ l) (insert-map m p (h .1) e)))
+      (λ u v. rw (e, h .0, u, v))
 
   inserts-map : (m ps : List P) → Placed m → Placed ps → pass (insert key lt) (map f m) (map f ps) ≡ map f (pass (insert at lt) m ps)
   unfolding pass All

@@ -14,7 +14,7 @@ use Rattle.maps.specs.Compare.{Rules, unmatched, matched, between, compa
 use Rattle.maps.specs.Walk.{Rising}
 use Rattle.maps.proofs.Lists.{all, total-append, total-same, total-less, total-sum, total-zero, total-flatMap, pass-keeps}
 use Rattle.maps.proofs.Orders.{same-eq, eq-same, ne-same, same-ne}
-use Rattle.maps.proofs.Survivors.{lookup-after, lookup-cases}
+use Rattle.maps.proofs.Survivors.{insert-cases, lookup-after, lookup-cases}
 
 -- ---- a map weighs at most as much as the list that it is made of
 
@@ -22,12 +22,8 @@ module _ {K E : Type 0} (key : E → K) (lt : K → K → Bool) (w : E → ℕ) 
   total-insert : (m : List E) (e : E) → total w (insert key lt m e) ≤ total w m + w e
   unfolding total insert
   total-insert [] e = omega arith
-  total-insert (f ∷ m) e = go (lt (key e) (key f)) (lt (key f) (key e)) (total-insert m e)
-    where
-      go : (u v : Bool) → total w (insert key lt m e) ≤ total w m + w e → total w (cond u (e ∷ f ∷ m) (cond v (f ∷ insert key lt m e) (e ∷ m))) ≤ w f + total w m + w e
-      go true v h = omega arith
-      go false true h = omega arith
-      go false false h = omega arith
+  total-insert (f ∷ m) e =
+      insert-cases key lt f m e (λ l. total w l ≤ w f + total w m + w e) (λ u. omega arith) (λ u v. omega (arith, total-insert m e)) (λ u v. omega arith)
 
   inserts : (m l : List E) → total w (pass (insert key lt) m l) ≤ total w m + total w l
   unfolding pass total

@@ -9,7 +9,23 @@ use Rattle.maps.specs.Orders.{Strict, same}
 use Rattle.maps.specs.Keyed.{insert, survivors, lookup}
 use Rattle.maps.specs.Walk.{Rising, seen, lastSeen}
 use Rattle.maps.proofs.Lists.{all, all-map, pass-keeps, pass-view}
-use Rattle.maps.proofs.Orders.{same-self, same-eq, before-other, after-other}
+use Rattle.maps.proofs.Orders.{no-both, same-self, same-eq, before-other, after-other}
+
+-- ---- one entry more
+
+-- before the first entry of a map, after it, or in its stead
+pub insert-cases : {K E : Type 0} (key : E → K) (lt : K → K → Bool) (f : E) (m : List E) (e : E) (P : List E → Type 0)
+    → (lt (key e) (key f) ≡ true → P (e ∷ f ∷ m))
+    → (lt (key e) (key f) ≡ false → lt (key f) (key e) ≡ true → P (f ∷ insert key lt m e))
+    → (lt (key e) (key f) ≡ false → lt (key f) (key e) ≡ false → P (e ∷ m))
+    → P (insert key lt (f ∷ m) e)
+unfolding insert
+insert-cases key lt f m e P before after same = go (lt (key e) (key f)) (lt (key f) (key e)) refl refl
+  where
+    go : (u v : Bool) → lt (key e) (key f) ≡ u → lt (key f) (key e) ≡ v → P (cond u (e ∷ f ∷ m) (cond v (f ∷ insert key lt m e) (e ∷ m)))
+    go true v p q = before p
+    go false true p q = after p q
+    go false false p q = same p q
 
 -- ---- what stands was listed
 
@@ -17,12 +33,8 @@ module _ {K E : Type 0} (key : E → K) (lt : K → K → Bool) (P : E → Type 
   pub all-insert : (m : List E) (e : E) → All P m → P e → All P (insert key lt m e)
   unfolding insert All
   all-insert [] e h p = (p, tt)
-  all-insert (f ∷ m) e h p = go (lt (key e) (key f)) (lt (key f) (key e)) (all-insert m e (h .1) p)
-    where
-      go : (u v : Bool) → All P (insert key lt m e) → All P (cond u (e ∷ f ∷ m) (cond v (f ∷ insert key lt m e) (e ∷ m)))
-      go true v ih = (p, h)
-      go false true ih = (h .0, ih)
-      go false false ih = (p, h .1)
+  all-insert (f ∷ m) e h p =
+      insert-cases key lt f m e (All P) (λ u. (p, h)) (λ u v. (h .0, all-insert m e (h .1) p)) (λ u v. (p, h .1))
 
   pub all-survivors : (l : List E) → All P l → All P (survivors key lt l)
   unfolding survivors All
@@ -51,13 +63,11 @@ module _ {K E : Type 0} {lt : K → K → Bool} (key : E → K) (S : Strict K lt
   rising-insert : (m : List E) (e : E) → Rising key lt m → Rising key lt (insert key lt m e)
   unfolding insert Rising All
   rising-insert [] e h = (tt, tt)
-  rising-insert (f ∷ m) e h = go (lt (key e) (key f)) (lt (key f) (key e)) refl refl (rising-insert m e (h .1))
-    where
-      go : (u v : Bool) → lt (key e) (key f) ≡ u → lt (key f) (key e) ≡ v → Rising key lt (insert key lt m e)
-          → Rising key lt (cond u (e ∷ f ∷ m) (cond v (f ∷ insert key lt m e) (e ∷ m)))
-      go true v p q ih = ((p, after-trans (key e) (key f) m p (h .0)), h)
-      go false true p q ih = (all-insert key lt (λ g. lt (key f) (key g) ≡ true) m e (h .0) q, ih)
-      go false false p q ih = (subst (λ (k : K). After key lt k m) (sym (S .total (key e) (key f) p q)) (h .0), h .1)
+  rising-insert (f ∷ m) e h =
+      insert-cases key lt f m e (Rising key lt)
+      (λ u. ((u, after-trans (key e) (key f) m u (h .0)), h))
+      (λ u v. (all-insert key lt (λ g. lt (key f) (key g) ≡ true) m e (h .0) v, rising-insert m e (h .1)))
+      (λ u v. (subst (λ (k : K). After key lt k m) (sym (S .total (key e) (key f) u v)) (h .0), h .1))
 
   pub rising : (l : List E) → Rising key lt (survivors key lt l)
   unfolding survivors Rising
@@ -68,16 +78,22 @@ module _ {K E : Type 0} {lt : K → K → Bool} (key : E → K) (S : Strict K lt
   pub lookup-insert : (k : K) (m : List E) (e : E) → lookup key lt k (insert key lt m e) ≡ seen key lt k (lookup key lt k m) e
   unfolding lookup insert seen
   lookup-insert k [] e = refl
-  lookup-insert k (f ∷ m) e = go (lt (key e) (key f)) (lt (key f) (key e)) (same lt k (key e)) (same lt k (key f)) refl refl refl refl (lookup-insert k m e)
+  lookup-insert k (f ∷ m) e =
+      insert-cases key lt f m e (λ l. lookup key lt k l ≡ seen key lt k (lookup key lt k (f ∷ m)) e)
+      (λ u. refl)
+      (λ u v. ap (cond (same lt k (key f)) (some f)) (lookup-insert k m e) ∙ other v (same lt k (key e)) (same lt k (key f)) refl refl)
+      (λ u v. equal (same lt k (key e)) (same lt k (key f)) (ap (same lt k) (S .total (key e) (key f) u v)))
     where
-      go : (u v s t : Bool) → lt (key e) (key f) ≡ u → lt (key f) (key e) ≡ v → same lt k (key e) ≡ s → same lt k (key f) ≡ t
-          → lookup key lt k (insert key lt m e) ≡ cond s (some e) (lookup key lt k m)
-          → lookup key lt k (cond u (e ∷ f ∷ m) (cond v (f ∷ insert key lt m e) (e ∷ m))) ≡ cond s (some e) (cond t (some f) (lookup key lt k m))
-      go true v s t pu pv ps pt ih = rw (ps, pt)
-      go false true true t pu pv ps pt ih = rw (after-other S k (key f) (rw (same-eq S k (key e) ps) pv)) ih
-      go false true false t pu pv ps pt ih = rw pt (ap (cond t (some f)) ih)
-      go false false true t pu pv ps pt ih = rw ps
-      go false false false t pu pv ps pt ih = rw (ps, sym pt ∙ (ap (same lt k) (sym (S .total (key e) (key f) pu pv)) ∙ ps))
+      -- k is the key of one of them at most
+      other : lt (key f) (key e) ≡ true → (s t : Bool) → same lt k (key e) ≡ s → same lt k (key f) ≡ t
+          → cond t (some f) (cond s (some e) (lookup key lt k m)) ≡ cond s (some e) (cond t (some f) (lookup key lt k m))
+      other v true true p q = no-both (q) (after-other S k (key f) (rw (same-eq S k (key e) p) v))
+      other v true false p q = refl
+      other v false t p q = refl
+
+      equal : (s t : Bool) → s ≡ t → cond s (some e) (lookup key lt k m) ≡ cond s (some e) (cond t (some f) (lookup key lt k m))
+      equal true t p = refl
+      equal false t p = rw (← p)
 
   -- the search in what stands finds what a pass from the front keeps
   pub lookup-lastSeen : (k : K) (l : List E) → lookup key lt k (survivors key lt l) ≡ lastSeen key lt k none l

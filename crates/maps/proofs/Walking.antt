@@ -14,7 +14,7 @@ use Rattle.maps.specs.Compare.{between}
 use Rattle.maps.specs.Walk.{past, lesser, better, Rising, above, next, rest, least}
 use Rattle.maps.proofs.Lists.{pass-view}
 use Rattle.maps.proofs.Orders.{no-both, asym, same-self, after-other}
-use Rattle.maps.proofs.Survivors.{After}
+use Rattle.maps.proofs.Survivors.{After, insert-cases}
 
 module _ {K E : Type 0} {lt : K → K → Bool} (key : E → K) (S : Strict K lt) where
   -- ---- the next key
@@ -29,21 +29,27 @@ module _ {K E : Type 0} {lt : K → K → Bool} (key : E → K) (S : Strict K lt
   unfolding next insert better lesser
   next-insert b [] e = refl
   next-insert b (f ∷ m) e =
-      go (lt (key e) (key f)) (lt (key f) (key e)) (past lt b (key f)) (past lt b (key e)) refl refl refl refl (next-insert b m e)
+      insert-cases key lt f m e (λ l. next key lt b l ≡ better lt b (next key lt b (f ∷ m)) (key e))
+      (λ u. first u (past lt b (key f)) (past lt b (key e)) refl refl)
+      (λ u v. later u v (past lt b (key f)) (past lt b (key e)) refl refl (next-insert b m e))
+      (λ u v. rw (S .total (key e) (key f) u v) (same (past lt b (key f))))
     where
-      go : (u v w x : Bool) → lt (key e) (key f) ≡ u → lt (key f) (key e) ≡ v → past lt b (key f) ≡ w → past lt b (key e) ≡ x
+      first : lt (key e) (key f) ≡ true → (w x : Bool) → past lt b (key f) ≡ w → past lt b (key e) ≡ x
+          → cond x (some (key e)) (cond w (some (key f)) (next key lt b m)) ≡ cond x (lesser lt (cond w (some (key f)) (next key lt b m)) (key e)) (cond w (some (key f)) (next key lt b m))
+      first u true true p q = rw u
+      first u false true p q = no-both (past-trans b (key e) (key f) q u) p
+      first u w false p q = refl
+
+      later : lt (key e) (key f) ≡ false → lt (key f) (key e) ≡ true → (w x : Bool) → past lt b (key f) ≡ w → past lt b (key e) ≡ x
           → next key lt b (insert key lt m e) ≡ cond x (lesser lt (next key lt b m) (key e)) (next key lt b m)
-          → next key lt b (cond u (e ∷ f ∷ m) (cond v (f ∷ insert key lt m e) (e ∷ m)))
-          ≡ cond x (lesser lt (cond w (some (key f)) (next key lt b m)) (key e)) (cond w (some (key f)) (next key lt b m))
-      go true v w true pu pv pw px ih = rw (px, sym pw ∙ past-trans b (key e) (key f) px pu, pu)
-      go true v w false pu pv pw px ih = rw (px, pw)
-      go false true true x pu pv pw px ih = rw (pw, sym px ∙ past-trans b (key f) (key e) pw pv, pu)
-      go false true false true pu pv pw px ih = rw pw ih
-      go false true false false pu pv pw px ih = rw pw ih
-      go false false true true pu pv pw px ih = rw (px, pu, S .total (key e) (key f) pu pv)
-      go false false true false pu pv pw px ih = no-both pw (sym (ap (past lt b) (S .total (key e) (key f) pu pv)) ∙ px)
-      go false false false true pu pv pw px ih = no-both px (ap (past lt b) (S .total (key e) (key f) pu pv) ∙ pw)
-      go false false false false pu pv pw px ih = rw px
+          → cond w (some (key f)) (next key lt b (insert key lt m e)) ≡ cond x (lesser lt (cond w (some (key f)) (next key lt b m)) (key e)) (cond w (some (key f)) (next key lt b m))
+      later u v true true p q ih = rw u
+      later u v true false p q ih = refl
+      later u v false x p q ih = ih
+
+      same : (w : Bool) → cond w (some (key f)) (next key lt b m) ≡ cond w (lesser lt (cond w (some (key f)) (next key lt b m)) (key f)) (cond w (some (key f)) (next key lt b m))
+      same true = rw (S .irrefl (key f))
+      same false = refl
 
   pub next-least : (b : Option K) (l : List E) → next key lt b (survivors key lt l) ≡ least key lt b none l
   unfolding survivors next least
