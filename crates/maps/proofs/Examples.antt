@@ -1,9 +1,9 @@
 -- Worked examples of the definitions, by computation from them alone.
 -- Assumes nothing.
 use mathlib.Core.Path.{_≡_, refl}
-use mathlib.Core.Bool.{Bool, true, false}
+use mathlib.Core.Bool.{true, false}
 use mathlib.Core.List.{List, [], _∷_, flatMap}
-use mathlib.Core.Option.{Option, none, some}
+use mathlib.Core.Option.{none, some}
 use Prim.Native.Nat.{ℕ}
 use lib.Dec.{ltb}
 use Rattle.maps.specs.Lists.{pass, largest, total, count}

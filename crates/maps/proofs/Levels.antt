@@ -1,9 +1,9 @@
 -- The largest level of what two maps report: what holds at each key holds of the whole maps. From a first map to a third it is at most the
 -- larger of those to and from a second, and from a map to itself it is the largest of what is kept.
 -- Assumes nothing.
-use mathlib.Core.Path.{_≡_, refl, sym, ap, _∙_}
+use mathlib.Core.Path.{_≡_, refl, sym, _∙_}
 use mathlib.Core.Bool.{Bool}
-use mathlib.Core.List.{List, [], _∷_, _++_, flatMap}
+use mathlib.Core.List.{List, [], _++_, flatMap}
 use mathlib.Core.Option.{Option, none, some}
 use Prim.Native.Nat.{ℕ, _≤_, max}
 use native.Mathlib.Nat.{le-refl, le-trans}
@@ -18,7 +18,8 @@ use Rattle.maps.proofs.Survivors.{all-lookup, lookup-key, lookup-own}
 
 -- ---- three lists of reports
 
--- zs, from a first thing to a third, reports at most the larger of xs, from the first to a second, and ys, from the second to the third, or b
+-- The level of zs, reported from a first thing to a third, is at most the larger of those of xs, from the first to a second, and of ys, from
+-- the second to the third; or at most b.
 pub record Chained {C : Type 0} (w : C → ℕ) (b : ℕ) (xs ys zs : List C) : Type 0 where
   pub bound : largest w zs ≤ max b (max (largest w xs) (largest w ys))
 
@@ -45,7 +46,7 @@ module _ {C : Type 0} {w : C → ℕ} {b : ℕ} {xs xs′ ys ys′ zs zs′ : Li
   pub chained-append : Chained w b xs ys zs → Chained w b xs′ ys′ zs′ → Chained w b (xs ++ xs′) (ys ++ ys′) (zs ++ zs′)
   chained-append c d = chained-lead c (chained (λ κ p q r. within d κ (omega (arith, p)) q r))
 
--- nothing is worse
+-- a level above that of every change is above that of every list of changes
 worst : {C : Type 0} (w : C → ℕ) (ws : List C) → ((c : C) → w c ≤ largest w ws) → (cs : List C) → largest w cs ≤ largest w ws
 worst w ws h cs = largest-bound w (largest w ws) cs (all h cs)
 
@@ -63,7 +64,7 @@ unfoldable pub Under : {K E : Type 0} → (E → K) → K → Option E → Type 
 Under key k none = Unit {0}
 Under key k (some e) = key e ≡ k
 
--- it is one of three parts
+-- what is reported of a key stands in one of the three parts of `compare`
 module _ {E C : Type 0} (w : C → ℕ) (r : Rules E C) where
   abbrev AtParts : Option E → Option E → ℕ → Type 0
   AtParts x y b = (largest w (unmatched (r .gone) x y) ≤ b) × (largest w (unmatched (r .came) y x) ≤ b) × (largest w (matched (r .kept) x y) ≤ b)
@@ -82,8 +83,8 @@ module _ {E C : Type 0} (w : C → ℕ) (r : Rules E C) where
   at-whole (some e) none b h = h .0
   at-whole (some e) (some f) b h = h .2
 
--- The facts of single entries from which the rules t, from a first map to a third, chain r and s, to and from a second. Nothing is worse
--- than an entry that is gone.
+-- The facts of single entries from which the rules t, from a first map to a third, are chained by r, to a second, and s, from it. An entry
+-- that is gone has the highest level.
 module _ {K E C : Type 0} (key : E → K) (w : C → ℕ) (b : ℕ) (r s t : Rules E C) where
   pub record Links : Type 0 where
     pub gone-first : (e : E) (c : C) → w c ≤ largest w (r .gone e)
@@ -174,7 +175,7 @@ module _ {K E : Type 0} {lt : K → K → Bool} (key : E → K) (S : Strict K lt
     -- ---- from a first map to a third
 
     module _ (b : ℕ) (r s t : Rules E C) where
-      -- where it holds at each key, it holds of the maps
+      -- what is chained at each key is chained between the maps
       pub chain : ((k : K) (x y z : Option E) → Under key k x → Under key k y → Under key k z → Chained w b (reportAt r x y) (reportAt s y z) (reportAt t x z))
           → (l m n : List E) → Rising key lt l → Rising key lt n → Chained w b (compare key lt r l m) (compare key lt s m n) (compare key lt t l n)
       chain h l m n R Q =
@@ -209,7 +210,7 @@ module _ {K E : Type 0} {lt : K → K → Bool} (key : E → K) (S : Strict K lt
         pub self-largest : largest w (compare key lt r m m) ≡ largest (λ e. largest w (r .kept e e)) m
         self-largest = rw compare-self (largest-flatMap (λ e. r .kept e e) w m)
 
-        -- where what each entry reports of itself is the largest of some other list for it
+        -- the same by lists of another type, one for each entry
         pub self-flatMap : {D : Type 0} (v : D → ℕ) (f : E → List D) → All (λ e. largest w (r .kept e e) ≡ largest v (f e)) m → largest w (compare key lt r m m) ≡ largest v (flatMap f m)
         self-flatMap v f h = self-largest ∙ (largest-same _ _ m h ∙ sym (largest-flatMap f v m))
 

@@ -1,3 +1,4 @@
+-- The laws, each for any strict order of the keys, and worked examples.
 pub mod Lists
 pub mod Orders
 pub mod Names

@@ -3,7 +3,7 @@
 use mathlib.Core.Path.{_≡_, refl, sym, ap, _∙_}
 use mathlib.Core.Bool.{Bool, cond}
 use mathlib.Core.List.{List, [], _∷_, _++_, map, flatMap, append-assoc, map-append}
-use Prim.Native.Nat.{ℕ, suc, _+_, _≤_, _<_, max}
+use Prim.Native.Nat.{ℕ, _+_, _≤_, _<_, max}
 use native.Mathlib.Omega.{arith}
 use native.Mathlib.Numerals.{add-one}
 use lib.ListN.{length, getD, drop, drop-of-length-le, length-append}
@@ -107,6 +107,11 @@ pub total-zero : {A : Type 0} (l : List A) → total (λ a. 0) l ≡ 0
 unfolding total
 total-zero [] = refl
 total-zero (a ∷ l) = omega (arith, total-zero l)
+
+pub length-total : {A : Type 0} (l : List A) → length l ≡ total (λ a. 1) l
+unfolding total
+length-total [] = refl
+length-total (a ∷ l) = omega (arith, length-total l)
 
 pub count-append : {A : Type 0} (p : A → Bool) (xs ys : List A) → count p (xs ++ ys) ≡ count p xs + count p ys
 unfolding count

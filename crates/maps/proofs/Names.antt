@@ -84,30 +84,25 @@ flipped (x ∷ a) (y ∷ b) = go (ltb x y) (ltb y x) refl refl (flipped a b)
     go false true pu pv ih = refl
     go false false pu pv ih = ih
 
-module _ (a b : List ℕ) where
-  pub less-before : orderOf a b ≡ Less → before a b ≡ true
-  unfolding before
-  less-before e = rw e
+abbrev pub isSame : Order → Bool
+isSame Less = false
+isSame Same = true
+isSame Greater = false
 
-  pub same-before : orderOf a b ≡ Same → before a b ≡ false
+-- what an answer says of two names
+module _ (a b : List ℕ) {o : Order} (e : orderOf a b ≡ o) where
+  pub before-told : before a b ≡ isLess o
   unfolding before
-  same-before e = rw e
+  before-told = ap isLess e
 
-  pub greater-before : orderOf a b ≡ Greater → before a b ≡ false
-  unfolding before
-  greater-before e = rw e
-
-  pub order-same : orderOf a b ≡ Same → same before a b ≡ true
+  pub same-told : same before a b ≡ isSame o
   unfolding before same flip
-  order-same e = rw (flipped a b, e)
-
-  pub less-same : orderOf a b ≡ Less → same before a b ≡ false
-  unfolding before same
-  less-same e = rw e
-
-  pub greater-same : orderOf a b ≡ Greater → same before a b ≡ false
-  unfolding before same flip
-  greater-same e = rw (flipped a b, e)
+  same-told = rw (flipped a b, e) (go o)
+    where
+      go : (x : Order) → (not (isLess x) && not (isLess (flip x))) ≡ isSame x
+      go Less = refl
+      go Same = refl
+      go Greater = refl
 
 -- ---- a loop over two names: they agree as far as i
 
@@ -144,8 +139,8 @@ module _ (a b : List ℕ) (i : ℕ) (p : orderOf a b ≡ orderOf (drop i a) (dro
     finds-other n = go (ltb (getD a i 0) (getD b i 0)) refl
       where
         go : (t : Bool) → ltb (getD a i 0) (getD b i 0) ≡ t → same before a b ≡ false
-        go true q = less-same a b (sym (finds-less (ltb-true (getD a i 0) (getD b i 0) q)))
-        go false q = greater-same a b (sym (finds-greater (omega (arith, ltb-false (getD a i 0) (getD b i 0) q))))
+        go true q = same-told a b (sym (finds-less (ltb-true (getD a i 0) (getD b i 0) q)))
+        go false q = same-told a b (sym (finds-greater (omega (arith, ltb-false (getD a i 0) (getD b i 0) q))))
 
 pub other-length : (a b : List ℕ) → (length a ≡ length b → ⊥) → same before a b ≡ false
 other-length a b n = ne-same byName a b (λ e. n (ap length e))

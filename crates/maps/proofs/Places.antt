@@ -1,14 +1,14 @@
 -- Maps of places: a search answers a place, and what stands there is the entry that the map of the entries has. The key at a place is to be
 -- that of the entry there, at each place listed.
 -- Assumes nothing.
-use mathlib.Core.Path.{_≡_, refl, sym, ap, _∙_}
+use mathlib.Core.Path.{_≡_, refl, ap, _∙_}
 use mathlib.Core.Bool.{Bool, true, false, cond}
 use mathlib.Core.List.{List, [], _∷_, map}
-use mathlib.Core.Option.{Option, none, some, Option·map}
+use mathlib.Core.Option.{Option, some, Option·map}
 use Rattle.maps.specs.Lists.{pass, All}
 use Rattle.maps.specs.Orders.{same}
 use Rattle.maps.specs.Keyed.{insert, survivors, lookup}
-use Rattle.maps.specs.Walk.{past, next}
+use Rattle.maps.specs.Walk.{next}
 use Rattle.maps.proofs.Survivors.{insert-cases, all-insert, all-survivors}
 
 module _ {K E P : Type 0} (key : E → K) (lt : K → K → Bool) (f : P → E) (at : P → K) where

@@ -1,18 +1,18 @@
 -- Sums over what two maps report. Summed over the entries of either map, what is under a key of both is the same: so a comparison and the
 -- opposite one count the same, and each entry of either map is met at most once.
 -- Assumes nothing.
-use mathlib.Core.Path.{_≡_, refl, sym, ap, _∙_}
+use mathlib.Core.Path.{_≡_, refl, sym}
 use mathlib.Core.Bool.{Bool, true, false, cond}
-use mathlib.Core.List.{List, [], _∷_, _++_, flatMap}
+use mathlib.Core.List.{List, [], _∷_, _++_}
 use mathlib.Core.Option.{Option, none, some}
 use Prim.Native.Nat.{ℕ, _+_, _≤_}
 use native.Mathlib.Omega.{arith}
-use Rattle.maps.specs.Lists.{pass, total, count, All}
+use Rattle.maps.specs.Lists.{pass, total, count}
 use Rattle.maps.specs.Orders.{Strict, same}
 use Rattle.maps.specs.Keyed.{insert, survivors, lookup}
 use Rattle.maps.specs.Compare.{Rules, unmatched, matched, between, compare}
 use Rattle.maps.specs.Walk.{Rising}
-use Rattle.maps.proofs.Lists.{all, total-append, total-same, total-less, total-sum, total-zero, total-flatMap, pass-keeps}
+use Rattle.maps.proofs.Lists.{all, total-append, total-same, total-less, total-sum, total-zero, total-flatMap}
 use Rattle.maps.proofs.Orders.{same-eq, eq-same, ne-same, same-ne}
 use Rattle.maps.proofs.Survivors.{insert-cases, lookup-after, lookup-cases}
 
@@ -36,13 +36,13 @@ module _ {K E : Type 0} (key : E → K) (lt : K → K → Bool) (w : E → ℕ) 
 
 -- ---- what is under a key of both
 
--- of an entry, if there is one
+-- c of an entry, if there is one
 unfoldable ifAny : {E : Type 0} → (E → ℕ) → Option E → ℕ
 ifAny c none = 0
 ifAny c (some e) = c e
 
 module _ {K E : Type 0} {lt : K → K → Bool} (key : E → K) (S : Strict K lt) where
-  -- over the entries of m, with those that n has under their keys
+  -- the sum of c over the entries of m that n has entries for, with those
   met : (E → E → ℕ) → List E → List E → ℕ
   met c m n = total (λ e. ifAny (c e) (lookup key lt (key e) n)) m
 
@@ -75,6 +75,7 @@ module _ {K E : Type 0} {lt : K → K → Bool} (key : E → K) (S : Strict K lt
   met-same c d h m n = total-same _ _ m (all (λ e. lookup-cases key S e n (λ o. ifAny (c e) o ≡ ifAny (d e) o) refl (h e)) m)
 
   module _ {C : Type 0} (w : C → ℕ) where
+    -- the weight of what `between` gives, entry by entry
     abbrev sumOf : (Option E → Option E → List C) → List E → List E → ℕ
     sumOf g m n = total (λ e. total w (g (some e) (lookup key lt (key e) n))) m
 
@@ -102,6 +103,7 @@ module _ {K E : Type 0} {lt : K → K → Bool} (key : E → K) (S : Strict K lt
     -- ---- weights: linear in those of the two maps
 
     module _ (a b : E → ℕ) (m n : List E) (R : Rising key lt m) (Q : Rising key lt n) where
+      -- each entry of n is met at most once
       both : total (λ e. a e + ifAny b (lookup key lt (key e) n)) m ≡ total a m + total (λ f. ifAny (λ e. b f) (lookup key lt (key f) m)) n
       unfolding met
       both = omega (arith, total-sum a (λ e. ifAny b (lookup key lt (key e) n)) m, met-swap (λ e f. b f) m n R Q)
@@ -145,13 +147,13 @@ module _ {K E : Type 0} {lt : K → K → Bool} (key : E → K) (S : Strict K lt
 
   -- ---- the opposite comparison
 
-  -- the facts of single entries from which s reports under w from new to old what r reports under v from old to new
   module _ {C : Type 0} (v w : C → ℕ) where
     sum-unmatched : (c d : E → List C) → ((e : E) → total v (c e) ≡ total w (d e)) → (m n : List E) → sumOf v (unmatched c) m n ≡ sumOf w (unmatched d) m n
     unfolding unmatched total
     sum-unmatched c d h m n =
         total-same _ _ m (all (λ e. lookup-cases key S e n (λ o. total v (unmatched c (some e) o) ≡ total w (unmatched d (some e) o)) (h e) (λ f p. refl)) m)
 
+    -- what r weighs by v from old to new, s weighs by w from new to old
     pub swap-total : (r s : Rules E C) → ((e : E) → total v (r .gone e) ≡ total w (s .came e)) → ((e : E) → total v (r .came e) ≡ total w (s .gone e))
         → ((e f : E) → key e ≡ key f → total v (r .kept e f) ≡ total w (s .kept f e))
         → (m n : List E) → Rising key lt m → Rising key lt n → total v (compare key lt r m n) ≡ total w (compare key lt s n m)

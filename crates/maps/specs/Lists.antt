@@ -4,7 +4,7 @@ use mathlib.Core.Bool.{Bool, cond}
 use mathlib.Core.List.{List, [], _∷_}
 use Prim.Native.Nat.{ℕ, _+_, max}
 
--- each element in turn is taken into what there is
+-- each element in turn is taken into the state
 unfoldable pub pass : {S A : Type 0} → (S → A → S) → S → List A → S
 pass step s [] = s
 pass step s (a ∷ l) = pass step (step s a) l

@@ -8,6 +8,7 @@ use lib.Dec.{ltb}
 use Rattle.maps.specs.declared.Order.{Order}
 use Rattle.maps.specs.declared.Order.the-variants.{Less, Same, Greater}
 
+-- no key is before itself, and of two different keys one is before the other
 pub record Strict (K : Type 0) (lt : K → K → Bool) : Type 0 where
   pub irrefl : (a : K) → lt a a ≡ false
   pub trans : (a b c : K) → lt a b ≡ true → lt b c ≡ true → lt a c ≡ true

@@ -1,5 +1,5 @@
--- For code that walks a map by rising key and finds its entries by searches in the list that it is made of. What is reported does not
--- depend on these definitions: the contracts of the searches cite them, and laws tie them to `survivors` and `lookup`.
+-- For the walk: code that meets the entries of a map by rising key, and finds each by a search in the list that the map is made of. What is
+-- reported does not rest on these definitions: contracts of searches cite them, and laws tie them to `survivors`, `lookup` and `between`.
 -- Assumes nothing.
 use mathlib.Core.Path.{_≡_}
 use mathlib.Core.Bool.{Bool, true, cond}
@@ -44,7 +44,7 @@ module _ {K E : Type 0} (key : E → K) (lt : K → K → Bool) where
   unfoldable pub rest : {C : Type 0} → (Option E → Option E → List C) → List E → List E → Option K → List C
   rest g m n b = between key lt g (above b m) n
 
-  -- the least key of a list past a bound, found in one pass from the front, and the best key so far
+  -- the least key of a list past a bound, in one pass from the front that starts with the best key so far
   unfoldable pub least : Option K → Option K → List E → Option K
   least b best l = pass (λ o e. better lt b o (key e)) best l
 
