@@ -117,7 +117,8 @@ module _ {K E : Type 0} {lt : K → K → Bool} (key : E → K) (S : Strict K lt
     -- ---- whole maps, by what they have under each key
 
     module _ (g : Option E → Option E → List C) (m n : List E) where
-      pub between-reach : ((o : Option E) → largest w (g none o) ≡ 0) → (k : K) → largest w (g (lookup key lt k m) (lookup key lt k n)) ≤ largest w (between key lt g m n)
+      pub between-reach : ((o : Option E) → largest w (g none o) ≡ 0) → (k : K)
+          → largest w (g (lookup key lt k m) (lookup key lt k n)) ≤ largest w (between key lt g m n)
       unfolding between
       between-reach h k = go (lookup key lt k m) refl
         where
@@ -130,7 +131,8 @@ module _ {K E : Type 0} {lt : K → K → Bool} (key : E → K) (S : Strict K lt
               let q : largest w (here e) ≤ largest (λ a. largest w (here a)) m = all-lookup key lt _ k m e (largest-each (λ a. largest w (here a)) m) p in
               rw (← lookup-key key S k m e p, largest-flatMap here w m) q
 
-      pub between-bound : Rising key lt m → (b : ℕ) → ((k : K) → largest w (g (lookup key lt k m) (lookup key lt k n)) ≤ b) → largest w (between key lt g m n) ≤ b
+      pub between-bound : Rising key lt m → (b : ℕ) → ((k : K) → largest w (g (lookup key lt k m) (lookup key lt k n)) ≤ b)
+          → largest w (between key lt g m n) ≤ b
       unfolding between
       between-bound R b h =
           rw (largest-flatMap (λ e. g (some e) (lookup key lt (key e) n)) w m)
@@ -164,7 +166,8 @@ module _ {K E : Type 0} {lt : K → K → Bool} (key : E → K) (S : Strict K lt
             le-trans (between-reach (matched (r .kept)) m n (λ o. refl) k) (p .2),
           )
 
-      pub compare-bound : Rising key lt m → Rising key lt n → (b : ℕ) → ((k : K) → largest w (reportAt r (lookup key lt k m) (lookup key lt k n)) ≤ b) → largest w (compare key lt r m n) ≤ b
+      pub compare-bound : Rising key lt m → Rising key lt n → (b : ℕ)
+          → ((k : K) → largest w (reportAt r (lookup key lt k m) (lookup key lt k n)) ≤ b) → largest w (compare key lt r m n) ≤ b
       compare-bound R Q b h =
           whole b (
             between-bound (unmatched (r .gone)) m n R b (λ k. at-parts w r (lookup key lt k m) (lookup key lt k n) b (h k) .0),
@@ -211,7 +214,8 @@ module _ {K E : Type 0} {lt : K → K → Bool} (key : E → K) (S : Strict K lt
         self-largest = rw compare-self (largest-flatMap (λ e. r .kept e e) w m)
 
         -- the same by lists of another type, one for each entry
-        pub self-flatMap : {D : Type 0} (v : D → ℕ) (f : E → List D) → All (λ e. largest w (r .kept e e) ≡ largest v (f e)) m → largest w (compare key lt r m m) ≡ largest v (flatMap f m)
+        pub self-flatMap : {D : Type 0} (v : D → ℕ) (f : E → List D) → All (λ e. largest w (r .kept e e) ≡ largest v (f e)) m
+            → largest w (compare key lt r m m) ≡ largest v (flatMap f m)
         self-flatMap v f h = self-largest ∙ (largest-same _ _ m h ∙ sym (largest-flatMap f v m))
 
         pub self-each : All (λ e. largest w (r .kept e e) ≤ largest w (compare key lt r m m)) m

@@ -91,7 +91,8 @@ module _ {K E : Type 0} (key : E → K) (lt : K → K → Bool) (k : K) where
     latest-nothing i e = rw e
 
     module _ (d : A) where
-      back : (i : ℕ) → i < length l → latest key lt k (flatMap f (take (suc i) l)) ≡ orElse (latest key lt k (f (getD l i d))) (latest key lt k (flatMap f (take i l)))
+      back : (i : ℕ) → i < length l
+          → latest key lt k (flatMap f (take (suc i) l)) ≡ orElse (latest key lt k (f (getD l i d))) (latest key lt k (flatMap f (take i l)))
       unfolding flatMap
       back i h =
           ap (λ x. latest key lt k (flatMap f x)) (take-suc l i d h)
@@ -118,7 +119,8 @@ module _ {K E : Type 0} (key : E → K) (lt : K → K → Bool) (k : K) where
           latest-found p = latest-back i h b ∙ rw (one, seen-here none e p)
 
 -- the two searches find what stands
-pub lookup-latest : {K E : Type 0} {lt : K → K → Bool} (key : E → K) (S : Strict K lt) (k : K) (l : List E) → lookup key lt k (survivors key lt l) ≡ latest key lt k l
+pub lookup-latest : {K E : Type 0} {lt : K → K → Bool} (key : E → K) (S : Strict K lt) (k : K) (l : List E)
+    → lookup key lt k (survivors key lt l) ≡ latest key lt k l
 lookup-latest {lt = lt} key S k l = lookup-lastSeen key S k l ∙ lastSeen-latest key lt k none l ∙ or-none (latest key lt k l)
 
 -- ---- the least key, from the front

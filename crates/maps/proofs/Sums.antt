@@ -135,7 +135,8 @@ module _ {K E : Type 0} {lt : K → K → Bool} (key : E → K) (S : Strict K lt
             total-less _ b n (all new n),
           )
         where
-          old : (e : E) → total w (unmatched (r .gone) (some e) (lookup key lt (key e) n)) + total w (matched (r .kept) (some e) (lookup key lt (key e) n)) ≤ a e + ifAny b (lookup key lt (key e) n)
+          old : (e : E)
+              → total w (unmatched (r .gone) (some e) (lookup key lt (key e) n)) + total w (matched (r .kept) (some e) (lookup key lt (key e) n)) ≤ a e + ifAny b (lookup key lt (key e) n)
           old e =
               lookup-cases key S e n (λ o. total w (unmatched (r .gone) (some e) o) + total w (matched (r .kept) (some e) o) ≤ a e + ifAny b o)
               (omega (arith, p e)) (λ f h. omega (arith, k e f h))

@@ -87,7 +87,7 @@ module _ {K E : Type 0} {lt : K → K → Bool} (key : E → K) (S : Strict K lt
       -- k is the key of one of them at most
       other : lt (key f) (key e) ≡ true → (s t : Bool) → same lt k (key e) ≡ s → same lt k (key f) ≡ t
           → cond t (some f) (cond s (some e) (lookup key lt k m)) ≡ cond s (some e) (cond t (some f) (lookup key lt k m))
-      other v true true p q = no-both (q) (after-other S k (key f) (rw (same-eq S k (key e) p) v))
+      other v true true p q = no-both q (after-other S k (key f) (rw (same-eq S k (key e) p) v))
       other v true false p q = refl
       other v false t p q = refl
 

@@ -47,7 +47,8 @@ module _ {K E : Type 0} {lt : K → K → Bool} (key : E → K) (S : Strict K lt
       later u v true false p q ih = refl
       later u v false x p q ih = ih
 
-      same : (w : Bool) → cond w (some (key f)) (next key lt b m) ≡ cond w (lesser lt (cond w (some (key f)) (next key lt b m)) (key f)) (cond w (some (key f)) (next key lt b m))
+      same : (w : Bool)
+          → cond w (some (key f)) (next key lt b m) ≡ cond w (lesser lt (cond w (some (key f)) (next key lt b m)) (key f)) (cond w (some (key f)) (next key lt b m))
       same true = rw (S .irrefl (key f))
       same false = refl
 
@@ -82,7 +83,8 @@ module _ {K E : Type 0} {lt : K → K → Bool} (key : E → K) (S : Strict K lt
   above-done b [] p = refl
   above-done b (f ∷ m) p = go (past lt b (key f)) p (above-done b m)
     where
-      go : (u : Bool) → cond u (some (key f)) (next key lt b m) ≡ none → (next key lt b m ≡ none → above key lt b m ≡ []) → cond u (f ∷ m) (above key lt b m) ≡ []
+      go : (u : Bool) → cond u (some (key f)) (next key lt b m) ≡ none → (next key lt b m ≡ none → above key lt b m ≡ [])
+          → cond u (f ∷ m) (above key lt b m) ≡ []
       go true q ih = absurd (Option·some-ne-none (key f) q)
       go false q ih = ih q
 
