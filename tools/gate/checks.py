@@ -5,6 +5,8 @@ from pathlib import Path
 
 # What every verdict carries: the kit's logic and libraries come built. Any other `=trusted` is a result of the quick loop.
 BUILT = {"logic-built", "libraries-built"}
+# Libraries of the kit whose contracts lean on assumed ones. The verdict of a library above them does not say so.
+ASSUMED = {"libc", "io", "os"}
 # A proof that no longer fits the code's shape: such a refusal says nothing about a fact.
 UNFIT = re.compile(r"has no `Need-|parse error|not in scope|unresolved|no such")
 
@@ -28,7 +30,7 @@ def unlisted(root: Path) -> list[str]:
     return faults + [f"crates.txt lists {name}, which has no folder" for name in sorted(names - folders)]
 
 
-def verdict_faults(name: str, is_library: bool, log: str) -> list[str]:
+def verdict_faults(name: str, library: bool, log: str) -> list[str]:
     """What is wrong with the verdict that closes a crate's log."""
     verdicts = [line for line in log.splitlines() if line.startswith("logic=")]
     if len(verdicts) != 1:
@@ -37,12 +39,40 @@ def verdict_faults(name: str, is_library: bool, log: str) -> list[str]:
     faults = []
     if words["logic"] != "proved":
         faults.append(f"{name}: logic={words['logic']}")
-    if is_library and words.get("axioms", "0") != "0":
+    if library and words.get("axioms", "0") != "0":
         faults.append(f"{name}: a library with axioms={words['axioms']}")
+    if library and "foreign" in words:
+        faults.append(f"{name}: a library with foreign={words['foreign']}")
     for word, value in words.items():
         if value == "trusted" and word not in BUILT:
             faults.append(f"{name}: {word}=trusted is of the quick loop and no verdict")
     return faults
+
+
+def reached(name: str, crates: dict[str, list[str]]) -> set[str]:
+    """All that a crate depends on, directly or by another."""
+    found, left = set(), list(crates.get(name, []))
+    while left:
+        dep = left.pop()
+        if dep not in found:
+            found.add(dep)
+            left += crates.get(dep, [])
+    return found
+
+
+def is_library(root: Path, name: str) -> bool:
+    return (root / "crates" / name / "src" / "lib.rt").exists()
+
+
+def assumptions(root: Path) -> list[str]:
+    """Libraries that lean on assumed contracts."""
+    crates = listed_crates(root)
+    return [
+        f"{name}: a library above {dep}, whose contracts are assumed"
+        for name in crates
+        if is_library(root, name)
+        for dep in sorted(reached(name, crates) & ASSUMED)
+    ]
 
 
 def verdicts(root: Path) -> tuple[int, list[str]]:
@@ -50,8 +80,7 @@ def verdicts(root: Path) -> tuple[int, list[str]]:
     passed, faults = 0, []
     for name in listed_crates(root):
         log = root / "target" / "log" / f"{name}.out"
-        is_library = (root / "crates" / name / "src" / "lib.rt").exists()
-        found = verdict_faults(name, is_library, log.read_text()) if log.exists() else [f"{name}: no log of its check"]
+        found = verdict_faults(name, is_library(root, name), log.read_text()) if log.exists() else [f"{name}: no log of its check"]
         passed += not found
         faults += found
     return passed, faults

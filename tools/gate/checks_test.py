@@ -20,6 +20,12 @@ class Verdicts(unittest.TestCase):
             ["maps: a library with axioms=1"],
         )
 
+    def test_a_library_with_a_foreign_function_fails(self):
+        self.assertEqual(
+            checks.verdict_faults("maps", True, PROVED.replace("sum=0", "foreign=maps::getpid sum=0")),
+            ["maps: a library with foreign=maps::getpid"],
+        )
+
     def test_a_program_may_have_axioms(self):
         self.assertEqual(checks.verdict_faults("replay", False, PROVED.replace("sum=0", "axioms=3 sum=0")), [])
 
@@ -53,14 +59,14 @@ class Folders(unittest.TestCase):
         self.root = Path(self.folder.name)
         (self.root / "crates" / "maps" / "src").mkdir(parents=True)
         (self.root / "crates" / "maps" / "src" / "lib.rt").touch()
-        (self.root / "crates.txt").write_text("# a comment\nmaps: io libc # another\n")
+        (self.root / "crates.txt").write_text("# a comment\nmaps: bytes check # another\n")
 
     def log(self, text):
         (self.root / "target" / "log").mkdir(parents=True)
         (self.root / "target" / "log" / "maps.out").write_text(text)
 
     def test_crates_txt_is_read(self):
-        self.assertEqual(checks.listed_crates(self.root), {"maps": ["io", "libc"]})
+        self.assertEqual(checks.listed_crates(self.root), {"maps": ["bytes", "check"]})
         self.assertEqual(checks.unlisted(self.root), [])
 
     def test_an_unlisted_folder_fails(self):
@@ -70,6 +76,11 @@ class Folders(unittest.TestCase):
     def test_a_listed_crate_without_a_folder_fails(self):
         (self.root / "crates.txt").write_text("maps:\nimage: maps\n")
         self.assertEqual(checks.unlisted(self.root), ["crates.txt lists image, which has no folder"])
+
+    def test_a_library_above_assumed_contracts_fails(self):
+        self.assertEqual(checks.assumptions(self.root), [])
+        (self.root / "crates.txt").write_text("maps: image\nimage: io\n")
+        self.assertEqual(checks.assumptions(self.root), ["maps: a library above io, whose contracts are assumed"])
 
     def test_a_crate_without_a_log_fails(self):
         self.assertEqual(checks.verdicts(self.root), (0, ["maps: no log of its check"]))

@@ -75,8 +75,8 @@ def run(*words) -> tuple[int, list[str]]:
 
 
 def crates(gate: Gate):
-    faults = checks.unlisted(ROOT)
-    gate.count(not faults, faults)
+    for faults in (checks.unlisted(ROOT), checks.assumptions(ROOT)):
+        gate.count(not faults, faults)
     gate.command("rt fmt --check", "rt", "fmt", "--check")
     gate.suite("rt ci", "rt", "ci")
     gate.count(*checks.verdicts(ROOT))
