@@ -8,7 +8,7 @@ BUILT = {"logic-built", "libraries-built"}
 # Libraries of the kit whose contracts lean on assumed ones. The verdict of a library above them does not say so.
 ASSUMED = {"libc", "io", "os"}
 # A proof that no longer fits the code's shape: such a refusal says nothing about a fact.
-UNFIT = re.compile(r"has no `Need-|parse error|not in scope|unresolved|no such")
+UNFIT = re.compile(r"has no `Need-|\.Lts\.[^`]*` has no field|expected type `tie\.Need-|not in scope|expected `[^`]*`, found")
 
 
 def listed_crates(root: Path) -> dict[str, list[str]]:

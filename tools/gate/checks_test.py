@@ -47,8 +47,12 @@ class Edits(unittest.TestCase):
         self.assertEqual(checks.edit_faults("maps/x", "proofs/A.antt:1:2: error: `returns`: `omega`: the goal does not follow\n"), [])
 
     def test_an_edit_that_breaks_the_shape_fails(self):
-        log = "proofs/A.antt:1:2: error: `lts` has no `Need-returns-2` that can be named from here\n"
-        self.assertEqual(len(checks.edit_faults("maps/x", log)), 1)
+        for text in (
+            "`lts` has no `Need-returns-2` that can be named from here",
+            "`loop-again`: record `Rattle.maps.proofs.compared.Lts.Else1` has no field `loop`",
+            "`main-spec`: expected type `tie.Need-bump-requires`, but this has type `tie.Need-returns`",
+        ):
+            self.assertEqual(len(checks.edit_faults("maps/x", f"proofs/A.antt:1:2: error: {text}\n")), 1)
         self.assertEqual(len(checks.edit_faults("maps/x", "all is well\n")), 1)
 
 
