@@ -1,0 +1,12 @@
+-- The image format, to be read beside document 01's section "Image reader" and its table of refusals.
+-- Schema: what an image holds. Parse: how one read follows another. Names, Types, Fields, Bodies, Image: the format, from the inside out.
+-- Answer: what the code's answers say of these. Words: the word of each kind.
+pub mod Schema
+pub mod Parse
+pub mod Names
+pub mod Types
+pub mod Fields
+pub mod Bodies
+pub mod Image
+pub mod Answer
+pub mod Words
