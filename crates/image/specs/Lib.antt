@@ -1,6 +1,6 @@
 -- The image format, to be read beside document 01's section "Image reader" and its table of refusals.
 -- Schema: what an image holds. Parse: how one read follows another. Names, Types, Fields, Bodies, Image: the format, from the inside out.
--- Answer: what the code's answers say of these. Words: the word of each kind.
+-- WellFormed: the values of what was accepted. Answer: what the code's answers say of these. Words: the word of each kind.
 pub mod Schema
 pub mod Parse
 pub mod Names
@@ -8,5 +8,6 @@ pub mod Types
 pub mod Fields
 pub mod Bodies
 pub mod Image
+pub mod WellFormed
 pub mod Answer
 pub mod Words
