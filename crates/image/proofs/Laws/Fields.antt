@@ -1,17 +1,20 @@
--- Encodings and limits: what the code's answers say of them. Assumes nothing.
-use mathlib.Core.Path.{_≡_, refl, sym, _∙_}
+-- Encodings, limits and items: what the code's answers say of them. Assumes nothing.
+use mathlib.Core.Path.{_≡_, refl, sym, ap, _∙_}
 use mathlib.Core.Option.{some}
-use mathlib.Core.List.{List}
+use mathlib.Core.List.{List, []}
 use Prim.Native.Nat.{ℕ, zero, suc, _-_}
 use native.Mathlib.Numerals.{sub-one}
 use borrow.Author.Tests.{ne-eqb}
 use lib.ListN.{getD}
-use Rattle.image.specs.Parse.{bind, pick, codeAt, numberAt}
-use Rattle.image.specs.Fields.{delta, encodingOf, limitAt}
+use Rattle.image.specs.Schema.{Name, Variant}
+use Rattle.image.specs.Parse.{Parsed, ok, no, bind, pick, codeAt, numberAt, counted}
+use Rattle.image.specs.Names.{nameAt}
+use Rattle.image.specs.Types.{typeAt}
+use Rattle.image.specs.Fields.{marksAt, delta, encodingOf, encodingAt, limitAt, fieldAt, bareAt, variantAt}
 use Rattle.image.specs.Answer.{skip}
 use Rattle.image.specs.declared.Read.{Read}
 use Rattle.image.specs.declared.Read.the-variants.{At, Refused}
-use Rattle.image.proofs.Laws.Answers.{stop, skip-ok}
+use Rattle.image.proofs.Laws.Answers.{got, next, stop, skip-ok}
 use Rattle.image.proofs.Laws.Numbers.{There}
 
 -- an encoding of at most `left` deltas: its byte is refused; it is no delta; a delta too many; a delta and an inner encoding
@@ -54,3 +57,70 @@ module _ (s : List ℕ) (at : ℕ) {n : ℕ} (b : There (codeAt 0 1 s at) s at n
   pub limit-number : (getD s at 0 ≡ 0 → ⊥) → skip (numberAt 8 s n) ≡ skip (limitAt s at)
   unfolding limitAt bind pick
   limit-number e = simp (b .is, ne-eqb _ _ e) (sym (skip-ok (numberAt 8 s n) some))
+
+-- what starts with an ordinal and a name starts with a bare item
+bare-first : {B : Type 0} (s : List ℕ) (at : ℕ) (f : ℕ → Name → ℕ → Parsed B)
+    → bind (bareAt s at) (λ v n. f (v .ordinal) (v .name) n) ≡ bind (numberAt 4 s at) (λ o n. bind (nameAt 8 s n) (λ x m. f o x m))
+unfolding bareAt bind
+bare-first s at f = go (numberAt 4 s at)
+  where
+    bare : ℕ → Name → Variant
+    bare o x = record { ordinal = o; name = x; fields = [] }
+
+    name : (o : ℕ) (q : Parsed Name) → bind (bind q (λ x m. ok (bare o x) m)) (λ v n. f (v .ordinal) (v .name) n) ≡ bind q (λ x m. f o x m)
+    name o (ok x m) = refl
+    name o (no k) = refl
+
+    go : (p : Parsed ℕ) → bind (bind p (λ o n. bind (nameAt 8 s n) (λ x m. ok (bare o x) m))) (λ v n. f (v .ordinal) (v .name) n)
+        ≡ bind p (λ o n. bind (nameAt 8 s n) (λ x m. f o x m))
+    go (ok o n) = name o (nameAt 8 s n)
+    go (no k) = refl
+
+module _ {B : Type 0} (s : List ℕ) (at : ℕ) (f : ℕ → Name → ℕ → Parsed B) {x : Read} where
+  bare-stop : {k : ℕ} → x ≡ Refused k → x ≡ skip (bareAt s at) → x ≡ skip (bind (numberAt 4 s at) (λ o n. bind (nameAt 8 s n) (λ x m. f o x m)))
+  bare-stop h e = stop (bareAt s at) _ h e ∙ ap skip (bare-first s at f)
+
+  bare-next : {r : Read} {n : ℕ} → x ≡ At n → x ≡ skip (bareAt s at) → ((o : ℕ) (y : Name) → r ≡ skip (f o y n))
+      → r ≡ skip (bind (numberAt 4 s at) (λ o n. bind (nameAt 8 s n) (λ x m. f o x m)))
+  bare-next h e g = next _ (got h e) (λ v. g (v .ordinal) (v .name)) ∙ ap skip (bare-first s at f)
+
+-- a variant of a union: its ordinal and name refused, or its fields' answer
+module _ (s : List ℕ) (at : ℕ) {x : Read} where
+  pub variant-stop : {k : ℕ} → x ≡ Refused k → x ≡ skip (bareAt s at) → x ≡ skip (variantAt s at)
+  unfolding variantAt
+  variant-stop h e = bare-stop s at _ h e
+
+  pub variant-fields : {r : Read} {n : ℕ} → x ≡ At n → x ≡ skip (bareAt s at) → r ≡ skip (counted fieldAt s n) → r ≡ skip (variantAt s at)
+  unfolding variantAt
+  variant-fields {n = n} h e q = bare-next s at _ h e (λ o y. q ∙ sym (skip-ok (counted fieldAt s n) _))
+
+-- a field: the first part refused, or the one after those that were read, or the type's answer
+module _ (s : List ℕ) (at : ℕ) where
+  pub field-stop : {x : Read} {k : ℕ} → x ≡ Refused k → x ≡ skip (bareAt s at) → x ≡ skip (fieldAt s at)
+  unfolding fieldAt
+  field-stop h e = bare-stop s at _ h e
+
+  module _ {x₁ : Read} {n₁ : ℕ} (h₁ : x₁ ≡ At n₁) (e₁ : x₁ ≡ skip (bareAt s at)) where
+    pub field-marks : {x : Read} {k : ℕ} → x ≡ Refused k → x ≡ skip (marksAt s n₁) → x ≡ skip (fieldAt s at)
+    unfolding fieldAt
+    field-marks h e = bare-next s at _ h₁ e₁ (λ _ _. stop _ _ h e)
+
+    module _ {x₂ : Read} {n₂ : ℕ} (h₂ : x₂ ≡ At n₂) (e₂ : x₂ ≡ skip (marksAt s n₁)) where
+      pub field-encoding : {x : Read} {k : ℕ} → x ≡ Refused k → x ≡ skip (encodingAt s n₂) → x ≡ skip (fieldAt s at)
+      unfolding fieldAt
+      field-encoding h e = bare-next s at _ h₁ e₁ (λ _ _. next _ (got h₂ e₂) (λ _. stop _ _ h e))
+
+      module _ {x₃ : Read} {n₃ : ℕ} (h₃ : x₃ ≡ At n₃) (e₃ : x₃ ≡ skip (encodingAt s n₂)) where
+        pub field-limit : {x : Read} {k : ℕ} → x ≡ Refused k → x ≡ skip (limitAt s n₃) → x ≡ skip (fieldAt s at)
+        unfolding fieldAt
+        field-limit h e = bare-next s at _ h₁ e₁ (λ _ _. next _ (got h₂ e₂) (λ _. next _ (got h₃ e₃) (λ _. stop _ _ h e)))
+
+        module _ {x₄ : Read} {n₄ : ℕ} (h₄ : x₄ ≡ At n₄) (e₄ : x₄ ≡ skip (limitAt s n₃)) where
+          pub field-type : {r : Read} → r ≡ skip (typeAt s n₄) → r ≡ skip (fieldAt s at)
+          unfolding fieldAt
+          field-type q =
+              bare-next s at _ h₁ e₁ (λ _ _.
+              next _ (got h₂ e₂) (λ _.
+              next _ (got h₃ e₃) (λ _.
+              next _ (got h₄ e₄) (λ _.
+              q ∙ sym (skip-ok (typeAt s n₄) _)))))

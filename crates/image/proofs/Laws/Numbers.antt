@@ -118,6 +118,11 @@ below-more e i v b p l h g =
     let k : e - (i - 1) ≡ suc (e - i) = omega arith in
     rw (k, pow-suc 256 (e - i)) (omega arith)
 
+pub below-all : (at w i v : ℕ) → i ≡ at → v < 256 ^ (at + w - i) → v < 256 ^ w
+below-all at w i v h l =
+    let k : at + w - i ≡ w = omega arith in
+    rw k at l
+
 pub below-seven : (k v : ℕ) → k ≤ 7 → v < 256 ^ k → v < 72057594037927936
 below-seven k v h l =
     let z : 256 ^ k ≤ 256 ^ 7 = pow-le-pow-right (omega arith) h in

@@ -156,6 +156,20 @@ number-stands w s e g =
     let h = sure-good 0 (number-sure w s 1) b in
     (ap (valueOr noLabel) (e ∙ bind-is 0 (numberAt w s 1) _ b) ∙ ap (λ (a : ℕ). label (getD s 0 0) a 0 []) (h .value), (let m = h .next in let o = h .inside in omega arith))
 
+-- a sub-byte's sign and bits
+sub-byte-stands : (s : List ℕ) → labelOf s ≡ bind (codeAt 0 1 s 1) (λ a n. bind (codeAt 1 64 s n) (λ b m. ok (label (getD s 0 0) a b []) m))
+    → Good (codeAt 0 1 s 1) → Good (codeAt 1 64 s (endOf (codeAt 0 1 s 1)))
+    → (labelIn s ≡ label (getD s 0 0) (getD s 1 0) (getD s 2 0) []) × (2 < length s)
+unfolding labelIn valueOr
+sub-byte-stands s e b c =
+    let h = sure-good 0 (code-sure 0 1 s 1) b .byte in
+    let k = sure-good 0 (code-sure 1 64 s (endOf (codeAt 0 1 s 1))) c .byte in
+    let two : endOf (codeAt 0 1 s 1) ≡ 2 = h .next in (
+      ap (valueOr noLabel) (e ∙ bind-is 0 (codeAt 0 1 s 1) _ b ∙ bind-is 0 (codeAt 1 64 s (endOf (codeAt 0 1 s 1))) _ c)
+          ∙ ap₂ (λ (x y : ℕ). label (getD s 0 0) x y []) (h .value) (k .value ∙ ap (λ (n : ℕ). getD s n 0) two),
+      (let m = k .next in let o = k .inside in omega arith),
+    )
+
 stands : (s : List ℕ) (f : Follows) → 0 < length s → labelOf s ≡ afterTag (getD s 0 0) f s 1 → Good (afterTag (getD s 0 0) f s 1) → Stands f s
 unfolding afterTag labelIn namesIn valueOr Good
 stands s (code highest) l e g =
@@ -164,14 +178,7 @@ stands s (code highest) l e g =
     (ap (valueOr noLabel) (e ∙ bind-is 0 (codeAt 0 highest s 1) _ b) ∙ ap (λ (a : ℕ). label (getD s 0 0) a 0 []) (h .value), (let m = h .next in let o = h .inside in omega arith))
 stands s subByte l e g =
     let b = good-first 0 (codeAt 0 1 s 1) _ g in
-    let h = sure-good 0 (code-sure 0 1 s 1) b .byte in
-    let c = good-first 0 _ _ (good-second 0 (codeAt 0 1 s 1) _ g) in
-    let k = sure-good 0 (code-sure 1 64 s (endOf (codeAt 0 1 s 1))) c .byte in
-    let two : endOf (codeAt 0 1 s 1) ≡ 2 = h .next in (
-      ap (valueOr noLabel) (e ∙ bind-is 0 (codeAt 0 1 s 1) _ b ∙ bind-is 0 (codeAt 1 64 s (endOf (codeAt 0 1 s 1))) _ c)
-          ∙ ap₂ (λ (x y : ℕ). label (getD s 0 0) x y []) (h .value) (k .value ∙ ap (λ (n : ℕ). getD s n 0) two),
-      (let m = k .next in let o = k .inside in omega arith),
-    )
+    sub-byte-stands s e b (good-first 0 _ _ (good-second 0 (codeAt 0 1 s 1) _ g))
 stands s identity l e g = number-stands 4 s e g
 stands s size l e g = number-stands 8 s e g
 stands s nothing l e g = (ap (valueOr noLabel) e, l)

@@ -20,9 +20,10 @@ use Rattle.image.proofs.Laws.Answers.{got, next, next-is, stop, skip-ok
 use Rattle.image.proofs.Laws.Sure.{sure-at, label-sure, type-sure}
 use Rattle.image.proofs.Laws.Numbers.{There}
 
--- the part from n to the end
-pub part-all : (s : List ℕ) (n : ℕ) → take (length s - n) (drop n s) ≡ drop n s
-part-all s n = take-all (length s - n) (drop n s) (let e = length-drop n s in omega arith)
+-- what is read of `&s[n..]` is read of the part that starts at n
+pub from-start : {A : Type 0} (p : List ℕ → Parsed A) (s : List ℕ) (n : ℕ) {x : Read} → x ≡ skip (p (take (length s - n) (drop n s))) → x ≡ skip (p (drop n s))
+from-start p s n h =
+    h ∙ ap (λ (l : List ℕ). skip (p l)) (take-all (length s - n) (drop n s) (let e = length-drop n s in omega arith))
 
 -- a label whose tag is t, by what follows t
 pub label-by : (s : List ℕ) {n : ℕ} {x : Read} (t : ℕ) (f : Follows) → There (byteAt 8 s 0) s 0 n → getD s 0 0 ≡ t → followsTag t ≡ f

@@ -1,0 +1,162 @@
+// The items of a body: fields, variants and bits.
+use crate::Read;
+use crate::names::read_name;
+use crate::numbers::read_code;
+use crate::numbers::read_number;
+use crate::numbers::u16_at;
+use crate::types::read_type_at;
+ghost use mathlib.Core.Path.{_≡_};
+ghost use Rattle.image.specs.Parse.{counted};
+ghost use Rattle.image.specs.Fields.{marksAt, encodingAt, limitAt, fieldAt, bareAt, variantAt};
+ghost use Rattle.image.specs.Answer.{skip};
+
+// Bit 0 deprecated, bit 1 non-exhaustive, others 0.
+pub fn read_marks(s: &[u8], at: usize) -> Read
+    ensures { λ r. ⌜ r ≡ skip (marksAt (now (s .entry)) at) ⌝ }
+{
+    read_code(s, at, 0, 3)
+}
+
+// 0 default, 1 varint, 2 zigzag, 3 delta and an inner encoding; at most eight deltas.
+pub fn read_encoding(s: &[u8], at: usize) -> Read
+    ensures { λ r. ⌜ r ≡ skip (encodingAt (now (s .entry)) at) ⌝ }
+{
+    let mut next = at;
+    let mut left: usize = 8;
+    loop {
+        let step = read_code(s, next, 0, 3);
+        let Read::At(after) = step else {
+            return step;
+        };
+        if s[next] != 3 {
+            return step;
+        }
+        if left == 0 {
+            return Read::Refused(10);
+        }
+        next = after;
+        left -= 1;
+    }
+}
+
+// A byte 0, or a byte 1 and the limit's eight bytes.
+pub fn read_limit(s: &[u8], at: usize) -> Read
+    ensures { λ r. ⌜ r ≡ skip (limitAt (now (s .entry)) at) ⌝ }
+{
+    let step = read_code(s, at, 0, 1);
+    let Read::At(next) = step else {
+        return step;
+    };
+    if s[at] == 0 {
+        return step;
+    }
+    read_number(s, next, 8)
+}
+
+// A variant of an enum or a bit of flags: ordinal and name. Every other item starts so too.
+pub fn read_bare(s: &[u8], at: usize) -> Read
+    ensures { λ r. ⌜ r ≡ skip (bareAt (now (s .entry)) at) ⌝ }
+{
+    let ordinal = read_number(s, at, 4);
+    let Read::At(name_at) = ordinal else {
+        return ordinal;
+    };
+    read_name(s, name_at, 8)
+}
+
+// A field: ordinal, name, marks, encoding, limit, type.
+pub fn read_field(s: &[u8], at: usize) -> Read
+    ensures { λ r. ⌜ r ≡ skip (fieldAt (now (s .entry)) at) ⌝ }
+{
+    let bare = read_bare(s, at);
+    let Read::At(marks_at) = bare else {
+        return bare;
+    };
+    let marks = read_marks(s, marks_at);
+    let Read::At(encoding_at) = marks else {
+        return marks;
+    };
+    let encoding = read_encoding(s, encoding_at);
+    let Read::At(limit_at) = encoding else {
+        return encoding;
+    };
+    let limit = read_limit(s, limit_at);
+    let Read::At(type_at) = limit else {
+        return limit;
+    };
+    read_type_at(s, type_at)
+}
+
+// A count and as many fields.
+pub fn read_fields(s: &[u8], at: usize) -> Read
+    ensures { λ r. ⌜ r ≡ skip (counted fieldAt (now (s .entry)) at) ⌝ }
+{
+    let count = read_number(s, at, 2);
+    let Read::At(first) = count else {
+        return count;
+    };
+    let mut next = first;
+    let mut left = u16_at(s, at);
+    while 0 < left {
+        let step = read_field(s, next);
+        let Read::At(after) = step else {
+            return step;
+        };
+        next = after;
+        left -= 1;
+    }
+    Read::At(next)
+}
+
+// A count and as many variants of an enum or bits of flags.
+pub fn read_bares(s: &[u8], at: usize) -> Read
+    ensures { λ r. ⌜ r ≡ skip (counted bareAt (now (s .entry)) at) ⌝ }
+{
+    let count = read_number(s, at, 2);
+    let Read::At(first) = count else {
+        return count;
+    };
+    let mut next = first;
+    let mut left = u16_at(s, at);
+    while 0 < left {
+        let step = read_bare(s, next);
+        let Read::At(after) = step else {
+            return step;
+        };
+        next = after;
+        left -= 1;
+    }
+    Read::At(next)
+}
+
+// A variant of a union: ordinal, name and fields.
+pub fn read_variant(s: &[u8], at: usize) -> Read
+    ensures { λ r. ⌜ r ≡ skip (variantAt (now (s .entry)) at) ⌝ }
+{
+    let bare = read_bare(s, at);
+    let Read::At(fields_at) = bare else {
+        return bare;
+    };
+    read_fields(s, fields_at)
+}
+
+// A count and as many variants of a union.
+pub fn read_variants(s: &[u8], at: usize) -> Read
+    ensures { λ r. ⌜ r ≡ skip (counted variantAt (now (s .entry)) at) ⌝ }
+{
+    let count = read_number(s, at, 2);
+    let Read::At(first) = count else {
+        return count;
+    };
+    let mut next = first;
+    let mut left = u16_at(s, at);
+    while 0 < left {
+        let step = read_variant(s, next);
+        let Read::At(after) = step else {
+            return step;
+        };
+        next = after;
+        left -= 1;
+    }
+    Read::At(next)
+}

@@ -1,0 +1,68 @@
+// Bytes, coded bytes and little-endian numbers.
+use crate::Read;
+ghost use mathlib.Core.Path.{_≡_};
+ghost use Prim.Native.Nat.{_+_, _^_, _≤_, _<_};
+ghost use lib.ListN.{length, drop};
+ghost use Rattle.image.specs.Parse.{byteAt, codeAt, numberAt, littleEndian};
+ghost use Rattle.image.specs.Answer.{skip};
+
+pub fn read_byte(s: &[u8], at: usize) -> Read
+    ensures { λ r. ⌜ r ≡ skip (byteAt 8 (now (s .entry)) at) ⌝ }
+{
+    if s.len() <= at {
+        return Read::Refused(8);
+    }
+    Read::At(at + 1)
+}
+
+// A coded byte from lo to hi.
+pub fn read_code(s: &[u8], at: usize, lo: u8, hi: u8) -> Read
+    ensures { λ r. ⌜ r ≡ skip (codeAt lo hi (now (s .entry)) at) ⌝ }
+{
+    if s.len() <= at {
+        return Read::Refused(8);
+    }
+    let b = s[at];
+    if b < lo {
+        return Read::Refused(9);
+    }
+    if hi < b {
+        return Read::Refused(9);
+    }
+    Read::At(at + 1)
+}
+
+// The bytes of a number, w of them.
+pub fn read_number(s: &[u8], at: usize, w: usize) -> Read
+    ensures { λ r. ⌜ r ≡ skip (numberAt w (now (s .entry)) at) ⌝ }
+{
+    if s.len() < at {
+        return Read::Refused(8);
+    }
+    if s.len() - at < w {
+        return Read::Refused(8);
+    }
+    Read::At(at + w)
+}
+
+// The number of w bytes that are there, the lowest first.
+pub fn number(s: &[u8], at: usize, w: usize) -> u64
+    requires { ⌜ (w ≤ 8) × (at + w ≤ length (now s)) ⌝ }
+    ensures { λ r. ⌜ (r ≡ littleEndian w (drop at (now (s .entry)))) × (r < 256 ^ w) ⌝ }
+{
+    let mut i = at + w;
+    let mut value: u64 = 0;
+    while at < i {
+        i -= 1;
+        value = value * 256 + s[i] as u64;
+    }
+    value
+}
+
+// The number of two bytes that are there.
+pub fn u16_at(s: &[u8], at: usize) -> usize
+    requires { ⌜ at + 2 ≤ length (now s) ⌝ }
+    ensures { λ r. ⌜ (r ≡ littleEndian 2 (drop at (now (s .entry)))) × (r < 65536) ⌝ }
+{
+    number(s, at, 2) as usize
+}
