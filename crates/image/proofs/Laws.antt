@@ -9,3 +9,5 @@ pub mod Names
 pub mod Types
 pub mod Trees
 pub mod Fields
+pub mod Bodies
+pub mod Contents

@@ -1,0 +1,15 @@
+-- `image::contents::segment_count` meets its contract. Assumes nothing.
+use borrow.Author.Needs.{needs}
+use Rattle.image.specs.Image.{u16At, segmentCount}
+use Rattle.image.proofs.contents.segment_count.Statement.{statement}
+use Rattle.image.proofs.contents.segment_count.Tie as tie
+
+u16-at-requires : tie.Need-u16-at-requires
+u16-at-requires c κs = search needs
+
+returns : tie.Need-returns
+unfolding u16At segmentCount
+returns c = c .u16-at .ensures
+
+pub segment-count-spec : {M : Type 1} → statement M
+segment-count-spec = tie.close (tie.spec u16-at-requires returns)
