@@ -11,3 +11,4 @@ pub mod Image
 pub mod WellFormed
 pub mod Answer
 pub mod Words
+pub mod Refusals

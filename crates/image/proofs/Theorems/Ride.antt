@@ -12,6 +12,7 @@ use Rattle.image.specs.Types.{followsTag, innerTypes, afterTag, labelOf,
 use Rattle.image.specs.Fields.{marksOf, marksAt, plain, delta, encodingOf, encodingAt, limitAt, fieldAt}
 use Rattle.image.specs.Bodies.{messageAt, declAt, bodyOf}
 use Rattle.image.specs.Image.{u16At, format, entryCount, idCount, segmentCount, entryOffset, entryLength, idsAt, segmentsAt, idsFrom, headOf, tablesOf, laid, entryOf, entriesOf, readImage}
+use Rattle.image.specs.Answer.{refusal}
 use Rattle.image.specs.Words.{bytes}
 
 -- the bytes as 01 prints them
@@ -38,76 +39,50 @@ whole : List ℕ → Parsed Schema
 unfolding readImage entriesOf entryOf laid tablesOf headOf idsFrom segmentsAt idsAt entryLength entryOffset segmentCount idCount entryCount format u16At bodyOf declAt messageAt fieldAt limitAt encodingAt encodingOf delta plain marksAt marksOf typeAt typeOf innerAt labelOf afterTag innerTypes followsTag namesAt nameAt nameBytes nameByte counted many numberAt littleEndian codeAt byteAt part within shift pick bind bytes speed rideSchema
 whole s = readImage s
 
-pub ride-accepted : readImage ride ≡ ok rideSchema 46
-unfolding whole
-ride-accepted = refl
+pub record Ride : Type 0 where
+  pub accepted : readImage ride ≡ ok rideSchema 46
+  -- seven bytes; the namespace's last byte cut off
+  pub head-cut : readImage (take 7 ride) ≡ no 2
+  pub namespace-cut : readImage (take 20 ride) ≡ no 2
+  pub format-two : readImage (set ride 0 2) ≡ no 3
+  -- 513 entries
+  pub crowded : readImage (set ride 3 2) ≡ no 4
+  pub offset-moved : readImage (set ride 8 22) ≡ no 5
+  pub byte-after : readImage (ride ++ 0 ∷ []) ≡ no 5
+  pub kind-nine : readImage (set ride 21 9) ≡ no 6
+  pub space-in-namespace : readImage (set ride 17 32) ≡ no 7
+  pub space-in-name : readImage (set ride 23 32) ≡ no 7
+  -- a count of two fields, and the body ends after one; a count of none, and bytes are left
+  pub body-early : readImage (set ride 29 2) ≡ no 8
+  pub bytes-left : readImage (set ride 29 0) ≡ no 8
+  pub primitive-fourteen : readImage (set ride 45 14) ≡ no 9
+  pub third-mark : readImage (set ride 28 4) ≡ no 9
+  -- from the field's name on: an empty name, no marks, nine deltas
+  pub ninth-delta : readImage (take 35 ride ++ 0 ∷ 0 ∷ replicate 9 3) ≡ no 10
+  -- the field's type is 32 optionals, and the body ends where a 33rd node would start: it is refused before its tag is read
+  pub node-33 : readImage (set (take 44 ride) 10 55 ++ replicate 32 4) ≡ no 10
+  -- with a void in the place of the last of them it is accepted, by the same count of nodes
+  pub nodes-32 : refusal (readImage (set (take 44 ride) 10 56 ++ replicate 31 4 ++ 0 ∷ 13 ∷ [])) ≡ 0
 
--- 2: seven bytes; and the namespace's last byte cut off
-pub head-cut : readImage (take 7 ride) ≡ no 2
-unfolding whole
-head-cut = refl
-
-pub namespace-cut : readImage (take 20 ride) ≡ no 2
-unfolding whole
-namespace-cut = refl
-
--- 3: format 2
-pub format-two : readImage (set ride 0 2) ≡ no 3
-unfolding whole
-format-two = refl
-
--- 4: 513 entries
-pub entries-crowded : readImage (set ride 3 2) ≡ no 4
-unfolding whole
-entries-crowded = refl
-
--- 5: an offset of one more; a byte after the body
-pub offset-moved : readImage (set ride 8 22) ≡ no 5
-unfolding whole
-offset-moved = refl
-
-pub byte-after : readImage (ride ++ (0 ∷ [])) ≡ no 5
-unfolding whole
-byte-after = refl
-
--- 6: kind 9
-pub kind-nine : readImage (set ride 21 9) ≡ no 6
-unfolding whole
-kind-nine = refl
-
--- 7: a space in the namespace; in the message's name
-pub space-in-namespace : readImage (set ride 17 32) ≡ no 7
-unfolding whole
-space-in-namespace = refl
-
-pub space-in-name : readImage (set ride 23 32) ≡ no 7
-unfolding whole
-space-in-name = refl
-
--- 8: two fields, and the body ends after one; no field, and bytes are left
-pub body-early : readImage (set ride 29 2) ≡ no 8
-unfolding whole
-body-early = refl
-
-pub bytes-left : readImage (set ride 29 0) ≡ no 8
-unfolding whole
-bytes-left = refl
-
--- 9: primitive 14; mark 4
-pub primitive-fourteen : readImage (set ride 45 14) ≡ no 9
-unfolding whole
-primitive-fourteen = refl
-
-pub third-mark : readImage (set ride 28 4) ≡ no 9
-unfolding whole
-third-mark = refl
-
--- 10: from the field's name on, an empty name, no marks and nine deltas
-pub ninth-delta : readImage (take 35 ride ++ 0 ∷ 0 ∷ replicate 9 3) ≡ no 10
-unfolding whole
-ninth-delta = refl
-
--- 10: the field's type is 32 optionals and the body ends, where a 33rd node would start: it is refused before its tag is read
-pub node-33 : readImage (set (take 44 ride) 10 55 ++ replicate 32 4) ≡ no 10
-unfolding whole
-node-33 = refl
+pub ride-read : Ride
+unfolding whole refusal
+ride-read =
+    record {
+      accepted = refl;
+      head-cut = refl;
+      namespace-cut = refl;
+      format-two = refl;
+      crowded = refl;
+      offset-moved = refl;
+      byte-after = refl;
+      kind-nine = refl;
+      space-in-namespace = refl;
+      space-in-name = refl;
+      body-early = refl;
+      bytes-left = refl;
+      primitive-fourteen = refl;
+      third-mark = refl;
+      ninth-delta = refl;
+      node-33 = refl;
+      nodes-32 = refl;
+    }
