@@ -12,3 +12,5 @@ pub mod WellFormed
 pub mod Answer
 pub mod Words
 pub mod Refusals
+pub mod Writer
+pub mod Limits

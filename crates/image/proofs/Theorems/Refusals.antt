@@ -163,7 +163,7 @@ crowded-given s c = from-head s 4 (simp (le-leb _ _ (c .eight .fits), le-leb _ _
     crowd (ids l) = simp (lt-leb _ _ l, and-false)
     crowd (segments l) = simp (lt-leb _ _ l, and-false)
 
-head-passed : (s : List ℕ) → Head s → headOf s ≡ ok tt 8
+pub head-passed : (s : List ℕ) → Head s → headOf s ≡ ok tt 8
 unfolding headOf pick
 head-passed s h =
     simp (le-leb _ _ (h .eight .fits), le-leb _ _ (h .eight .there), eq-eqb _ _ (h .one), le-leb _ _ (h .entries), le-leb _ _ (h .ids), le-leb _ _ (h .segments))

@@ -1,0 +1,7 @@
+-- Every schema within document 01's limits is written to an image that is read back as it was. Here: bytes at a place. Pieces: numbers, coded
+-- bytes, names, lists.
+pub mod Here
+pub mod Pieces
+pub mod Trees
+pub mod Items
+pub mod Whole
