@@ -5,3 +5,4 @@ pub mod Pieces
 pub mod Trees
 pub mod Items
 pub mod Whole
+pub mod Octets

@@ -14,6 +14,9 @@ pub data Each {A : Type 0} (P : A → Type 0) : List A → Type 0 where
   end : Each P []
   also : {x : A} {xs : List A} → P x → Each P xs → Each P (x ∷ xs)
 
+abbrev pub Byte : ℕ → Type 0
+Byte b = b < 256
+
 -- as many as a u16 counts
 abbrev pub Few : {A : Type 0} → List A → Type 0
 Few xs = length xs < 2 ^ 16

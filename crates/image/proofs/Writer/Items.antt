@@ -30,11 +30,14 @@ unfolding bit
 bit-most true = omega arith
 bit-most false = omega arith
 
+pub marks-most : (m : Marks) → marksByte m ≤ 3
+unfolding marksByte
+marks-most m = omega (arith, bit-most (m .deprecated), bit-most (m .nonExhaustive))
+
 pub marks-back : (m : Marks) → Reads marksAt (marksByte m ∷ []) m
 unfolding marksAt marksByte
 marks-back m s at h =
-    let l : marksByte m ≤ 3 = omega (arith, bit-most (m .deprecated), bit-most (m .nonExhaustive)) in
-    got _ (code-back 0 3 (marksByte m) (omega arith) l s at h) (ap (λ (k : Marks). ok k (at + 1)) (marks-is (m .deprecated) (m .nonExhaustive)))
+    got _ (code-back 0 3 (marksByte m) (omega arith) (marks-most m) s at h) (ap (λ (k : Marks). ok k (at + 1)) (marks-is (m .deprecated) (m .nonExhaustive)))
 
 -- an encoding: the deltas, then the code
 deltas-back : (left d base : ℕ) → d ≤ left → base ≤ 2 → Reads (encodingOf left) (replicate d 3 ++ base ∷ []) (record { deltas = d; base = base })

@@ -15,13 +15,19 @@ use Rattle.image.proofs.Writer.Here.{Here, here-drop}
 use Rattle.image.proofs.Writer.Pieces.{Reads, got, seq, stay, byte-back, code-back, number-back, names-back}
 
 -- a tag with inner types and nothing else
-wraps-nothing : {tag : ℕ} → Wrapping tag → followsTag tag ≡ nothing
+pub wraps-nothing : {tag : ℕ} → Wrapping tag → followsTag tag ≡ nothing
 unfolding followsTag
 wraps-nothing (optional e) = rw e
 wraps-nothing (array e) = rw e
 wraps-nothing (set e) = rw e
 wraps-nothing {tag} (vector low high) =
     simp (ne-eqb tag 0 (omega arith), ne-eqb tag 1 (omega arith), ne-eqb tag 2 (omega arith), ne-eqb tag 3 (omega arith), ne-eqb tag 6 (omega arith), ne-eqb tag 16 (omega arith), le-leb tag 15 high)
+
+pub wraps-most : {tag : ℕ} → Wrapping tag → tag ≤ 15
+wraps-most (optional e) = omega arith
+wraps-most (array e) = omega arith
+wraps-most (set e) = omega arith
+wraps-most (vector low high) = high
 
 wraps-one : {tag : ℕ} → Wrapping tag → innerTypes tag ≡ 1
 unfolding innerTypes
