@@ -6,3 +6,7 @@ pub mod Trees
 pub mod Items
 pub mod Whole
 pub mod Octets
+pub mod Runs
+pub mod TreeRuns
+pub mod ItemRuns
+pub mod Accepted

@@ -31,11 +31,11 @@ before-laid s i p (good h e) = good (λ j low high. go j low high (decLt i j)) e
 before-laid s i p (wrong m) = wrong m
 
 -- an entry that is placed: of no length it has no offset; of some length it starts where it should and ends in the image
-placed-empty : {s : List ℕ} {i : ℕ} → Placed s i → entryLength s i ≡ 0 → entryOffset s i ≡ 0
+pub placed-empty : {s : List ℕ} {i : ℕ} → Placed s i → entryLength s i ≡ 0 → entryOffset s i ≡ 0
 placed-empty (empty o n) z = o
 placed-empty (full n o l) z = absurd (omega arith)
 
-placed-full : {s : List ℕ} {i : ℕ} → Placed s i → ¬ (entryLength s i ≡ 0) → (entryOffset s i ≡ bodyAt s i) × (bodyAt s (suc i) ≤ length s)
+pub placed-full : {s : List ℕ} {i : ℕ} → Placed s i → ¬ (entryLength s i ≡ 0) → (entryOffset s i ≡ bodyAt s i) × (bodyAt s (suc i) ≤ length s)
 placed-full (empty o n) z = absurd (z n)
 placed-full (full n o l) z = (o, l)
 

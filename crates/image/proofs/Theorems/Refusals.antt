@@ -22,7 +22,7 @@ use Rattle.image.proofs.Theorems.Segments.{Wrong, past, bad, Fault, Nam
 use Rattle.image.proofs.Theorems.Places.{Laid, good, wrong, laid-told}
 
 -- what a number says of the bytes; of 6 to 10 nothing but that they are no more
-Given : List ℕ → ℕ → Type 0
+pub Given : List ℕ → ℕ → Type 0
 Given s zero = ⊥
 Given s (suc zero) = Long s
 Given s (suc (suc zero)) = ShortHead s
@@ -61,7 +61,7 @@ over-told s e = go (leb (entryCount s) 512) (leb (idCount s) 512) refl refl e
     go true false p q r = ids (leb-false _ _ q)
     go false b p q r = entries (leb-false _ _ p)
 
-head-told : (s : List ℕ) → Told (λ h n. Head s) (Given s) (headOf s)
+pub head-told : (s : List ℕ) → Told (λ h n. Head s) (Given s) (headOf s)
 unfolding headOf Given
 head-told s =
     told-pick _
@@ -90,7 +90,7 @@ fault-given s h k f = go (f .wrong)
     go (past e l) = rw e (namespace h (f .place) (f .inside) (f .before) l)
     go (bad e l n) = rw e (omega arith)
 
-names-told : (s : List ℕ) (at : ℕ) → at ≡ segmentsAt s
+pub names-told : (s : List ℕ) (at : ℕ) → at ≡ segmentsAt s
     → Told (Named s) (Fault s) (namesAt 2 (segmentCount s) s at)
 unfolding segmentAt
 names-told s at e = rw e (segments-told s (segmentCount s) 0 (omega arith) (λ j h. absurd (omega arith)))
@@ -104,7 +104,7 @@ names-inside s (suc count) l h = h count (omega arith) .inside
 abbrev Fits : List ℕ → Bool
 Fits s = laid (entryCount s) s 0 (segmentAt s (segmentCount s))
 
-fits-told : (s : List ℕ) → Tables s → Laid s 0 (Fits s)
+pub fits-told : (s : List ℕ) → Tables s → Laid s 0 (Fits s)
 unfolding bodyAt
 fits-told s t = laid-told s (entryCount s) 0 _ refl (names-inside s (segmentCount s) (t .inside) (t .segments)) (omega arith)
 

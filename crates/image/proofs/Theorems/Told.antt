@@ -31,6 +31,10 @@ pub told-then : {A : Type 0} {P R : A → ℕ → Type 0} {Q U : ℕ → Type 0}
 told-then (told-ok {a = a} {n = n} h) f g = told-ok (f a n h)
 told-then (told-no {k = k} h) f g = told-no (g k h)
 
+pub told-both : {A : Type 0} {P R : A → ℕ → Type 0} {Q U : ℕ → Type 0} {p : Parsed A} → Told P Q p → Told R U p → Told (λ a n. P a n × R a n) U p
+told-both (told-ok h) (told-ok g) = told-ok (h, g)
+told-both (told-no h) (told-no g) = told-no g
+
 told-shift : {A : Type 0} {Q : ℕ → Type 0} (at : ℕ) {x : Parsed A} → Told Any Q x → Told Any Q (shift at x)
 unfolding shift
 told-shift at (told-ok h) = told-ok tt

@@ -29,7 +29,7 @@ wraps-most (array e) = omega arith
 wraps-most (set e) = omega arith
 wraps-most (vector low high) = high
 
-wraps-one : {tag : ℕ} → Wrapping tag → innerTypes tag ≡ 1
+pub wraps-one : {tag : ℕ} → Wrapping tag → innerTypes tag ≡ 1
 unfolding innerTypes
 wraps-one (optional e) = rw e
 wraps-one (array e) = rw e
