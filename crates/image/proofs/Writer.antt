@@ -1,12 +1,14 @@
--- Every schema within document 01's limits is written to an image that is read back as it was. Here: bytes at a place. Pieces: numbers, coded
--- bytes, names, lists.
+-- Whole: every schema within document 01's limits is read back from what is written of it; Octets: and that are bytes. Accepted: no other list
+-- of bytes is accepted.
+-- Written, then read: Here, bytes at a place; Pieces, numbers, names and lists; Trees, types; Items, fields, variants and bodies.
+-- Read, then written: Runs, TreeRuns, ItemRuns, in the same order.
+pub mod Whole
+pub mod Octets
+pub mod Accepted
 pub mod Here
 pub mod Pieces
 pub mod Trees
 pub mod Items
-pub mod Whole
-pub mod Octets
 pub mod Runs
 pub mod TreeRuns
 pub mod ItemRuns
-pub mod Accepted

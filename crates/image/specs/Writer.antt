@@ -62,7 +62,11 @@ writeType (two l t u) = writeLabel l ++ (writeType t ++ writeType u)
 -- "Field: u32 ordinal, name, marks, encoding, .. limit .., type."
 unfoldable pub writeField : Field → List ℕ
 writeField f =
-    digits 4 (f .ordinal) ++ (writeName (f .name) ++ (marksByte (f .marks) ∷ (writeEncoding (f .encoding) ++ (writeLimit (f .limit) ++ writeType (f .type)))))
+    digits 4 (f .ordinal)
+    ++ (writeName (f .name)
+    ++ (marksByte (f .marks) ∷ (writeEncoding (f .encoding)
+    ++ (writeLimit (f .limit)
+    ++ writeType (f .type)))))
 
 -- "u32 ordinal and name", "u32 bit and name"
 unfoldable pub writeBare : Variant → List ℕ
@@ -110,4 +114,8 @@ bodiesAt s = 8 + 4 * length (s .registry) + 4 * length (s .ids) + length (writeE
 -- head, contents, ids, namespace, bodies
 unfoldable pub write : Schema → List ℕ
 write s =
-    writeHead s ++ (writeContents (s .registry) (bodiesAt s) ++ (writeEach (digits 4) (s .ids) ++ (writeEach writeName (s .namespace) ++ writeEach writeEntry (s .registry))))
+    writeHead s
+    ++ (writeContents (s .registry) (bodiesAt s)
+    ++ (writeEach (digits 4) (s .ids)
+    ++ (writeEach writeName (s .namespace)
+    ++ writeEach writeEntry (s .registry))))

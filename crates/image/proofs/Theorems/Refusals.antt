@@ -166,7 +166,8 @@ crowded-given s c = from-head s 4 (simp (le-leb _ _ (c .eight .fits), le-leb _ _
 pub head-passed : (s : List ℕ) → Head s → headOf s ≡ ok tt 8
 unfolding headOf pick
 head-passed s h =
-    simp (le-leb _ _ (h .eight .fits), le-leb _ _ (h .eight .there), eq-eqb _ _ (h .one), le-leb _ _ (h .entries), le-leb _ _ (h .ids), le-leb _ _ (h .segments))
+    let eight = h .eight in
+    simp (le-leb _ _ (eight .fits), le-leb _ _ (eight .there), eq-eqb _ _ (h .one), le-leb _ _ (h .entries), le-leb _ _ (h .ids), le-leb _ _ (h .segments))
 
 -- then the tables
 tables-given : (s : List ℕ) → Head s → length s < segmentsAt s → readImage s ≡ no 2
@@ -201,7 +202,9 @@ unfolding readImage tablesOf bind pick
 contents-given s c = go (names-told s (segmentsAt s) refl) refl
   where
     from : (names : List Name) → namesAt 2 (segmentCount s) s (segmentsAt s) ≡ ok names (segmentAt s (segmentCount s)) → readImage s ≡ no 5
-    from names e = simp (head-passed s (c .tables .head), le-leb _ _ (c .tables .inside), e, told-misplaced (fits-told s (c .tables)) (c .misplaced))
+    from names e =
+        let t = c .tables in
+        simp (head-passed s (t .head), le-leb _ _ (t .inside), e, told-misplaced (fits-told s t) (c .misplaced))
 
     go : {p : Parsed (List Name)} → Told (Named s) (Fault s) p → namesAt 2 (segmentCount s) s (segmentsAt s) ≡ p → readImage s ≡ no 5
     go (told-ok {a = names} q) e = from names (e ∙ ap (ok names) (q .1))

@@ -1,8 +1,8 @@
 -- Document 01's image of `ride`, by computation: it is accepted and holds its schema, and damaged copies of it give each number that a short
--- image can give. Assumes nothing.
+-- image can give. Imports definitions only. Assumes nothing.
 use mathlib.Core.Path.{_≡_, refl}
 use mathlib.Core.Option.{none, some}
-use mathlib.Core.List.{List, [], _∷_, _++_}
+use mathlib.Core.List.{List, [], _∷_, _++_, map}
 use Prim.Native.Nat.{ℕ}
 use lib.ListN.{take, set, replicate}
 use Rattle.image.specs.Schema.{Field, Schema, unmarked, label, leaf, noType, decl}
@@ -13,6 +13,7 @@ use Rattle.image.specs.Fields.{marksOf, marksAt, plain, delta, encodingO
 use Rattle.image.specs.Bodies.{messageAt, declAt, bodyOf}
 use Rattle.image.specs.Image.{u16At, format, entryCount, idCount, segmentCount, entryOffset, entryLength, idsAt, segmentsAt, idsFrom, headOf, tablesOf, laid, entryOf, entriesOf, readImage}
 use Rattle.image.specs.Answer.{refusal}
+use Rattle.image.specs.Writer.{digits, writeEach, writeCounted, writeName, bit, marksByte, writeEncoding, writeLimit, writeAfter, writeLabel, writeType, writeField, writeDecl, writeBody, writeEntry, writeContents, writeHead, bodiesAt, write}
 use Rattle.image.specs.Words.{bytes}
 
 -- the bytes as 01 prints them
@@ -39,50 +40,50 @@ whole : List ℕ → Parsed Schema
 unfolding readImage entriesOf entryOf laid tablesOf headOf idsFrom segmentsAt idsAt entryLength entryOffset segmentCount idCount entryCount format u16At bodyOf declAt messageAt fieldAt limitAt encodingAt encodingOf delta plain marksAt marksOf typeAt typeOf innerAt labelOf afterTag innerTypes followsTag namesAt nameAt nameBytes nameByte counted many numberAt littleEndian codeAt byteAt part within shift pick bind bytes speed rideSchema
 whole s = readImage s
 
-pub record Ride : Type 0 where
-  pub accepted : readImage ride ≡ ok rideSchema 46
-  -- seven bytes; the namespace's last byte cut off
-  pub head-cut : readImage (take 7 ride) ≡ no 2
-  pub namespace-cut : readImage (take 20 ride) ≡ no 2
-  pub format-two : readImage (set ride 0 2) ≡ no 3
-  -- 513 entries
-  pub crowded : readImage (set ride 3 2) ≡ no 4
-  pub offset-moved : readImage (set ride 8 22) ≡ no 5
-  pub byte-after : readImage (ride ++ 0 ∷ []) ≡ no 5
-  pub kind-nine : readImage (set ride 21 9) ≡ no 6
-  pub space-in-namespace : readImage (set ride 17 32) ≡ no 7
-  pub space-in-name : readImage (set ride 23 32) ≡ no 7
-  -- a count of two fields, and the body ends after one; a count of none, and bytes are left
-  pub body-early : readImage (set ride 29 2) ≡ no 8
-  pub bytes-left : readImage (set ride 29 0) ≡ no 8
-  pub primitive-fourteen : readImage (set ride 45 14) ≡ no 9
-  pub third-mark : readImage (set ride 28 4) ≡ no 9
-  -- from the field's name on: an empty name, no marks, nine deltas
-  pub ninth-delta : readImage (take 35 ride ++ 0 ∷ 0 ∷ replicate 9 3) ≡ no 10
-  -- the field's type is 32 optionals, and the body ends where a 33rd node would start: it is refused before its tag is read
-  pub node-33 : readImage (set (take 44 ride) 10 55 ++ replicate 32 4) ≡ no 10
-  -- with a void in the place of the last of them it is accepted, by the same count of nodes
-  pub nodes-32 : refusal (readImage (set (take 44 ride) 10 56 ++ replicate 31 4 ++ 0 ∷ 13 ∷ [])) ≡ 0
+pub ride-accepted : readImage ride ≡ ok rideSchema 46
+unfolding whole
+ride-accepted = refl
 
-pub ride-read : Ride
+-- and it is what is written of it
+pub ride-written : write rideSchema ≡ ride
+unfolding write writeHead writeContents writeEntry writeBody writeDecl writeField writeType writeLabel writeAfter followsTag writeLimit writeEncoding marksByte bit writeName writeCounted writeEach digits bodiesAt plain bytes speed rideSchema
+ride-written = refl
+
+-- damaged copies, each with the number that it gives
+pub damaged : List (List ℕ × ℕ)
+damaged =
+    -- seven bytes; the namespace's last byte cut off
+    (take 7 ride, 2)
+    ∷ (take 20 ride, 2)
+    -- format 2
+    ∷ (set ride 0 2, 3)
+    -- 513 entries
+    ∷ (set ride 3 2, 4)
+    -- an offset of one more; a byte after the body
+    ∷ (set ride 8 22, 5)
+    ∷ (ride ++ 0 ∷ [], 5)
+    -- kind 9
+    ∷ (set ride 21 9, 6)
+    -- a space in the namespace; in the message's name
+    ∷ (set ride 17 32, 7)
+    ∷ (set ride 23 32, 7)
+    -- two fields, and the body ends after one; no field, and bytes are left
+    ∷ (set ride 29 2, 8)
+    ∷ (set ride 29 0, 8)
+    -- primitive 14; mark 4
+    ∷ (set ride 45 14, 9)
+    ∷ (set ride 28 4, 9)
+    -- from the field's name on: an empty name, no marks, nine deltas
+    ∷ (take 35 ride ++ 0 ∷ 0 ∷ replicate 9 3, 10)
+    -- the field's type is 32 optionals, and the body ends where a 33rd node would start: it is refused before its tag is read
+    ∷ (set (take 44 ride) 10 55 ++ replicate 32 4, 10)
+    ∷ []
+
+pub damaged-refused : map (λ c. readImage (c .0)) damaged ≡ map (λ c. no (c .1)) damaged
+unfolding whole damaged
+damaged-refused = refl
+
+-- 31 optionals around a void are 32 nodes
+pub nodes-32 : refusal (readImage (set (take 44 ride) 10 56 ++ replicate 31 4 ++ 0 ∷ 13 ∷ [])) ≡ 0
 unfolding whole refusal
-ride-read =
-    record {
-      accepted = refl;
-      head-cut = refl;
-      namespace-cut = refl;
-      format-two = refl;
-      crowded = refl;
-      offset-moved = refl;
-      byte-after = refl;
-      kind-nine = refl;
-      space-in-namespace = refl;
-      space-in-name = refl;
-      body-early = refl;
-      bytes-left = refl;
-      primitive-fourteen = refl;
-      third-mark = refl;
-      ninth-delta = refl;
-      node-33 = refl;
-      nodes-32 = refl;
-    }
+nodes-32 = refl

@@ -29,7 +29,8 @@ bytes-allowed (suc count) from s l e k low high =
     let b = both _ _ (rw (part-next from count s (omega arith)) at e) in
     go (decLt from k) (b .0) (bytes-allowed count (suc from) s (omega arith) (b .1) k)
   where
-    go : Dec (from < k) → nameByte (getD s from 0) ≡ true → (suc from ≤ k → k < suc from + count → nameByte (getD s k 0) ≡ true) → nameByte (getD s k 0) ≡ true
+    go : Dec (from < k) → nameByte (getD s from 0) ≡ true → (suc from ≤ k → k < suc from + count → nameByte (getD s k 0) ≡ true)
+        → nameByte (getD s k 0) ≡ true
     go (yes h) b later = later h (omega arith)
     go (no h) b later = let e : k ≡ from = omega arith in rw e b
 
@@ -64,12 +65,15 @@ segment-told s i =
     (λ b n h. rw (h .0, h .1)
     (told-pick _
     (λ g. told-pick _
-    (λ a. told-ok ((let l = leb-true _ _ g in record { inside = l; allowed = λ k low high. bytes-allowed (getD s at 0) (at + 1) s l a k (omega arith) high }), refl))
+    (λ a. told-ok (right (leb-true _ _ g) a, refl))
     (λ a. told-no (let l = leb-true _ _ g in bad refl l (λ t. wrong t (bytes-bad (getD s at 0) (at + 1) s l a)))))
     (λ g. told-no (past refl (leb-false _ _ g)))))
   where
     at : ℕ
     at = segmentAt s i
+
+    right : at + 1 + getD s at 0 ≤ length s → nameBytes (part (at + 1) (getD s at 0) s) ≡ true → Segment s i
+    right l a = record { inside = l; allowed = λ k low high. bytes-allowed (getD s at 0) (at + 1) s l a k (omega arith) high }
 
     wrong : Segment s i → Bad (at + 1) (getD s at 0) s → ⊥
     wrong t r = apart (t .allowed (r .place) (let l = r .low in omega arith) (r .high)) (r .is)

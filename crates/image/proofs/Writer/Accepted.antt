@@ -38,7 +38,18 @@ record Entries (s : List ℕ) (i : ℕ) (es : List (Option Decl)) : Type 0 where
   pub contents : Run s (8 + 4 * i) (8 + 4 * entryCount s) (writeContents es (bodyAt s i))
   pub bodies : Run s (bodyAt s i) (bodyAt s (entryCount s)) (writeEach writeEntry es)
 
-all-placed : {s : List ℕ} {b : Bool} → Laid s 0 b → b ≡ true → ((j : ℕ) → 0 ≤ j → j < entryCount s → Placed s j) × (bodyAt s (entryCount s) ≡ length s)
+-- what is known of an image that is accepted: its names xs and its entries es
+record Parts (s : List ℕ) (xs : List Name) (es : List (Option Decl)) : Type 0 where
+  pub head : Head s
+  pub inside : segmentsAt s ≤ length s
+  pub count : length xs ≡ segmentCount s
+  pub within : Each NameWithin xs
+  pub names : Run s (segmentsAt s) (bodyAt s 0) (writeEach writeName xs)
+  pub ends : bodyAt s (entryCount s) ≡ length s
+  pub entries : Entries s 0 es
+
+all-placed : {s : List ℕ} {b : Bool} → Laid s 0 b → b ≡ true
+    → ((j : ℕ) → 0 ≤ j → j < entryCount s → Placed s j) × (bodyAt s (entryCount s) ≡ length s)
 all-placed (good h e) t = (h, e)
 all-placed (wrong m) t = apart t refl
 
@@ -58,7 +69,8 @@ module _ (s : List ℕ) (bytes : Each Byte s) where
           let f = placed-full p z in
           let fits : bodyAt s i + entryLength s i ≤ length s = f .1 in
           let b : part (bodyAt s i) (entryLength s i) s ≡ writeBody d = rw (f .0) at (q .1) in
-          some-here (q .0) (f .0) (sym (part-length (bodyAt s i) (entryLength s i) s fits) ∙ ap length b) (rw b at (part-run (bodyAt s i) (entryLength s i) s fits))
+          let size : entryLength s i ≡ length (writeBody d) = sym (part-length (bodyAt s i) (entryLength s i) s fits) ∙ ap length b in
+          some-here (q .0) (f .0) size (rw b at (part-run (bodyAt s i) (entryLength s i) s fits))
 
   -- an offset and a length of the contents
   offset-run : (i : ℕ) → 10 + 4 * i ≤ length s → Run s (8 + 4 * i) (10 + 4 * i) (digits 2 (entryOffset s i))
@@ -143,7 +155,8 @@ module _ (s : List ℕ) (bytes : Each Byte s) where
       (run-join (digits 2 (entryCount s)) _ (number-run s bytes 2 2 (omega arith))
       (run-join (digits 2 (idCount s)) (digits 2 (segmentCount s)) (number-run s bytes 2 4 (omega arith)) (number-run s bytes 2 6 (omega arith))))
 
-  names-keep : (count at : ℕ) → at ≤ length s → Keeps (λ xs. (length xs ≡ count) × Each NameWithin xs) (writeEach writeName) s at (namesAt 2 count s at)
+  names-keep : (count at : ℕ) → at ≤ length s
+      → Keeps (λ xs. (length xs ≡ count) × Each NameWithin xs) (writeEach writeName) s at (namesAt 2 count s at)
   unfolding namesAt
   names-keep count at h = each-keeps s bytes (nameAt 2) writeName NameWithin (name-keeps s bytes 2) count at h
 
@@ -152,45 +165,45 @@ module _ (s : List ℕ) (bytes : Each Byte s) where
   tables-keep = told-pick _ (λ e. told-ok (leb-true _ _ e, refl, refl)) (λ e. told-no tt)
 
   -- All that was read stands one after the other, and is the whole image.
-  module _ (h : Head s) (inside : segmentsAt s ≤ length s) (xs : List Name) (count : length xs ≡ segmentCount s) (within : Each NameWithin xs) (names : Run s (segmentsAt s) (bodyAt s 0) (writeEach writeName xs)) (ends : bodyAt s (entryCount s) ≡ length s) (es : List (Option Decl)) (e : Entries s 0 es) where
+  module _ (xs : List Name) (es : List (Option Decl)) (r : Parts s xs es) where
     held : Schema
     held = record { registry = es; ids = idsFrom (idCount s) s (idsAt s); namespace = xs }
 
     entries-all : length es ≡ entryCount s
-    entries-all = omega (arith, e .count)
+    entries-all = omega (arith, r .entries .count)
 
     bodies-start : bodiesAt held ≡ bodyAt s 0
     unfolding held bodiesAt segmentsAt idsAt
-    bodies-start = omega (arith, names .next, entries-all, ids-count (idCount s) (idsAt s))
+    bodies-start = omega (arith, r .names .next, entries-all, ids-count (idCount s) (idsAt s))
 
     front : Run s 0 8 (writeHead held)
     unfolding held writeHead
-    front = rw (entries-all, ids-count (idCount s) (idsAt s), count) (head-run h)
+    front = rw (entries-all, ids-count (idCount s) (idsAt s), r .count) (head-run (r .head))
 
     contents : Run s 8 (idsAt s) (writeContents es (bodiesAt held))
     unfolding idsAt
-    contents = rw bodies-start (e .contents)
+    contents = rw bodies-start (r .entries .contents)
 
     is-written : s ≡ write held
     unfolding held write segmentsAt
     is-written =
-        run-whole ends
+        run-whole (r .ends)
         (run-join (writeHead held) _ front
         (run-join (writeContents es (bodiesAt held)) _ contents
-        (run-join (writeEach (digits 4) (held .ids)) _ (ids-run (idCount s) (idsAt s) inside)
-        (run-join (writeEach writeName xs) (writeEach writeEntry es) names (e .bodies)))))
+        (run-join (writeEach (digits 4) (held .ids)) _ (ids-run (idCount s) (idsAt s) (r .inside))
+        (run-join (writeEach writeName xs) (writeEach writeEntry es) (r .names) (r .entries .bodies)))))
 
     is-within : Within held
     unfolding held
     is-within =
         record {
-          entryCount = rw entries-all (h .entries);
-          idCount = rw (ids-count (idCount s) (idsAt s)) (h .ids);
-          segmentCount = rw count (h .segments);
-          entries = e .within;
+          entryCount = rw entries-all (r .head .entries);
+          idCount = rw (ids-count (idCount s) (idsAt s)) (r .head .ids);
+          segmentCount = rw (r .count) (r .head .segments);
+          entries = r .entries .within;
           ids = ids-below (idCount s) (idsAt s);
-          segments = within;
-          whole = rw (← is-written) (h .eight .fits);
+          segments = r .within;
+          whole = rw (← is-written) (r .head .eight .fits);
         }
 
   Holds : Schema → ℕ → Type 0
@@ -205,14 +218,19 @@ module _ (s : List ℕ) (bytes : Each Byte s) where
       told-pick _
       (λ f.
       let p = all-placed (fits-told s (record { head = h; inside = t .0; segments = e .0 .0 })) (rw (e .0 .1) at f) in
-      let ends : bodyAt s (entryCount s) ≤ length s = omega (arith, p .1) in
-      told-bind _ (entries-keep (entryCount s) 0 (omega arith) (omega (arith, t .0)) ends (p .0)) (λ es n₄ k.
-      told-ok
-      (rw (t .1) (
-        is-within h (t .0) xs (e .1 .0 .0) (e .1 .0 .1) (rw (t .2, e .0 .1) at (e .1 .1)) (p .1) es (k .0),
-        is-written h (t .0) xs (e .1 .0 .0) (e .1 .0 .1) (rw (t .2, e .0 .1) at (e .1 .1)) (p .1) es (k .0),
-        k .1,
-      ))))
+      let last : bodyAt s (entryCount s) ≤ length s = omega (arith, p .1) in
+      told-bind _ (entries-keep (entryCount s) 0 (omega arith) (omega (arith, t .0)) last (p .0)) (λ es n₄ k.
+      let r : Parts s xs es =
+      record {
+        head = h;
+        inside = t .0;
+        count = e .1 .0 .0;
+        within = e .1 .0 .1;
+        names = rw (t .2, e .0 .1) at (e .1 .1);
+        ends = p .1;
+        entries = k .0;
+      } in
+      told-ok (rw (t .1) (is-within xs es r, is-written xs es r, k .1))))
       (λ f. told-no tt))))
 
 -- A list of bytes is accepted and holds x exactly if x is within 01's limits and the list is what is written of x.

@@ -37,7 +37,8 @@ marks-most m = omega (arith, bit-most (m .deprecated), bit-most (m .nonExhaustiv
 pub marks-back : (m : Marks) → Reads marksAt (marksByte m ∷ []) m
 unfolding marksAt marksByte
 marks-back m s at h =
-    got _ (code-back 0 3 (marksByte m) (omega arith) (marks-most m) s at h) (ap (λ (k : Marks). ok k (at + 1)) (marks-is (m .deprecated) (m .nonExhaustive)))
+    got _ (code-back 0 3 (marksByte m) (omega arith) (marks-most m) s at h)
+    (ap (λ (k : Marks). ok k (at + 1)) (marks-is (m .deprecated) (m .nonExhaustive)))
 
 -- an encoding: the deltas, then the code
 deltas-back : (left d base : ℕ) → d ≤ left → base ≤ 2 → Reads (encodingOf left) (replicate d 3 ++ base ∷ []) (record { deltas = d; base = base })

@@ -29,12 +29,14 @@ unfolding digits
 digits-bytes zero v = end
 digits-bytes (suc w) v = byte (v % 256) (omega arith) (digits-bytes w (v / 256))
 
-each-bytes : {A : Type 0} (w : A → List ℕ) (P : A → Type 0) → ((x : A) → P x → Each Byte (w x)) → (xs : List A) → Each P xs → Each Byte (writeEach w xs)
+each-bytes : {A : Type 0} (w : A → List ℕ) (P : A → Type 0) → ((x : A) → P x → Each Byte (w x)) → (xs : List A) → Each P xs
+    → Each Byte (writeEach w xs)
 unfolding writeEach
 each-bytes w P f [] end = end
 each-bytes w P f (x ∷ xs) (also q qs) = each-join (f x q) (each-bytes w P f xs qs)
 
-counted-bytes : {A : Type 0} (w : A → List ℕ) (P : A → Type 0) → ((x : A) → P x → Each Byte (w x)) → (xs : List A) → Each P xs → Each Byte (writeCounted w xs)
+counted-bytes : {A : Type 0} (w : A → List ℕ) (P : A → Type 0) → ((x : A) → P x → Each Byte (w x)) → (xs : List A) → Each P xs
+    → Each Byte (writeCounted w xs)
 unfolding writeCounted
 counted-bytes w P f xs qs = each-join (digits-bytes 2 (length xs)) (each-bytes w P f xs qs)
 
@@ -45,7 +47,8 @@ allowed-byte b e = go (decLt b 256)
   where
     go : Dec (b < 256) → b < 256
     go (yes h) = h
-    go (no h) = apart e (simp (lt-leb b 122 (omega arith), lt-leb b 90 (omega arith), lt-leb b 57 (omega arith), ne-eqb b 95 (omega arith), and-false))
+    go (no h) =
+        apart e (simp (lt-leb b 122 (omega arith), lt-leb b 90 (omega arith), lt-leb b 57 (omega arith), ne-eqb b 95 (omega arith), and-false))
 
 allowed-bytes : (x : Name) → nameBytes x ≡ true → Each Byte x
 unfolding nameBytes
@@ -112,7 +115,8 @@ body-bytes _ (message {x = x} {m = m} {fs = fs} q few qs) =
     byte 0 (omega arith) (each-join (name-bytes x q) (marks-bytes m (counted-bytes writeField FieldWithin field-bytes fs qs)))
 body-bytes _ (enum {x = x} {m = m} {vs = vs} q few qs) =
     byte 1 (omega arith) (each-join (name-bytes x q) (marks-bytes m (counted-bytes writeBare BareWithin bare-bytes vs qs)))
-body-bytes _ (flags {x = x} {vs = vs} q few qs) = byte 2 (omega arith) (each-join (name-bytes x q) (counted-bytes writeBare BareWithin bare-bytes vs qs))
+body-bytes _ (flags {x = x} {vs = vs} q few qs) =
+    byte 2 (omega arith) (each-join (name-bytes x q) (counted-bytes writeBare BareWithin bare-bytes vs qs))
 body-bytes _ (union {x = x} {vs = vs} q few qs) =
     byte 3 (omega arith) (each-join (name-bytes x q) (counted-bytes writeVariant VariantWithin variant-bytes vs qs))
 body-bytes _ (newtype {x = x} {t = t} q r) = byte 4 (omega arith) (each-join (name-bytes x q) (type-bytes t (r .typed)))

@@ -33,11 +33,14 @@ run-inside r = rw (r .next) (here-fits (r .here))
 pub run-join : {s : List ℕ} {at n m : ℕ} (w v : List ℕ) → Run s at n w → Run s n m v → Run s at m (w ++ v)
 run-join {s} {at} {n} {m} w v a b =
     record {
-      here = record { rest = b .here .rest; is = a .here .is ∙ ap (λ (l : List ℕ). w ++ l) later ∙ sym (append-assoc w v (b .here .rest)); from = a .here .from };
+      here = record { rest = after; is = a .here .is ∙ ap (λ (l : List ℕ). w ++ l) later ∙ sym (append-assoc w v after); from = a .here .from };
       next = omega (arith, a .next, b .next, length-append w v);
     }
   where
-    later : a .here .rest ≡ v ++ b .here .rest
+    after : List ℕ
+    after = b .here .rest
+
+    later : a .here .rest ≡ v ++ after
     later =
         sym (drop-append-seam w (a .here .rest)) ∙ ap (drop (length w)) (sym (a .here .is)) ∙ drop-drop (length w) at s
         ∙ ap (λ (k : ℕ). drop k s) (sym (a .next)) ∙ b .here .is

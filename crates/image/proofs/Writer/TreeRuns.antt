@@ -43,10 +43,11 @@ tag-view tag =
     choose tag _ _ _ (λ h. is-named (eqb-true _ _ h)) (λ h₃.
     choose tag _ _ _ (λ h. is-fixed (eqb-true _ _ h)) (λ h₆.
     choose tag _ _ _ (λ h. is-bits (eqb-true _ _ h)) (λ h.
-    choose tag _ _ _ (λ l. is-other (four (eqb-false _ _ h₀) (eqb-false _ _ h₁) (eqb-false _ _ h₂) (eqb-false _ _ h₃)) (eqb-false _ _ h₆) (leb-true _ _ l)) (λ l. is-none)))))))
+    choose tag _ _ _ (λ l. other (eqb-false _ _ h₀) (eqb-false _ _ h₁) (eqb-false _ _ h₂) (eqb-false _ _ h₃) (eqb-false _ _ h₆) (leb-true _ _ l)) (λ l.
+    is-none)))))))
   where
-    four : ¬ (tag ≡ 0) → ¬ (tag ≡ 1) → ¬ (tag ≡ 2) → ¬ (tag ≡ 3) → 4 ≤ tag
-    four a b c d = omega arith
+    other : ¬ (tag ≡ 0) → ¬ (tag ≡ 1) → ¬ (tag ≡ 2) → ¬ (tag ≡ 3) → ¬ (tag ≡ 6) → tag ≤ 15 → Tag tag nothing
+    other a b c d e l = is-other (omega arith) e l
 
 -- a tag with inner types and nothing else
 record Plain (tag : ℕ) : Type 0 where
@@ -72,15 +73,18 @@ plain-tag tag low six high = go (decLt tag 5) (decLt tag 6) (decLt tag 8) (decLt
 abbrev After : ℕ → List ℕ → ℕ → Label → ℕ → Type 0
 After tag s at l n = (l .tag ≡ tag) × LabelWithin (innerTypes (l .tag)) l × Run s at n (writeAfter (followsTag (l .tag)) l)
 
-after-keeps : (s : List ℕ) → Each Byte s → (tag : ℕ) (f : Follows) → Tag tag f → (at : ℕ) → at ≤ length s → Told (After tag s at) Free (afterTag tag f s at)
+after-keeps : (s : List ℕ) → Each Byte s → (tag : ℕ) (f : Follows) → Tag tag f → (at : ℕ) → at ≤ length s
+    → Told (After tag s at) Free (afterTag tag f s at)
 unfolding afterTag namesAt writeAfter followsTag innerTypes
-after-keeps s bytes tag _ (is-primitive e) at h = rw e (told-bind _ (code-keeps s bytes 0 13 at) (λ a n q. told-ok (refl, primitive (q .0 .1), q .1)))
+after-keeps s bytes tag _ (is-primitive e) at h =
+    rw e (told-bind _ (code-keeps s bytes 0 13 at) (λ a n q. told-ok (refl, primitive (q .0 .1), q .1)))
 after-keeps s bytes tag _ (is-subByte e) at h =
     rw e
     (told-bind _ (code-keeps s bytes 0 1 at) (λ a n q.
     told-bind _ (code-keeps s bytes 1 64 n) (λ b m r.
     told-ok (refl, Limits.subByte (q .0 .1) (r .0 .0) (r .0 .1), run-join (a ∷ []) (b ∷ []) (q .1) (r .1)))))
-after-keeps s bytes tag _ (is-semantic e) at h = rw e (told-bind _ (code-keeps s bytes 0 5 at) (λ a n q. told-ok (refl, semantic (q .0 .1), q .1)))
+after-keeps s bytes tag _ (is-semantic e) at h =
+    rw e (told-bind _ (code-keeps s bytes 0 5 at) (λ a n q. told-ok (refl, semantic (q .0 .1), q .1)))
 after-keeps s bytes tag _ (is-named e) at h = rw e (told-bind _ (number-keeps s bytes 4 at) (λ a n q. told-ok (refl, named (q .0), q .1)))
 after-keeps s bytes tag _ (is-fixed e) at h = rw e (told-bind _ (number-keeps s bytes 8 at) (λ a n q. told-ok (refl, fixedArray (q .0), q .1)))
 after-keeps s bytes tag _ (is-bits e) at h =
@@ -109,7 +113,8 @@ label-keeps s bytes =
     (λ k u. u))
 
 -- from a part
-shift-keeps : {A : Type 0} {P : A → Type 0} {w : A → List ℕ} (s : List ℕ) (at : ℕ) → at ≤ length s → {p : Parsed A} → Keeps P w (drop at s) 0 p → Keeps P w s at (shift at p)
+shift-keeps : {A : Type 0} {P : A → Type 0} {w : A → List ℕ} (s : List ℕ) (at : ℕ) → at ≤ length s → {p : Parsed A} → Keeps P w (drop at s) 0 p
+    → Keeps P w s at (shift at p)
 unfolding shift
 shift-keeps {w = w} s at h (told-ok {a = x} {n = n} q) = told-ok (q .0, run (q .1))
   where
@@ -130,7 +135,8 @@ inner-most tag = go (leb 4 tag && leb tag 15) (leb 8 tag && leb tag 9)
     go true false = omega arith
     go false c = omega arith
 
-inner-keeps : (left : ℕ) → ((t : List ℕ) → Each Byte t → Keeps (Kept left) writeType t 0 (typeOf left t)) → (s : List ℕ) → Each Byte s → (i : ℕ) → i ≤ 2 → (l : Label)
+inner-keeps : (left : ℕ) → ((t : List ℕ) → Each Byte t → Keeps (Kept left) writeType t 0 (typeOf left t)) → (s : List ℕ) → Each Byte s → (i : ℕ)
+    → i ≤ 2 → (l : Label)
     → LabelWithin i l → (n : ℕ) → Run s 0 n (writeLabel l) → Keeps (Kept (suc left)) writeType s 0 (innerAt i l (typeOf left) s n)
 unfolding innerAt within writeType nodes
 inner-keeps left f s bytes zero h l q n r = told-ok ((bare q, omega arith), r)
@@ -145,7 +151,10 @@ inner-keeps left f s bytes (suc zero) h l q n r =
 inner-keeps left f s bytes (suc (suc k)) h l q n r =
     told-bind _ (part n (run-inside r)) (λ t m b.
     told-bind _ (part m (run-inside (b .1))) (λ u o c.
-    told-ok ((between two-inside (b .0 .0) (c .0 .0), deep (b .0 .1) (c .0 .1)), run-join (writeLabel l) _ r (run-join (writeType t) (writeType u) (b .1) (c .1)))))
+    told-ok (
+      (between two-inside (b .0 .0) (c .0 .0), deep (b .0 .1) (c .0 .1)),
+      run-join (writeLabel l) _ r (run-join (writeType t) (writeType u) (b .1) (c .1)),
+    )))
   where
     part : (at : ℕ) → at ≤ length s → Keeps (Kept left) writeType s at (shift at (typeOf left (drop at s)))
     part at h = shift-keeps s at h (f (drop at s) (each-drop at s bytes))
@@ -160,7 +169,8 @@ type-keeps : (left : ℕ) (s : List ℕ) → Each Byte s → Keeps (Kept left) w
 unfolding typeOf
 type-keeps zero s bytes = told-no tt
 type-keeps (suc left) s bytes =
-    told-bind _ (label-keeps s bytes) (λ l n a. inner-keeps left (type-keeps left) s bytes (innerTypes (l .tag)) (inner-most (l .tag)) l (a .0) n (a .1))
+    told-bind _ (label-keeps s bytes) (λ l n a.
+    inner-keeps left (type-keeps left) s bytes (innerTypes (l .tag)) (inner-most (l .tag)) l (a .0) n (a .1))
 
 pub typeAt-keeps : (s : List ℕ) → Each Byte s → (at : ℕ) → at ≤ length s → Keeps TypeWithin writeType s at (typeAt s at)
 unfolding typeAt within

@@ -1,10 +1,12 @@
 -- Labels and types are read back where they were written. Assumes nothing.
 use mathlib.Core.Path.{_≡_, refl}
+use mathlib.Core.Bool.{false}
 use mathlib.Core.List.{List, [], _∷_}
-use Prim.Native.Nat.{ℕ, zero, suc, _+_, _≤_}
+use Prim.Native.Nat.{ℕ, zero, suc, _+_, _≤_, _<_}
 use native.Mathlib.Nat.{zero-add}
 use native.Mathlib.Omega.{arith}
 use borrow.Author.Tests.{le-leb, lt-leb, ne-eqb}
+use lib.Dec.{eqb}
 use lib.ListN.{length, drop}
 use Rattle.image.specs.Schema.{Label, Ty, leaf, one, two}
 use Rattle.image.specs.Parse.{Parsed, ok, shift, within}
@@ -21,7 +23,10 @@ wraps-nothing (optional e) = rw e
 wraps-nothing (array e) = rw e
 wraps-nothing (set e) = rw e
 wraps-nothing {tag} (vector low high) =
-    simp (ne-eqb tag 0 (omega arith), ne-eqb tag 1 (omega arith), ne-eqb tag 2 (omega arith), ne-eqb tag 3 (omega arith), ne-eqb tag 6 (omega arith), ne-eqb tag 16 (omega arith), le-leb tag 15 high)
+    simp (other 0 (omega arith), other 1 (omega arith), other 2 (omega arith), other 3 (omega arith), other 6 (omega arith), ne-eqb tag 16 (omega arith), le-leb tag 15 high)
+  where
+    other : (k : ℕ) → k < 10 → eqb tag k ≡ false
+    other k h = ne-eqb tag k (omega arith)
 
 pub wraps-most : {tag : ℕ} → Wrapping tag → tag ≤ 15
 wraps-most (optional e) = omega arith

@@ -74,11 +74,13 @@ some-byte d e = omega arith
 abbrev Read : List (Option Decl) → List ℕ → ℕ → ℕ → Type 0
 Read es s i at = (laid (length es) s i at ≡ true) × (entriesOf (length es) s i ≡ ok es (length s))
 
-empty-back : (es : List (Option Decl)) (s : List ℕ) (i at : ℕ) → entryOffset s i ≡ 0 → entryLength s i ≡ 0 → Read es s (i + 1) at → Read (none ∷ es) s i at
+empty-back : (es : List (Option Decl)) (s : List ℕ) (i at : ℕ) → entryOffset s i ≡ 0 → entryLength s i ≡ 0 → Read es s (i + 1) at
+    → Read (none ∷ es) s i at
 unfolding laid entriesOf entryOf pick bind
 empty-back es s i at o n r = (simp (o, n, r .0), simp (n, r .1))
 
-full-back : (d : Decl) → DeclWithin d → (es : List (Option Decl)) (s : List ℕ) (i at : ℕ) → entryOffset s i ≡ at → entryLength s i ≡ length (writeBody d)
+full-back : (d : Decl) → DeclWithin d → (es : List (Option Decl)) (s : List ℕ) (i at : ℕ) → entryOffset s i ≡ at
+    → entryLength s i ≡ length (writeBody d)
     → Here s at (writeBody d) → Read es s (i + 1) (at + length (writeBody d)) → Read (some d ∷ es) s i at
 unfolding laid entriesOf entryOf pick bind
 full-back d q es s i at o n h r = (
@@ -87,7 +89,8 @@ full-back d q es s i at o n h r = (
 )
 
 entries-back : (es : List (Option Decl)) → Each EntryWithin es → (s : List ℕ) → length s ≤ 32768 → (i at : ℕ)
-    → Here s (8 + 4 * i) (writeContents es at) → Here s at (writeEach writeEntry es) → at + length (writeEach writeEntry es) ≡ length s → Read es s i at
+    → Here s (8 + 4 * i) (writeContents es at) → Here s at (writeEach writeEntry es) → at + length (writeEach writeEntry es) ≡ length s
+    → Read es s i at
 unfolding laid entriesOf writeContents writeEach writeEntry
 entries-back [] end s l i at h g e = (eq-eqb at (length s) (omega arith), refl)
 entries-back (none ∷ es) (also empty qs) s l i at h g e =
@@ -156,7 +159,7 @@ back s =
       ids = here-first d _ atIds;
       names = here-first n b atNames;
       bodies = here-next n b atNames;
-      ends = omega (arith, head-length s, contents-length (s .registry) (bodiesAt s), ids-length (s .ids), length-append (writeHead s) (c ++ (d ++ (n ++ b))), length-append c (d ++ (n ++ b)), length-append d (n ++ b), length-append n b);
+      ends = omega (arith, head-length s, contents-length (s .registry) (bodiesAt s), ids-length (s .ids), joined);
     }
   where
     c : List ℕ
@@ -170,6 +173,9 @@ back s =
 
     b : List ℕ
     b = writeEach writeEntry (s .registry)
+
+    joined : length (write s) ≡ length (writeHead s) + (length c + (length d + (length n + length b)))
+    joined = simp length-append
 
     at8 : Here (write s) 8 (c ++ (d ++ (n ++ b)))
     at8 = rw (head-length s) at (here-next (writeHead s) _ (here-all (write s)))
