@@ -1,5 +1,5 @@
--- Whole: every schema within document 01's limits is read back from what is written of it; Octets: and that are bytes. Accepted: no other list
--- of bytes is accepted.
+-- Whole: every schema within document 01's limits is read back from what is written of it. Octets: what is written are bytes. Accepted: no
+-- other list of bytes is accepted.
 -- Written, then read: Here, bytes at a place; Pieces, numbers, names and lists; Trees, types; Items, fields, variants and bodies.
 -- Read, then written: Runs, TreeRuns, ItemRuns, in the same order.
 pub mod Whole

@@ -87,7 +87,7 @@ unfolding Given
 fault-given s h k f = go (f .wrong)
   where
     go : Wrong s (f .place) k → Given s k
-    go (past e l) = rw e (namespace h (f .place) (f .inside) (f .before) l)
+    go (past e l) = rw e (namespace h (f .place) (f .inside) (λ j g. f .before j (omega arith)) l)
     go (bad e l n) = rw e (omega arith)
 
 pub names-told : (s : List ℕ) (at : ℕ) → at ≡ segmentsAt s
@@ -194,7 +194,7 @@ namespace-given s h i inside before l = go (decLt (length s) (segmentsAt s))
 short-given : (s : List ℕ) → ShortHead s → readImage s ≡ no 2
 short-given s (head l) = head-given s l
 short-given s (tables h l) = tables-given s h l
-short-given s (namespace h i inside before l) = namespace-given s h i inside before l
+short-given s (namespace h i inside before l) = namespace-given s h i inside (λ j g. before j (omega arith)) l
 
 -- then the contents
 contents-given : (s : List ℕ) → Contents s → readImage s ≡ no 5

@@ -36,9 +36,6 @@ here-next {s} {at} w v h =
       from = here-fits (here-first w v h);
     }
 
-pub here-tail : {s : List ℕ} {at b : ℕ} {v : List ℕ} → Here s at (b ∷ v) → Here s (at + 1) v
-here-tail {b = b} {v = v} h = here-next (b ∷ []) v h
-
 -- as bytes
 pub here-byte : {s : List ℕ} {at b : ℕ} {v : List ℕ} → Here s at (b ∷ v) → getD s at 0 ≡ b
 here-byte {s} {at} {b} h = rw (← (add-zero at), ← (getD-drop at s 0 0)) (ap (λ (l : List ℕ). getD l 0 0) (h .is))

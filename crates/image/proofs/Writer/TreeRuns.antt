@@ -176,5 +176,5 @@ pub typeAt-keeps : (s : List ℕ) → Each Byte s → (at : ℕ) → at ≤ leng
 unfolding typeAt within
 typeAt-keeps s bytes at h =
     told-then (shift-keeps s at h (type-keeps 32 (drop at s) (each-drop at s bytes)))
-    (λ t n q. (record { typed = q .0 .0; path = q .0 .1 }, q .1))
+    (λ t n q. (record { typed = q .0 .0; path = omega (arith, q .0 .1) }, q .1))
     (λ k u. u)

@@ -101,4 +101,4 @@ type-back (suc left) _ (between {l = x} {t = t} {u = u} q r v) l s h =
 
 pub typeAt-back : (t : Ty) → TypeWithin t → Reads typeAt (writeType t) t
 unfolding typeAt
-typeAt-back t q = within-back (typeOf 32) (writeType t) t (type-back 32 t (q .typed) (q .path))
+typeAt-back t q = within-back (typeOf 32) (writeType t) t (type-back 32 t (q .typed) (omega (arith, q .path)))
