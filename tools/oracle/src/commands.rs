@@ -1,0 +1,94 @@
+//! The subcommands.
+
+use crate::answer::{judge, Side, SELECTORS};
+use crate::changes::CHANGE_KINDS;
+use crate::edits::{damaged, edited};
+use crate::limits::IMAGE_BYTES;
+use crate::random::random_schema;
+use crate::rng::Rng;
+use crate::writer::image;
+use std::fs::File;
+use std::io::{Read, Write};
+
+/// A command has done its job, or says why not.
+pub type Outcome = Result<(), String>;
+
+/// The bytes of a file, as far as they decide anything. One that can't be
+/// opened counts as empty.
+fn read_file(path: &str) -> Vec<u8> {
+    let mut bytes = Vec::new();
+    if let Ok(file) = File::open(path) {
+        let most = IMAGE_BYTES as u64 + 1;
+        if file.take(most).read_to_end(&mut bytes).is_err() {
+            bytes.clear();
+        }
+    }
+    bytes
+}
+
+pub fn report(old: &str, new: &str) -> Outcome {
+    let answer = judge(&read_file(old), &read_file(new)).answer;
+    let written = std::io::stdout().write_all(&answer.printed());
+    written.map_err(|error| error.to_string())
+}
+
+pub fn verdict(old: &str, new: &str, selector: Option<&str>) -> Outcome {
+    let answer = judge(&read_file(old), &read_file(new)).answer;
+    match selector {
+        Some(text) => println!("{}", answer.select(number(text)?)),
+        None => (0..SELECTORS).for_each(|n| println!("{n} {}", answer.select(n))),
+    }
+    Ok(())
+}
+
+pub fn number(text: &str) -> Result<u64, String> {
+    text.parse().map_err(|_| format!("not a number: {text}"))
+}
+
+/// Pairs of random releases, some of them damaged, through the model and `check`.
+pub fn random(seed: u64, count: u64) -> Outcome {
+    let mut rng = Rng::new(seed);
+    let mut refusals = [0u64; 12];
+    let mut bumps = [0u64; 3];
+    let mut kinds = vec![0u64; CHANGE_KINDS.len()];
+    for _ in 0..count {
+        let (old, new) = random_pair(&mut rng);
+        let answer = judge(&old, &new).answer;
+        match answer.side {
+            Side::None => bumps[answer.bump as usize] += 1,
+            _ => refusals[usize::from(answer.number)] += 1,
+        }
+        for (sum, count) in kinds.iter_mut().zip(answer.counts) {
+            *sum += u64::from(count);
+        }
+    }
+    println!("{count} pairs, seed {seed}");
+    println!(
+        "verdicts: {} Patch, {} Minor, {} Major",
+        bumps[0], bumps[1], bumps[2]
+    );
+    for (number, count) in refusals.iter().enumerate().skip(1) {
+        println!("refused {number}: {count}");
+    }
+    for (kind, count) in CHANGE_KINDS.iter().zip(kinds) {
+        println!("{kind:?}: {count}");
+    }
+    Ok(())
+}
+
+fn random_pair(rng: &mut Rng) -> (Vec<u8>, Vec<u8>) {
+    let most = *rng.pick(&[1, 3, 8, 24]);
+    let old = random_schema(rng, most);
+    let new = match rng.once_in(8) {
+        true => random_schema(rng, most),
+        false => edited(rng, &old, 6),
+    };
+    let (mut old, mut new) = (image(&old), image(&new));
+    if rng.once_in(5) {
+        old = damaged(rng, &old);
+    }
+    if rng.once_in(5) {
+        new = damaged(rng, &new);
+    }
+    (old, new)
+}

@@ -1,0 +1,60 @@
+//! The oracle: what the real `check` of Vexil says of two images, and the
+//! answers recorded from it. See README.md.
+
+mod answer;
+mod bodies;
+mod changes;
+mod commands;
+mod cursor;
+mod edits;
+mod limits;
+mod make;
+mod model;
+mod random;
+mod reader;
+mod refusal;
+mod rng;
+mod schema;
+mod selftest;
+mod types;
+mod writer;
+
+// The Vexil sources name one another from the crate's root.
+#[cfg(vexil)]
+mod vexil;
+#[cfg(vexil)]
+use vexil::{ast, canonical, ir, span};
+
+#[cfg(not(vexil))]
+#[path = "vexil/absent.rs"]
+mod vexil;
+
+use commands::{number, Outcome};
+
+const USAGE: &str = "usage: oracle report OLD NEW
+       oracle verdict OLD NEW [SELECTOR]
+       oracle random SEED COUNT
+       oracle selftest";
+
+fn main() {
+    let words: Vec<String> = std::env::args().skip(1).collect();
+    let words: Vec<&str> = words.iter().map(String::as_str).collect();
+    if !vexil::CHECK_IS_RUN {
+        eprintln!("oracle: built without the Vexil sources, check was not run");
+    }
+    if let Err(message) = run(&words) {
+        eprintln!("oracle: {message}");
+        std::process::exit(1);
+    }
+}
+
+fn run(words: &[&str]) -> Outcome {
+    match *words {
+        ["report", old, new] => commands::report(old, new),
+        ["verdict", old, new] => commands::verdict(old, new, None),
+        ["verdict", old, new, selector] => commands::verdict(old, new, Some(selector)),
+        ["random", seed, count] => commands::random(number(seed)?, number(count)?),
+        ["selftest"] => selftest::run(),
+        _ => Err(USAGE.to_string()),
+    }
+}

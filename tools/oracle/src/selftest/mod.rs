@@ -1,0 +1,41 @@
+//! The oracle's own tests.
+
+mod against_check;
+mod clauses;
+mod reading;
+
+use crate::commands::Outcome;
+use std::fmt::Debug;
+
+#[derive(Default)]
+pub struct Tests {
+    passed: u32,
+    failed: u32,
+}
+
+impl Tests {
+    pub fn equal<T: PartialEq + Debug>(&mut self, name: &str, found: T, wanted: T) {
+        if found == wanted {
+            self.passed += 1;
+            return;
+        }
+        self.failed += 1;
+        println!("failed: {name}\n  found  {found:?}\n  wanted {wanted:?}");
+    }
+
+    pub fn holds(&mut self, name: &str, condition: bool) {
+        self.equal(name, condition, true);
+    }
+}
+
+pub fn run() -> Outcome {
+    let mut tests = Tests::default();
+    reading::run(&mut tests);
+    clauses::run(&mut tests);
+    against_check::run(&mut tests);
+    println!("{} passed, {} failed", tests.passed, tests.failed);
+    match tests.failed {
+        0 => Ok(()),
+        _ => Err("selftest failed".to_string()),
+    }
+}

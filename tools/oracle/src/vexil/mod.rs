@@ -1,0 +1,82 @@
+//! The real `check`, compiled from the unchanged Vexil sources that build.sh
+//! copies below target/, and what holds the model against it.
+
+mod compile;
+
+#[allow(warnings)]
+#[rustfmt::skip]
+#[path = "../../../../target/oracle/src/compat.rs"]
+pub mod compat;
+#[allow(warnings)]
+#[rustfmt::skip]
+#[path = "../../../../target/oracle/src/ir/mod.rs"]
+pub mod ir;
+#[allow(warnings)]
+#[rustfmt::skip]
+#[path = "../../../../target/oracle/src/ast/mod.rs"]
+pub mod ast;
+#[allow(warnings)]
+#[rustfmt::skip]
+#[path = "../../../../target/oracle/src/span.rs"]
+pub mod span;
+#[allow(warnings)]
+#[path = "../../stand_ins/canonical.rs"]
+pub mod canonical;
+
+use crate::changes::Comparison;
+use crate::schema::Schema;
+use compat::CompatReport;
+use compile::compile;
+
+pub const CHECK_IS_RUN: bool = true;
+
+/// Runs `check` and tells where the model differs: in the changes, counted with
+/// repeats, in the result or in the bump.
+pub fn difference(old: &Schema, new: &Schema, model: &Comparison) -> Option<String> {
+    let real = compat::check(&compile(old), &compile(new));
+    let (real, model) = (real_lines(&real), model_lines(model));
+    if real == model {
+        return None;
+    }
+    let (real, model) = (real.join("\n"), model.join("\n"));
+    Some(format!("check:\n{real}\nmodel:\n{model}"))
+}
+
+/// Whether `check` panics, as it does on an alias pair.
+pub fn panics(old: &Schema, new: &Schema) -> bool {
+    let (old, new) = (compile(old), compile(new));
+    let hook = std::panic::take_hook();
+    std::panic::set_hook(Box::new(|_| {}));
+    let outcome = std::panic::catch_unwind(|| compat::check(&old, &new));
+    std::panic::set_hook(hook);
+    outcome.is_err()
+}
+
+/// The changes sorted, for `check` fixes no order, then result and bump. The
+/// position in `ChangeKind` stands in the line so that the counts' order is
+/// held against the Rust as well.
+fn real_lines(report: &CompatReport) -> Vec<String> {
+    let changes = report.changes.iter().map(|c| {
+        let place = c.kind as usize;
+        let members = (&c.declaration, &c.field, &c.detail);
+        format!("{place} {:?} {:?} {members:?}", c.kind, c.classification)
+    });
+    let last = format!("{:?} {:?}", report.result, report.suggested_bump);
+    sorted(changes.collect(), last)
+}
+
+fn model_lines(model: &Comparison) -> Vec<String> {
+    let changes = model.changes.iter().map(|c| {
+        let place = c.kind as usize;
+        let members = (&c.declaration, &c.field, &c.detail);
+        format!("{place} {:?} {:?} {members:?}", c.kind, c.bump)
+    });
+    let last = format!("{:?} {:?}", model.result, model.bump);
+    sorted(changes.collect(), last)
+}
+
+fn sorted(mut lines: Vec<String>, last: String) -> Vec<String> {
+    lines.sort();
+    lines.push(last);
+    lines
+}
