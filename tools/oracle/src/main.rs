@@ -2,9 +2,12 @@
 //! answers recorded from it. See README.md.
 
 mod answer;
+mod answers;
 mod bodies;
+mod cases;
 mod changes;
 mod commands;
+mod coverage;
 mod cursor;
 mod edits;
 mod limits;
@@ -12,6 +15,7 @@ mod make;
 mod model;
 mod random;
 mod reader;
+mod record;
 mod refusal;
 mod rng;
 mod schema;
@@ -33,6 +37,8 @@ use commands::{number, Outcome};
 
 const USAGE: &str = "usage: oracle report OLD NEW
        oracle verdict OLD NEW [SELECTOR]
+       oracle generate FILE [--seed N]
+       oracle verify FILE
        oracle random SEED COUNT
        oracle selftest";
 
@@ -53,6 +59,9 @@ fn run(words: &[&str]) -> Outcome {
         ["report", old, new] => commands::report(old, new),
         ["verdict", old, new] => commands::verdict(old, new, None),
         ["verdict", old, new, selector] => commands::verdict(old, new, Some(selector)),
+        ["generate", path] => record::generate(path, record::SEED),
+        ["generate", path, "--seed", seed] => record::generate(path, number(seed)?),
+        ["verify", path] => record::verify(path),
         ["random", seed, count] => commands::random(number(seed)?, number(count)?),
         ["selftest"] => selftest::run(),
         _ => Err(USAGE.to_string()),

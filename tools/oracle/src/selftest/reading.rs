@@ -37,6 +37,7 @@ pub fn run(tests: &mut Tests) {
     front(tests);
     contents(tests);
     bodies(tests);
+    fields(tests);
     types(tests);
     answers(tests);
 }
@@ -148,31 +149,21 @@ fn bodies(tests: &mut Tests) {
         &[3, 0, 1, 0, 7, 0, 0, 0, 0],
         8,
     );
-    let field = |end: &[u8]| {
-        let mut bytes = vec![0, 0, 0, 1, 0, 1, 0, 0, 0, 0];
-        bytes.extend(end);
-        bytes
+}
+
+fn fields(tests: &mut Tests) {
+    let mut field = |name: &str, end: &[u8], wanted: u8| {
+        let start = [0, 0, 0, 1, 0, 1, 0, 0, 0, 0];
+        tests.equal(name, of_body(&[&start, end].concat()), wanted);
     };
-    body("a field", &field(&[0, 0, 0, 0, 0]), 0);
-    body("encoding 4", &field(&[0, 4]), 9);
-    body(
-        "8 deltas",
-        &field(&[0, 3, 3, 3, 3, 3, 3, 3, 3, 0, 0, 0, 0]),
-        0,
-    );
-    body(
-        "8 deltas, then nothing",
-        &field(&[0, 3, 3, 3, 3, 3, 3, 3, 3]),
-        8,
-    );
-    body("9 deltas", &field(&[0, 3, 3, 3, 3, 3, 3, 3, 3, 3]), 10);
-    body("a limit mark of 2", &field(&[0, 0, 2]), 9);
-    body("a limit cut", &field(&[0, 0, 1, 0, 0, 0, 0, 0, 0, 0]), 8);
-    body(
-        "a limit",
-        &field(&[0, 0, 1, 0, 0, 0, 0, 0, 0, 0, 9, 0, 0]),
-        0,
-    );
+    field("a field", &[0, 0, 0, 0, 0], 0);
+    field("encoding 4", &[0, 4], 9);
+    field("8 deltas", &[0, 3, 3, 3, 3, 3, 3, 3, 3, 0, 0, 0, 0], 0);
+    field("8 deltas, then nothing", &[0, 3, 3, 3, 3, 3, 3, 3, 3], 8);
+    field("9 deltas", &[0, 3, 3, 3, 3, 3, 3, 3, 3, 3], 10);
+    field("a limit mark of 2", &[0, 0, 2], 9);
+    field("a limit cut", &[0, 0, 1, 0, 0, 0, 0, 0, 0, 0], 8);
+    field("a limit", &[0, 0, 1, 0, 0, 0, 0, 0, 0, 0, 9, 0, 0], 0);
 }
 
 fn types(tests: &mut Tests) {

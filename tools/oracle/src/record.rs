@@ -1,0 +1,67 @@
+//! Making the recorded answers, and running them again.
+
+use crate::answer::judge;
+use crate::answers::{self, Recorded};
+use crate::cases;
+use crate::commands::Outcome;
+use crate::coverage::Coverage;
+
+/// The seed of the committed file.
+pub const SEED: u64 = 20_261_115;
+
+/// Judges every case and writes the file, if every row of the coverage table has
+/// what it needs.
+pub fn generate(path: &str, seed: u64) -> Outcome {
+    let mut coverage = Coverage::default();
+    let mut list = Vec::new();
+    for case in cases::all(seed) {
+        let pair = judge(&case.old, &case.new);
+        coverage.see(&case, &pair);
+        list.push(Recorded::of(&case.name, &case.old, &case.new, &pair.answer));
+    }
+    coverage.print();
+    let missing = coverage.missing();
+    if !missing.is_empty() {
+        return Err(format!(
+            "not covered, nothing written:\n{}",
+            missing.join("\n")
+        ));
+    }
+    let file = answers::write(&list);
+    std::fs::write(path, &file).map_err(|error| format!("{path}: {error}"))?;
+    println!("{} pairs, {} bytes, seed {seed}", list.len(), file.len());
+    Ok(())
+}
+
+/// Runs every recorded pair again and compares every member of its answer.
+pub fn verify(path: &str) -> Outcome {
+    let bytes = std::fs::read(path).map_err(|error| format!("{path}: {error}"))?;
+    let list = answers::read(&bytes).map_err(|error| format!("{path}: {error}"))?;
+    let mut differing = 0;
+    for recorded in &list {
+        let answer = judge(&recorded.old, &recorded.new).answer;
+        let found = Recorded::of(&recorded.name, &recorded.old, &recorded.new, &answer);
+        if found != *recorded {
+            differing += 1;
+            println!("{}: {}", recorded.name, difference(recorded, &found));
+        }
+    }
+    println!("{} pairs, {differing} differences", list.len());
+    match differing {
+        0 => Ok(()),
+        _ => Err("the recorded answers differ".to_string()),
+    }
+}
+
+fn difference(recorded: &Recorded, found: &Recorded) -> String {
+    let verdicts = recorded.verdict.iter().zip(&found.verdict);
+    let mut parts: Vec<String> = verdicts
+        .enumerate()
+        .filter(|(_, (recorded, found))| recorded != found)
+        .map(|(n, (recorded, found))| format!("selector {n} recorded {recorded}, found {found}"))
+        .collect();
+    if recorded.report != found.report {
+        parts.push("the report differs".to_string());
+    }
+    parts.join("; ")
+}
