@@ -1,59 +1,46 @@
 //! A change, with the names of compat.rs.
 
-/// The names of `ChangeKind`, in its order; the counts stand in this order.
-#[derive(Clone, Copy, PartialEq, Eq, PartialOrd, Ord, Debug)]
-pub enum ChangeKind {
-    FieldAdded,
-    FieldRemoved,
-    FieldTypeChanged,
-    FieldOrdinalChanged,
-    FieldRenamed,
-    FieldDeprecated,
-    FieldEncodingChanged,
-    VariantAdded,
-    VariantRemoved,
-    VariantOrdinalChanged,
-    DeclarationAdded,
-    DeclarationRemoved,
-    DeclarationKindChanged,
-    NamespaceChanged,
-    NonExhaustiveChanged,
-    FlagsBitAdded,
-    FlagsBitRemoved,
-    FlagsBitOrdinalChanged,
+macro_rules! change_kinds {
+    ($($kind:ident)*) => {
+        /// The names of `ChangeKind`, in its order; the counts stand in this order.
+        #[derive(Clone, Copy, PartialEq, Eq, PartialOrd, Ord, Debug)]
+        pub enum ChangeKind {
+            $($kind,)*
+        }
+
+        pub const CHANGE_KINDS: [ChangeKind; COUNTS] = [$(ChangeKind::$kind,)*];
+    };
 }
 
-use ChangeKind::*;
+change_kinds! {
+    FieldAdded
+    FieldRemoved
+    FieldTypeChanged
+    FieldOrdinalChanged
+    FieldRenamed
+    FieldDeprecated
+    FieldEncodingChanged
+    VariantAdded
+    VariantRemoved
+    VariantOrdinalChanged
+    DeclarationAdded
+    DeclarationRemoved
+    DeclarationKindChanged
+    NamespaceChanged
+    NonExhaustiveChanged
+    FlagsBitAdded
+    FlagsBitRemoved
+    FlagsBitOrdinalChanged
+}
 
 /// How many counts a verdict has.
 pub const COUNTS: usize = 18;
 
-pub const CHANGE_KINDS: [ChangeKind; COUNTS] = [
-    FieldAdded,
-    FieldRemoved,
-    FieldTypeChanged,
-    FieldOrdinalChanged,
-    FieldRenamed,
-    FieldDeprecated,
-    FieldEncodingChanged,
-    VariantAdded,
-    VariantRemoved,
-    VariantOrdinalChanged,
-    DeclarationAdded,
-    DeclarationRemoved,
-    DeclarationKindChanged,
-    NamespaceChanged,
-    NonExhaustiveChanged,
-    FlagsBitAdded,
-    FlagsBitRemoved,
-    FlagsBitOrdinalChanged,
-];
-
 /// The kinds that no clause reports.
 pub const NEVER: [ChangeKind; 3] = [
-    FieldOrdinalChanged,
-    VariantOrdinalChanged,
-    FlagsBitOrdinalChanged,
+    ChangeKind::FieldOrdinalChanged,
+    ChangeKind::VariantOrdinalChanged,
+    ChangeKind::FlagsBitOrdinalChanged,
 ];
 
 #[derive(Clone, Copy, PartialEq, Eq, PartialOrd, Ord, Debug)]

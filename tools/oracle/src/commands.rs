@@ -2,7 +2,7 @@
 
 use crate::answer::{judge, Side, SELECTORS};
 use crate::changes::CHANGE_KINDS;
-use crate::edits::{damaged, edited};
+use crate::edits::{damaged, edited, too_deep};
 use crate::limits::IMAGE_BYTES;
 use crate::random::random_schema;
 use crate::rng::Rng;
@@ -79,10 +79,13 @@ pub fn random(seed: u64, count: u64) -> Outcome {
 fn random_pair(rng: &mut Rng) -> (Vec<u8>, Vec<u8>) {
     let most = *rng.pick(&[1, 3, 8, 24]);
     let old = random_schema(rng, most);
-    let new = match rng.once_in(8) {
+    let mut new = match rng.once_in(8) {
         true => random_schema(rng, most),
         false => edited(rng, &old, 6),
     };
+    if rng.once_in(60) {
+        too_deep(rng, &mut new);
+    }
     let (mut old, mut new) = (image(&old), image(&new));
     if rng.once_in(5) {
         old = damaged(rng, &old);

@@ -1,13 +1,14 @@
 //! Random edits from one release of a schema to the next, and damage to bytes.
 
+use crate::limits::{DELTAS, NODES};
 use crate::random::*;
 use crate::rng::Rng;
 use crate::schema::*;
 
-/// The next release: up to `most` edits of any kind.
+/// The next release: 1 to `most` edits of any kind.
 pub fn edited(rng: &mut Rng, schema: &Schema, most: usize) -> Schema {
     let mut next = schema.clone();
-    for _ in 0..rng.below(most + 1) {
+    for _ in 0..1 + rng.below(most) {
         edit(rng, &mut next);
     }
     next
@@ -26,11 +27,24 @@ fn edit(rng: &mut Rng, schema: &mut Schema) {
         4 if entries > 0 => renumber(rng, schema),
         5 => swap_two(rng, &mut schema.declarations),
         _ if entries > 0 => {
-            let entry = &mut schema.registry[rng.below(entries)];
-            edit_entry(rng, entry, entries);
+            let place = eventful(rng, schema);
+            edit_entry(rng, &mut schema.registry[place], entries);
         }
         _ => {}
     }
+}
+
+/// A place in the registry, rather one with something to compare in it.
+fn eventful(rng: &mut Rng, schema: &Schema) -> usize {
+    let full = |entry: &Option<Declaration>| entry.as_ref().is_some_and(|d| d.kind() < 5);
+    let mut place = 0;
+    for _ in 0..4 {
+        place = rng.below(schema.registry.len());
+        if full(&schema.registry[place]) {
+            break;
+        }
+    }
+    place
 }
 
 /// Two entries change places and every id follows: no verdict may change.
@@ -81,7 +95,7 @@ fn edit_entry(rng: &mut Rng, entry: &mut Option<Declaration>, entries: usize) {
         return;
     };
     match rng.below(16) {
-        0 => *entry = None,
+        0 if rng.once_in(2) => *entry = None,
         1 if declaration.kind() != IMPL => declaration.name = random_name(rng),
         2 => {
             let name = declaration.name.clone();
@@ -133,13 +147,13 @@ fn edit_fields(rng: &mut Rng, list: &mut Vec<Field>, entries: usize) {
 }
 
 fn edit_field(rng: &mut Rng, field: &mut Field, entries: usize) {
-    match rng.below(8) {
-        0..=2 => field.name = random_name(rng),
-        3 => field.limit = random_limit(rng),
-        4 => field.encoding.deltas = random_deltas(rng),
-        5 => field.encoding.base = rng.below(3) as u8,
-        6 => edit_type(rng, &mut field.ty, entries),
-        _ => field.marks = random_marks(rng),
+    match rng.below(12) {
+        0..=3 => field.name = random_name(rng),
+        4..=7 => field.marks = random_marks(rng),
+        8 => field.limit = random_limit(rng),
+        9 => field.encoding.deltas = random_deltas(rng),
+        10 => field.encoding.base = rng.below(3) as u8,
+        _ => edit_type(rng, &mut field.ty, entries),
     }
 }
 
@@ -179,6 +193,22 @@ fn edit_list<T: Clone>(rng: &mut Rng, list: &mut Vec<T>, make: impl Fn(&mut Rng)
         1 if list.len() < 16 => list.push(list[place].clone()),
         _ => {
             list.remove(place);
+        }
+    }
+}
+
+/// A node or a delta too many, where the schema has a field.
+pub fn too_deep(rng: &mut Rng, schema: &mut Schema) {
+    let bodies = schema.registry.iter_mut().flatten().map(|d| &mut d.body);
+    let mut fields = bodies.flat_map(|body| match body {
+        Body::Message(_, fields) => fields.iter_mut().collect::<Vec<_>>(),
+        Body::Union(variants) => variants.iter_mut().flat_map(|v| &mut v.fields).collect(),
+        _ => Vec::new(),
+    });
+    if let Some(field) = fields.next() {
+        match rng.once_in(2) {
+            true => field.encoding.deltas = DELTAS + 1,
+            false => field.ty = deepened(field.ty.clone(), NODES + 1),
         }
     }
 }

@@ -1,6 +1,7 @@
 //! Random schemas. Names, ordinals and ids come from small pools, so that
 //! repeats, shared names and unresolvable ids are common.
 
+use crate::limits::{DELTAS, NODES};
 use crate::make::*;
 use crate::rng::Rng;
 use crate::schema::*;
@@ -37,7 +38,10 @@ fn list_of<T>(rng: &mut Rng, most: usize, mut make: impl FnMut(&mut Rng) -> T) -
 }
 
 pub fn random_schema(rng: &mut Rng, most_entries: usize) -> Schema {
-    let entries = rng.below(most_entries + 1);
+    let entries = match rng.once_in(12) {
+        true => 0,
+        false => 1 + rng.below(most_entries),
+    };
     let registry: Vec<_> = (0..entries)
         .map(|_| match rng.once_in(12) {
             true => None,
@@ -83,7 +87,10 @@ pub fn random_variant(rng: &mut Rng, entries: usize) -> Variant {
 }
 
 pub fn random_field(rng: &mut Rng, entries: usize) -> Field {
-    let ty = random_type(rng, entries, 4);
+    let mut ty = random_type(rng, entries, 4);
+    if rng.once_in(100) {
+        ty = deepened(ty, NODES);
+    }
     let mut field = field(random_ordinal(rng), &random_name(rng), ty);
     if rng.once_in(3) {
         field = field.marked(rng.below(4) as u8);
@@ -96,7 +103,7 @@ pub fn random_field(rng: &mut Rng, entries: usize) -> Field {
 
 pub fn random_deltas(rng: &mut Rng) -> u8 {
     match rng.once_in(6) {
-        true => rng.below(9) as u8,
+        true => rng.below(usize::from(DELTAS) + 1) as u8,
         false => rng.below(2) as u8,
     }
 }
@@ -124,6 +131,11 @@ pub fn random_type(rng: &mut Rng, entries: usize, depth: usize) -> Type {
             random_type(rng, entries, depth - 1),
         ),
     }
+}
+
+/// The type inside as many optionals as make a path of so many nodes.
+pub fn deepened(ty: Type, nodes: usize) -> Type {
+    (depth(&ty)..nodes).fold(ty, |ty, _| wrapped(4, ty))
 }
 
 fn random_leaf(rng: &mut Rng, entries: usize) -> Type {

@@ -39,11 +39,9 @@ pub fn verify(path: &str) -> Outcome {
     let list = answers::read(&bytes).map_err(|error| format!("{path}: {error}"))?;
     let mut differing = 0;
     for recorded in &list {
-        let answer = judge(&recorded.old, &recorded.new).answer;
-        let found = Recorded::of(&recorded.name, &recorded.old, &recorded.new, &answer);
-        if found != *recorded {
+        if let Some(difference) = again(recorded) {
             differing += 1;
-            println!("{}: {}", recorded.name, difference(recorded, &found));
+            println!("{}: {difference}", recorded.name);
         }
     }
     println!("{} pairs, {differing} differences", list.len());
@@ -53,7 +51,10 @@ pub fn verify(path: &str) -> Outcome {
     }
 }
 
-fn difference(recorded: &Recorded, found: &Recorded) -> String {
+/// Judges a recorded pair again and says in what its answer differs.
+pub fn again(recorded: &Recorded) -> Option<String> {
+    let answer = judge(&recorded.old, &recorded.new).answer;
+    let found = Recorded::of(&recorded.name, &recorded.old, &recorded.new, &answer);
     let verdicts = recorded.verdict.iter().zip(&found.verdict);
     let mut parts: Vec<String> = verdicts
         .enumerate()
@@ -63,5 +64,5 @@ fn difference(recorded: &Recorded, found: &Recorded) -> String {
     if recorded.report != found.report {
         parts.push("the report differs".to_string());
     }
-    parts.join("; ")
+    (!parts.is_empty()).then(|| parts.join("; "))
 }

@@ -182,6 +182,11 @@ impl Type {
     }
 }
 
+/// The nodes on the longest path from the root.
+pub fn depth(ty: &Type) -> usize {
+    1 + ty.inner.iter().map(depth).max().unwrap_or(0)
+}
+
 /// How many inner types a tag ends with.
 pub fn inner_types(tag: u8) -> usize {
     match tag {

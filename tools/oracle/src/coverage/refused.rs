@@ -104,94 +104,63 @@ fn names(rows: &mut Rows) {
     places(rows, 7, &inside);
 }
 
-/// What each kind of body can lack, and that it can have a byte too many.
-const WANTED: [(&str, &[&str]); 8] = [
-    (
-        "message",
-        &[
-            "name length",
-            "declaration name",
-            "marks",
-            "count",
-            "field ordinal",
-            "field name",
-            "field marks",
-            "encoding",
-            "inner encoding",
-            "limit mark",
-            "limit",
-            "tag",
-            "primitive",
-            "type id",
-            "signed",
-            "bits",
-        ],
-    ),
+/// What a field can lack.
+const OF_FIELDS: &[&str] = &[
+    "field ordinal",
+    "field name",
+    "field marks",
+    "encoding",
+    "inner encoding",
+    "limit mark",
+    "limit",
+    "tag",
+    "primitive",
+    "type id",
+    "signed",
+    "bits",
+];
+
+/// What each kind of body can lack beside its name, and whether it has fields.
+const WANTED: [(&str, &[&str], bool); 8] = [
+    ("message", &["marks", "count"], true),
     (
         "enum",
-        &[
-            "name length",
-            "declaration name",
-            "marks",
-            "count",
-            "item ordinal",
-            "enum variant name",
-        ],
+        &["marks", "count", "item ordinal", "enum variant name"],
+        false,
     ),
-    (
-        "flags",
-        &[
-            "name length",
-            "declaration name",
-            "count",
-            "item ordinal",
-            "bit name",
-        ],
-    ),
+    ("flags", &["count", "item ordinal", "bit name"], false),
     (
         "union",
         &[
-            "name length",
-            "declaration name",
             "count",
             "variant ordinal",
             "union variant name",
             "variant's field count",
-            "field ordinal",
-            "field name",
-            "field marks",
-            "encoding",
-            "inner encoding",
-            "limit mark",
-            "limit",
-            "tag",
-            "primitive",
-            "type id",
-            "signed",
-            "bits",
         ],
+        true,
     ),
     (
         "newtype",
         &[
-            "name length",
-            "declaration name",
             "tag",
             "semantic",
             "size",
             "inline bit count",
             "inline bit name",
         ],
+        false,
     ),
-    ("config", &["name length", "declaration name"]),
-    ("generic_alias", &["name length", "declaration name"]),
-    ("trait", &["name length", "declaration name"]),
+    ("config", &[], false),
+    ("generic_alias", &[], false),
+    ("trait", &[], false),
 ];
 
 fn bodies(rows: &mut Rows) {
     values(rows, 6, "kind", &[9, 255]);
-    for (kind, wanted) in WANTED {
-        for what in wanted {
+    for (kind, wanted, fields) in WANTED {
+        let fields = if fields { OF_FIELDS } else { &[] };
+        let name = ["name length", "declaration name"];
+        for what in name.iter().chain(wanted).chain(fields) {
             places(rows, 8, &[&format!("{kind}: {what}")]);
         }
         values(rows, 8, &format!("{kind}: short by"), &[1]);

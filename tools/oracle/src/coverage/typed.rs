@@ -23,10 +23,6 @@ pub fn root(pairing: &mut Pairing, old: &Type, new: &Type) {
     nodes(pairing, old, new, 1);
 }
 
-fn depth(ty: &Type) -> usize {
-    1 + ty.inner.iter().map(depth).max().unwrap_or(0)
-}
-
 /// What a line of the report shows.
 fn of_shown(facts: &mut Facts, ty: &Type) {
     match &ty.label {

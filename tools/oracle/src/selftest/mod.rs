@@ -3,6 +3,7 @@
 mod against_check;
 mod clauses;
 mod reading;
+mod recording;
 
 use crate::commands::Outcome;
 use std::fmt::Debug;
@@ -33,6 +34,7 @@ pub fn run() -> Outcome {
     reading::run(&mut tests);
     clauses::run(&mut tests);
     against_check::run(&mut tests);
+    recording::run(&mut tests);
     println!("{} passed, {} failed", tests.passed, tests.failed);
     match tests.failed {
         0 => Ok(()),

@@ -52,29 +52,29 @@ pub fn panics(old: &Schema, new: &Schema) -> bool {
     outcome.is_err()
 }
 
-/// The changes sorted, for `check` fixes no order, then result and bump. The
-/// position in `ChangeKind` stands in the line so that the counts' order is
-/// held against the Rust as well.
-fn real_lines(report: &CompatReport) -> Vec<String> {
-    let changes = report.changes.iter().map(|c| {
-        let place = c.kind as usize;
+/// A change in a line. The position in `ChangeKind` stands in it so that the
+/// counts' order is held against the Rust as well.
+macro_rules! line {
+    ($change:expr, $bump:ident) => {{
+        let c = $change;
         let members = (&c.declaration, &c.field, &c.detail);
-        format!("{place} {:?} {:?} {members:?}", c.kind, c.classification)
-    });
+        format!("{} {:?} {:?} {members:?}", c.kind as usize, c.kind, c.$bump)
+    }};
+}
+
+fn real_lines(report: &CompatReport) -> Vec<String> {
+    let changes = report.changes.iter().map(|c| line!(c, classification));
     let last = format!("{:?} {:?}", report.result, report.suggested_bump);
     sorted(changes.collect(), last)
 }
 
 fn model_lines(model: &Comparison) -> Vec<String> {
-    let changes = model.changes.iter().map(|c| {
-        let place = c.kind as usize;
-        let members = (&c.declaration, &c.field, &c.detail);
-        format!("{place} {:?} {:?} {members:?}", c.kind, c.bump)
-    });
+    let changes = model.changes.iter().map(|c| line!(c, bump));
     let last = format!("{:?} {:?}", model.result, model.bump);
     sorted(changes.collect(), last)
 }
 
+/// The changes sorted, for `check` fixes no order, then result and bump.
 fn sorted(mut lines: Vec<String>, last: String) -> Vec<String> {
     lines.sort();
     lines.push(last);

@@ -1,0 +1,107 @@
+//! The file of recorded answers: its form, that nothing else passes for it, and
+//! that a changed answer is seen.
+
+use super::Tests;
+use crate::answer::judge;
+use crate::answers::{read, write, Recorded};
+use crate::cases;
+use crate::coverage::Coverage;
+use crate::record::{again, SEED};
+
+fn recorded(name: &str, old: &[u8], new: &[u8]) -> Recorded {
+    Recorded::of(name, old, new, &judge(old, new).answer)
+}
+
+/// A verdict with a report, and a refusal.
+fn two() -> Vec<Recorded> {
+    let empty = [1, 0, 0, 0, 0, 0, 0, 0];
+    let segment = [1, 0, 0, 0, 0, 0, 1, 0, 1, b'a'];
+    vec![
+        recorded("verdict", &empty, &segment),
+        recorded("refusal", &[7], &segment),
+    ]
+}
+
+pub fn run(tests: &mut Tests) {
+    form(tests);
+    strictness(tests);
+    names(tests);
+    answers(tests);
+    generator(tests);
+}
+
+fn form(tests: &mut Tests) {
+    let file = write(&two()[1..]);
+    let mut wanted = b"VEXANSW1".to_vec();
+    for number in [1u32, 18, 7, 10, 0] {
+        wanted.extend(number.to_le_bytes());
+    }
+    wanted.extend(b"\x07refusal\x01\0\0\0\x07\x0a\0\0\0\x01\0\0\0\0\0\x01\0\x01a");
+    wanted.extend([2, 1, 2, 1]);
+    wanted.extend([0; 4 + 4 * 18]);
+    tests.equal("the form of a refusal", file, wanted);
+    let list = two();
+    tests.equal("what is written is read", read(&write(&list)), Ok(list));
+}
+
+fn strictness(tests: &mut Tests) {
+    let file = write(&two());
+    let cut = (0..file.len()).all(|length| read(&file[..length]).is_err());
+    tests.holds("a file cut at any length is no file", cut);
+    let mut longer = file.clone();
+    longer.push(0);
+    tests.holds("nor is one with a byte after it", read(&longer).is_err());
+    let changed = (0..28).filter(|place| {
+        let mut file = file.clone();
+        file[*place] ^= 1;
+        read(&file).is_err()
+    });
+    tests.equal("every byte of the head counts", changed.count(), 28);
+}
+
+fn names(tests: &mut Tests) {
+    let named = |name: &str| {
+        let mut list = two();
+        list[0].name = name.to_string();
+        read(&write(&list))
+    };
+    tests.holds("a name", named("a b,c").is_ok());
+    tests.holds("no name", named("").is_err());
+    tests.holds("a name with a line's end", named("a\n").is_err());
+    tests.holds("a name beyond ASCII", named("\u{e9}").is_err());
+    tests.holds("a name twice", named("refusal").is_err());
+}
+
+fn answers(tests: &mut Tests) {
+    for recorded in two() {
+        tests.equal("an answer is found again", again(&recorded), None);
+        let seen = (0..recorded.verdict.len()).all(|selector| {
+            let mut changed = recorded.clone();
+            changed.verdict[selector] ^= 1;
+            again(&changed).is_some()
+        });
+        tests.holds("a change in any selector is seen", seen);
+        let seen = (0..recorded.report.len()).all(|place| {
+            let mut changed = recorded.clone();
+            changed.report[place] ^= 1;
+            again(&changed).is_some()
+        });
+        tests.holds("a change in any byte of the report is seen", seen);
+        let mut longer = recorded.clone();
+        longer.report.push(b'x');
+        tests.holds("a longer report is seen", again(&longer).is_some());
+    }
+}
+
+fn generator(tests: &mut Tests) {
+    let bytes = |seed| -> Vec<(String, Vec<u8>, Vec<u8>)> {
+        let list = cases::all(seed).into_iter();
+        list.map(|case| (case.name, case.old, case.new)).collect()
+    };
+    let cases = bytes(SEED);
+    tests.holds("one seed, the same cases", cases == bytes(SEED));
+    tests.holds("another seed, other cases", cases != bytes(SEED + 1));
+    tests.holds("3,000 cases or more", cases.len() >= 3_000);
+    let nothing = Coverage::default().missing().len();
+    tests.holds("no case covers no row", nothing > 1_000);
+}
