@@ -83,31 +83,40 @@ pub struct Pair {
 
 /// Judges two images. With number 0 the real `check` has been run and agreed,
 /// or else the program has stopped.
-pub fn judge(old: &[u8], new: &[u8]) -> Pair {
-    let (old, new) = (read_image(old), read_image(new));
+pub fn judge(old_image: &[u8], new_image: &[u8]) -> Pair {
+    let (old, new) = (read_image(old_image), read_image(new_image));
     let answer = match (&old, &new) {
         (Err(refusal), _) => Answer::refused(refusal.number, Side::Old),
         (_, Err(refusal)) => Answer::refused(refusal.number, Side::New),
-        (Ok(old), Ok(new)) => compare(old, new),
+        (Ok(old), Ok(new)) => compare(old, new).unwrap_or_else(|difference| {
+            eprintln!("the model and the real check differ\n{difference}");
+            eprintln!("old image: {}", hexadecimal(old_image));
+            eprintln!("new image: {}", hexadecimal(new_image));
+            std::process::exit(1)
+        }),
     };
     Pair { old, new, answer }
 }
 
-fn compare(old: &Schema, new: &Schema) -> Answer {
+fn hexadecimal(bytes: &[u8]) -> String {
+    bytes.iter().map(|byte| format!("{byte:02x}")).collect()
+}
+
+/// The answer, or how the model differs from `check`.
+fn compare(old: &Schema, new: &Schema) -> Result<Answer, String> {
     if model::alias_pair(old, new) {
-        return Answer::refused(ALIAS_PAIR, Side::Both);
+        return Ok(Answer::refused(ALIAS_PAIR, Side::Both));
     }
     let comparison = model::check(old, new);
     if let Some(difference) = vexil::difference(old, new, &comparison) {
-        eprintln!("the model and the real check differ\n{difference}");
-        std::process::exit(1);
+        return Err(difference);
     }
-    Answer {
+    Ok(Answer {
         number: 0,
         side: Side::None,
         bump: comparison.bump,
         result: comparison.result,
         counts: comparison.counts(),
         report: comparison.report().into_bytes(),
-    }
+    })
 }

@@ -1,7 +1,7 @@
 //! Large ones: 512 entries and ids, long lists, images of 32,768 bytes, reports
 //! around and over 65,536 bytes.
 
-use super::{ride, Cases};
+use super::Cases;
 use crate::limits::{IMAGE_BYTES, REPORT_BYTES};
 use crate::make::*;
 use crate::model;
@@ -84,44 +84,36 @@ fn filled(mut schema: Schema, length: usize) -> Schema {
     schema
 }
 
+/// Its one listed body, the last of the image, renames the field of `ride`.
+fn full(length: usize) -> Vec<u8> {
+    let pace = field(0, "pace", primitive(2));
+    let mut schema = filled(schema(vec![message("Drive", vec![pace])]), length);
+    schema.registry.rotate_left(1);
+    schema.declarations = vec![schema.registry.len() as u32 - 1];
+    image(&schema)
+}
+
 fn full_images(cases: &mut Cases) {
-    let speed = |code| {
-        schema(vec![message(
-            "Drive",
-            vec![field(0, "speed", primitive(code))],
-        )])
-    };
-    let full = image(&filled(speed(2), IMAGE_BYTES));
-    let over = image(&filled(speed(2), IMAGE_BYTES + 1));
-    let under = image(&filled(speed(2), IMAGE_BYTES - 1));
-    cases.beside_ride("32,768 bytes", full);
+    cases.beside_ride("32,768 bytes", full(IMAGE_BYTES));
+    let over = full(IMAGE_BYTES + 1);
     cases.beside_ride("32,769 bytes, whole but for the length", over);
-    cases.bytes("32,767 bytes", under, ride());
-    let many = |code: u8| {
-        let of = |n| field(n, "f", primitive(code));
-        let fields = (0..2_700).map(|n| {
-            if n == 2_699 {
-                of(n)
-            } else {
-                field(n, "f", primitive(0))
-            }
-        });
+    let fields = |last: u8| {
+        let code = |n| if n == 2_699 { last } else { 0 };
+        let fields = (0..2_700).map(|n| field(n, "f", primitive(code(n))));
         filled(schema(vec![message("M", fields.collect())]), IMAGE_BYTES)
     };
     cases.pair(
         "2,700 fields in 32,768 bytes, the last differs",
-        &many(1),
-        &many(2),
+        &fields(1),
+        &fields(2),
     );
-    let bits_of = |last: &str| {
-        let names: Vec<String> = (0..128)
-            .map(|n| format!("{n}{}", "b".repeat(250)))
-            .collect();
-        let mut names: Vec<&str> = names.iter().map(String::as_str).collect();
-        names.push(last);
+    let one_type = || {
+        let names = (0..128).map(|n| format!("{n}{}", "b".repeat(250)));
+        let names: Vec<String> = names.collect();
+        let names: Vec<&str> = names.iter().map(String::as_str).collect();
         filled(schema(vec![newtype("N", bits(&names))]), IMAGE_BYTES)
     };
-    cases.pair("one type in 32,768 bytes", &bits_of("a"), &bits_of("a"));
+    cases.pair("one type in 32,768 bytes", &one_type(), &one_type());
 }
 
 /// Variants of a long-named enum are gone, and a namespace whose length makes up
@@ -145,4 +137,10 @@ fn long_reports(cases: &mut Cases) {
         let (old, new) = reporting(length);
         cases.pair(&format!("report of {length} bytes"), &old, &new);
     }
+    let (mut old, mut new) = reporting(REPORT_BYTES + 1);
+    for schema in [&mut old, &mut new] {
+        schema.registry.push(Some(alias("A")));
+        schema.declarations.push(1);
+    }
+    cases.pair("11 before 12", &old, &new);
 }

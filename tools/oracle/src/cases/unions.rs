@@ -2,11 +2,12 @@
 
 use super::Cases;
 use crate::make::*;
-use crate::schema::Variant;
+use crate::schema::{Field, Variant};
 
 pub fn add(cases: &mut Cases) {
     variants(cases);
     renamed(cases);
+    alike(cases);
     lists(cases);
 }
 
@@ -69,6 +70,32 @@ fn renamed(cases: &mut Cases) {
         long("v", 1),
         long("v", 2),
     );
+}
+
+/// Changes that are alike in every member, each of which counts.
+fn alike(cases: &mut Cases) {
+    let fields = |marks| -> Vec<Field> {
+        let of = |n| field(n, "f", primitive(2)).marked(marks);
+        (0..4).map(of).collect()
+    };
+    cases.fields("fields of one name deprecated", fields(0), fields(1));
+    let old = || {
+        let gone = field(0, "a", primitive(1));
+        vec![
+            gone,
+            field(1, "b", primitive(1)),
+            field(2, "b", primitive(1)),
+        ]
+    };
+    let new = || {
+        let changed = |n| field(n, "c", primitive(2)).marked(1).limited(1);
+        vec![changed(1), changed(2), field(3, "d", primitive(1))]
+    };
+    let of = |list: &dyn Fn() -> Vec<Field>| {
+        let variants = [0, 1, 7].map(|n| variant(n, "v", list()));
+        vec![union("U", variants.to_vec())]
+    };
+    cases.lists("variants of one name changed alike", of(&old), of(&new));
 }
 
 fn lists(cases: &mut Cases) {

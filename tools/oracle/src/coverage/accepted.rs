@@ -3,7 +3,7 @@
 use super::{Facts, Rows};
 use crate::answer::Pair;
 use crate::cases::Case;
-use crate::limits::{DELTAS, IMAGE_BYTES, NODES};
+use crate::limits::{DELTAS, HEAD_BYTES, IMAGE_BYTES, NODES};
 use crate::schema::*;
 
 pub fn facts(facts: &mut Facts, case: &Case, pair: &Pair) {
@@ -26,6 +26,9 @@ fn of_image(facts: &mut Facts, image: &[u8], schema: &Schema, side: &str) {
     fact(format!("N {n}"));
     fact(format!("M {m}"));
     fact(format!("S {s}"));
+    if schema.declarations.iter().any(|id| far(image, schema, *id)) {
+        fact("listed body behind 32,000 bytes".to_string());
+    }
     if schema.registry.iter().all(Option::is_none) {
         let last = match (n, m, s) {
             (0, 0, 0) => "head",
@@ -46,6 +49,12 @@ fn of_image(facts: &mut Facts, image: &[u8], schema: &Schema, side: &str) {
     for declaration in schema.registry.iter().flatten() {
         of_declaration(&mut fact, declaration);
     }
+}
+
+/// Whether the id's body stands near the end of the largest image.
+fn far(image: &[u8], schema: &Schema, id: u32) -> bool {
+    let at = HEAD_BYTES + 4 * id as usize;
+    schema.get(id).is_some() && u16::from_le_bytes([image[at], image[at + 1]]) > 32_000
 }
 
 fn of_declaration(fact: &mut impl FnMut(String), declaration: &Declaration) {
@@ -108,6 +117,7 @@ pub fn rows(rows: &mut Rows) {
     let mut each = |text: String| rows.sides(|side| format!("accepted {side}: {text}"));
     each(format!("{IMAGE_BYTES} bytes"));
     each("8 bytes".to_string());
+    each("listed body behind 32,000 bytes".to_string());
     for text in ["N 512", "M 512", "N 0", "M 0"] {
         each(text.to_string());
     }

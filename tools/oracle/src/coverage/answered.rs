@@ -11,6 +11,16 @@ const TOO_LONG: &str = "refused 12 Both from a buffer of 65,536 bytes";
 /// How many kinds of change stand in one report.
 const TOGETHER: [usize; 5] = [2, 4, 6, 8, 15];
 
+/// Variants, and for deprecation fields, of one name can report the same line.
+const CAN_REPEAT: [ChangeKind; 6] = [
+    ChangeKind::FieldAdded,
+    ChangeKind::FieldRemoved,
+    ChangeKind::FieldTypeChanged,
+    ChangeKind::FieldRenamed,
+    ChangeKind::FieldDeprecated,
+    ChangeKind::FieldEncodingChanged,
+];
+
 pub fn facts(facts: &mut Facts, pair: &Pair) {
     let answer = &pair.answer;
     if let (Err(old), Err(new)) = (&pair.old, &pair.new) {
@@ -48,10 +58,12 @@ fn lines(facts: &mut Facts, pair: &Pair) {
     facts.add_if(printed.number == FULL, TOO_LONG);
     let lines: Vec<&str> = report.lines().collect();
     let (last, changes) = lines.split_last().expect("a report has its last line");
-    for line in changes {
+    for (place, line) in changes.iter().enumerate() {
         let (kind, rest) = line.split_once(';').unwrap_or_default();
         let (bump, _) = rest.split_once(';').unwrap_or_default();
         facts.add(format!("line {kind};{bump}"));
+        let again = changes[..place].contains(line);
+        facts.add_if(again, format!("one line twice: {kind}"));
     }
     let (start, number) = last.rsplit_once(';').unwrap_or_default();
     facts.add(format!("last line {start}"));
@@ -85,6 +97,9 @@ fn changes(rows: &mut Rows) {
     rows.one("a count over 255");
     rows.one("line VariantAdded;Minor");
     rows.one("line VariantAdded;Major");
+    for kind in CAN_REPEAT {
+        rows.one(format!("one line twice: {kind:?}"));
+    }
     for least in TOGETHER {
         rows.one(format!("{least} kinds of change together"));
     }
