@@ -121,9 +121,6 @@ fn read_encoding(body: &mut Cursor) -> Read<Encoding> {
 
 /// `node` is this node's place on its path from the root, from 1 on.
 fn read_type(body: &mut Cursor, node: usize) -> Read<Type> {
-    if node > NODES {
-        return Err(Refusal::new(DEEP, "node", node as u64));
-    }
     let tag = read_code(body, "tag", 0..=16)?;
     let label = match tag {
         0 => Label::Primitive(read_code(body, "primitive", 0..=13)?),
@@ -142,7 +139,15 @@ fn read_type(body: &mut Cursor, node: usize) -> Read<Type> {
         _ => Label::Wrapper(tag),
     };
     let inner = (0..inner_types(tag))
-        .map(|_| read_type(body, node + 1))
+        .map(|_| read_inner(body, tag, node + 1))
         .collect::<Read<_>>()?;
     Ok(Type { label, inner })
+}
+
+/// A node too many is refused before its tag is read.
+fn read_inner(body: &mut Cursor, outer: u8, node: usize) -> Read<Type> {
+    if node > NODES {
+        return Err(Refusal::new(DEEP, "node under tag", u64::from(outer)));
+    }
+    read_type(body, node)
 }

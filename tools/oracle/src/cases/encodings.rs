@@ -2,7 +2,7 @@
 
 use super::Cases;
 use crate::make::*;
-use crate::schema::{Declaration, Encoding, Field};
+use crate::schema::{Declaration, Encoding, Field, Item};
 
 pub fn add(cases: &mut Cases) {
     encodings(cases);
@@ -119,7 +119,7 @@ fn fields_at(list: &[u32], name: &str) -> Vec<Field> {
     list.iter().map(of).collect()
 }
 
-fn items_at(list: &[u32], name: &str) -> Vec<crate::schema::Item> {
+fn items_at(list: &[u32], name: &str) -> Vec<Item> {
     list.iter().map(|n| item(*n, name)).collect()
 }
 

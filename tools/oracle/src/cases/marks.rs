@@ -3,7 +3,7 @@
 
 use super::Cases;
 use crate::make::*;
-use crate::schema::Declaration;
+use crate::schema::{Declaration, Field};
 
 pub fn add(cases: &mut Cases) {
     let marked: [(&str, fn(u8) -> Declaration); 4] = [
@@ -24,7 +24,7 @@ pub fn add(cases: &mut Cases) {
     everything(cases);
 }
 
-fn one_field(marks: u8) -> crate::schema::Field {
+fn one_field(marks: u8) -> Field {
     field(0, "f", primitive(2)).marked(marks)
 }
 

@@ -23,6 +23,7 @@ pub fn facts(facts: &mut Facts, old: &Schema, new: &Schema) {
         let kind = KIND_NAMES[usize::from(declaration.kind())];
         facts.add_if(!o.contains_key(name), format!("{kind} added"));
     }
+    aliases(facts, old, new);
     for (_, one, other) in kept(&o, &n) {
         let (from, to) = (one.kind(), other.kind());
         if from == to {
@@ -31,6 +32,34 @@ pub fn facts(facts: &mut Facts, old: &Schema, new: &Schema) {
         } else {
             facts.add(format!("kind {from} to {to}"));
         }
+    }
+}
+
+/// Aliases of one name in both images that make no alias pair.
+fn aliases(facts: &mut Facts, old: &Schema, new: &Schema) {
+    for name in registry_aliases(old) {
+        if !registry_aliases(new).any(|other| other == name) {
+            continue;
+        }
+        let (o, n) = (alias_place(old, name), alias_place(new, name));
+        facts.add(format!("alias {o} in old, {n} in new"));
+    }
+}
+
+fn registry_aliases(schema: &Schema) -> impl Iterator<Item = &str> {
+    let entries = schema.registry.iter().flatten();
+    let aliases = entries.filter(|d| d.kind() == GENERIC_ALIAS);
+    aliases.map(|d| d.name.as_str())
+}
+
+/// What has become of an image's alias of this name.
+fn alias_place(schema: &Schema, name: &str) -> &'static str {
+    let alias = |d: &Declaration| d.name == name && d.kind() == GENERIC_ALIAS;
+    let mut listed = schema.declarations.iter().filter_map(|id| schema.get(*id));
+    match surviving_declarations(schema).get(name) {
+        Some(standing) if alias(standing) => "standing",
+        _ if listed.any(alias) => "hidden",
+        _ => "not listed",
     }
 }
 
@@ -122,6 +151,12 @@ pub fn rows(rows: &mut Rows) {
         }
     }
     rows.never("generic_alias kept");
+    rows.never("alias standing in old, standing in new");
+    for place in ["hidden", "not listed"] {
+        rows.one(format!("alias standing in old, {place} in new"));
+        rows.one(format!("alias {place} in old, standing in new"));
+        rows.one(format!("alias {place} in old, {place} in new"));
+    }
     for place in ["message", "enum", "field", "variant's field"] {
         for (old, new) in (0..16).map(|n| (n / 4, n % 4)) {
             rows.one(format!("{place} marks {old} to {new}"));

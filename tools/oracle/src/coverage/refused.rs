@@ -197,12 +197,13 @@ fn codes(rows: &mut Rows) {
         "newtype: tag",
     ];
     places(rows, 9, &elsewhere);
-    values(rows, 10, "node", &[33]);
+    let outer: Vec<u64> = (4..=15).collect();
+    values(rows, 10, "node under tag", &outer);
     values(rows, 10, "delta", &[9]);
     let deep = [
-        "message: node",
-        "union: node",
-        "newtype: node",
+        "message: node under tag",
+        "union: node under tag",
+        "newtype: node under tag",
         "message: delta",
         "union: delta",
     ];

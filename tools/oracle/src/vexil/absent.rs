@@ -9,6 +9,7 @@ pub fn difference(_old: &Schema, _new: &Schema, _model: &Comparison) -> Option<S
     None
 }
 
+/// Nothing is run, so nothing panics; a test that asked would fail.
 pub fn panics(_old: &Schema, _new: &Schema) -> bool {
-    true
+    false
 }
