@@ -13,7 +13,7 @@ import checks
 
 ROOT = Path(__file__).resolve().parents[2]
 ORACLE = ROOT / "target" / "oracle" / "oracle"
-ANSWERS = ROOT / "tools" / "oracle" / "answers.bin"
+ANSWERS = ROOT / "crates" / "replay" / "data" / "answers.bin"
 SUMMARY = re.compile(r"^(\d+) passed, (\d+) failed$")
 
 
@@ -100,7 +100,9 @@ def oracle(gate: Gate):
     gate.suite("oracle selftest", ORACLE, "selftest")
     gate.command("oracle verify", ORACLE, "verify", ANSWERS)
     again = ROOT / "target" / "oracle" / "answers.bin"
-    gate.command("oracle generate", ORACLE, "generate", again)
+    made = gate.command("oracle generate", ORACLE, "generate", again)
+    pairs, replayed = made[-1].split()[0], (ROOT / "crates" / "replay" / "stdout").read_text().split()[1]
+    gate.count(pairs == replayed, [] if pairs == replayed else [f"{pairs} pairs are generated and {replayed} replayed"])
     gate.command("the recorded answers are what the generator writes", "cmp", again, ANSWERS)
 
 

@@ -1,7 +1,7 @@
 //! The file of recorded answers: written, and read strictly. README.md gives its
 //! form.
 
-use crate::answer::{Answer, SELECTORS};
+use crate::answer::{Pair, SELECTORS};
 use crate::changes::COUNTS;
 use std::collections::BTreeSet;
 
@@ -13,6 +13,8 @@ pub struct Recorded {
     pub name: String,
     pub old: Vec<u8>,
     pub new: Vec<u8>,
+    /// The number that reading each image gives, old and new: 0 if it is accepted.
+    pub readings: [u8; 2],
     /// By selector.
     pub verdict: Vec<u64>,
     /// With number 0 only.
@@ -20,11 +22,14 @@ pub struct Recorded {
 }
 
 impl Recorded {
-    pub fn of(name: &str, old: &[u8], new: &[u8], answer: &Answer) -> Recorded {
+    pub fn of(name: &str, old: &[u8], new: &[u8], pair: &Pair) -> Recorded {
+        let answer = &pair.answer;
         Recorded {
             name: name.to_string(),
             old: old.to_vec(),
             new: new.to_vec(),
+            readings: [&pair.old, &pair.new]
+                .map(|image| image.as_ref().err().map_or(0, |refusal| refusal.number)),
             verdict: (0..SELECTORS).map(|n| answer.select(n)).collect(),
             report: answer.report.clone(),
         }
@@ -54,6 +59,7 @@ pub fn write(list: &[Recorded]) -> Vec<u8> {
             file.extend(number(image.len()));
             file.extend(image);
         }
+        file.extend(pair.readings);
         file.extend(pair.verdict[..4].iter().map(|n| *n as u8));
         file.extend(pair.verdict[4..].iter().flat_map(|n| number(*n as usize)));
         file.extend(&pair.report);
@@ -93,6 +99,7 @@ impl<'a> File<'a> {
             Ok::<_, String>(self.take(length)?.to_vec())
         };
         let (old, new) = (image()?, image()?);
+        let readings = [self.u8()?, self.u8()?];
         let mut verdict = Vec::new();
         for selector in 0..SELECTORS {
             verdict.push(match selector {
@@ -108,6 +115,7 @@ impl<'a> File<'a> {
             name: name.iter().map(|b| char::from(*b)).collect(),
             old,
             new,
+            readings,
             verdict,
             report,
         })

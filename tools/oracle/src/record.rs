@@ -17,7 +17,7 @@ pub fn generate(path: &str, seed: u64) -> Outcome {
     for case in cases::all(seed) {
         let pair = judge(&case.old, &case.new);
         coverage.see(&case, &pair);
-        list.push(Recorded::of(&case.name, &case.old, &case.new, &pair.answer));
+        list.push(Recorded::of(&case.name, &case.old, &case.new, &pair));
     }
     coverage.print();
     let missing = coverage.missing();
@@ -53,14 +53,18 @@ pub fn verify(path: &str) -> Outcome {
 
 /// Judges a recorded pair again and says in what its answer differs.
 pub fn again(recorded: &Recorded) -> Option<String> {
-    let answer = judge(&recorded.old, &recorded.new).answer;
-    let found = Recorded::of(&recorded.name, &recorded.old, &recorded.new, &answer);
+    let pair = judge(&recorded.old, &recorded.new);
+    let found = Recorded::of(&recorded.name, &recorded.old, &recorded.new, &pair);
     let verdicts = recorded.verdict.iter().zip(&found.verdict);
     let mut parts: Vec<String> = verdicts
         .enumerate()
         .filter(|(_, (recorded, found))| recorded != found)
         .map(|(n, (recorded, found))| format!("selector {n} recorded {recorded}, found {found}"))
         .collect();
+    if recorded.readings != found.readings {
+        let (recorded, found) = (recorded.readings, found.readings);
+        parts.push(format!("readings recorded {recorded:?}, found {found:?}"));
+    }
     if recorded.report != found.report {
         parts.push("the report differs".to_string());
     }

@@ -9,7 +9,7 @@ use crate::coverage::Coverage;
 use crate::record::{again, SEED};
 
 fn recorded(name: &str, old: &[u8], new: &[u8]) -> Recorded {
-    Recorded::of(name, old, new, &judge(old, new).answer)
+    Recorded::of(name, old, new, &judge(old, new))
 }
 
 /// A verdict with a report, and a refusal.
@@ -37,6 +37,7 @@ fn form(tests: &mut Tests) {
         wanted.extend(number.to_le_bytes());
     }
     wanted.extend(b"\x07refusal\x01\0\0\0\x07\x0a\0\0\0\x01\0\0\0\0\0\x01\0\x01a");
+    wanted.extend([2, 0]);
     wanted.extend([2, 1, 2, 1]);
     wanted.extend([0; 4 + 4 * 18]);
     tests.equal("the form of a refusal", file, wanted);
@@ -81,6 +82,12 @@ fn answers(tests: &mut Tests) {
             again(&changed).is_some()
         });
         tests.holds("a change in any selector is seen", seen);
+        let seen = (0..2).all(|image| {
+            let mut changed = recorded.clone();
+            changed.readings[image] ^= 1;
+            again(&changed).is_some()
+        });
+        tests.holds("a change in a reading is seen", seen);
         let seen = (0..recorded.report.len()).all(|place| {
             let mut changed = recorded.clone();
             changed.report[place] ^= 1;
