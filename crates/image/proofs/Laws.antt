@@ -1,5 +1,7 @@
--- Answers: how one read follows another. Sure: what holds of every answer. Repeats: so many of a kind. Good: values that were read.
--- Numbers, Names, Types, Fields, Bodies, Contents: each part of the format.
+-- What the proofs of the reader's functions cite, and the crates above may.
+-- Answers: how one read follows another, and the public answer. Sure: what holds of every value that is read. Good: values that were
+-- read, part by part. Repeats: so many of a kind.
+-- Numbers, Names, Types, Fields, Bodies, Contents: each part of the format, case by case. Trees: well-formed labels and types.
 pub mod Answers
 pub mod Sure
 pub mod Good

@@ -4,7 +4,7 @@ use crate::bodies::read_body;
 use crate::names::read_names;
 use crate::numbers::u16_at;
 ghost use mathlib.Core.Path.{_≡_};
-ghost use mathlib.Core.Bool.{Bool, true};
+ghost use mathlib.Core.Bool.{true};
 ghost use Prim.Native.Nat.{_+_, _*_, _≤_, _<_};
 ghost use lib.ListN.{length};
 ghost use Rattle.image.specs.Image.{entryCount, idCount, segmentCount, entryOffset, entryLength, headOf, tablesOf, laid, entryOf, entriesOf, readImage};
@@ -143,7 +143,7 @@ fn read_entries(s: &[u8], n: usize, from: usize) -> Read
 }
 
 // A whole image.
-pub fn read_whole(s: &[u8]) -> Read
+pub(crate) fn read_whole(s: &[u8]) -> Read
     ensures { λ r. ⌜ r ≡ skip (readImage (now (s .entry))) ⌝ }
 {
     let head = read_head(s);

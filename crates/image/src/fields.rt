@@ -11,14 +11,14 @@ ghost use Rattle.image.specs.Fields.{marksAt, encodingAt, limitAt, field
 ghost use Rattle.image.specs.Answer.{skip};
 
 // Bit 0 deprecated, bit 1 non-exhaustive, others 0.
-pub fn read_marks(s: &[u8], at: usize) -> Read
+pub(crate) fn read_marks(s: &[u8], at: usize) -> Read
     ensures { λ r. ⌜ r ≡ skip (marksAt (now (s .entry)) at) ⌝ }
 {
     read_code(s, at, 0, 3)
 }
 
 // 0 default, 1 varint, 2 zigzag, 3 delta and an inner encoding; at most eight deltas.
-pub fn read_encoding(s: &[u8], at: usize) -> Read
+pub(crate) fn read_encoding(s: &[u8], at: usize) -> Read
     ensures { λ r. ⌜ r ≡ skip (encodingAt (now (s .entry)) at) ⌝ }
 {
     let mut next = at;
@@ -40,7 +40,7 @@ pub fn read_encoding(s: &[u8], at: usize) -> Read
 }
 
 // A byte 0, or a byte 1 and the limit's eight bytes.
-pub fn read_limit(s: &[u8], at: usize) -> Read
+pub(crate) fn read_limit(s: &[u8], at: usize) -> Read
     ensures { λ r. ⌜ r ≡ skip (limitAt (now (s .entry)) at) ⌝ }
 {
     let step = read_code(s, at, 0, 1);
@@ -54,7 +54,7 @@ pub fn read_limit(s: &[u8], at: usize) -> Read
 }
 
 // A variant of an enum or a bit of flags: ordinal and name. Every other item starts so too.
-pub fn read_bare(s: &[u8], at: usize) -> Read
+pub(crate) fn read_bare(s: &[u8], at: usize) -> Read
     ensures { λ r. ⌜ r ≡ skip (bareAt (now (s .entry)) at) ⌝ }
 {
     let ordinal = read_number(s, at, 4);
@@ -65,7 +65,7 @@ pub fn read_bare(s: &[u8], at: usize) -> Read
 }
 
 // A field: ordinal, name, marks, encoding, limit, type.
-pub fn read_field(s: &[u8], at: usize) -> Read
+pub(crate) fn read_field(s: &[u8], at: usize) -> Read
     ensures { λ r. ⌜ r ≡ skip (fieldAt (now (s .entry)) at) ⌝ }
 {
     let bare = read_bare(s, at);
@@ -88,7 +88,7 @@ pub fn read_field(s: &[u8], at: usize) -> Read
 }
 
 // A count and as many fields.
-pub fn read_fields(s: &[u8], at: usize) -> Read
+pub(crate) fn read_fields(s: &[u8], at: usize) -> Read
     ensures { λ r. ⌜ r ≡ skip (counted fieldAt (now (s .entry)) at) ⌝ }
 {
     let count = read_number(s, at, 2);
@@ -109,7 +109,7 @@ pub fn read_fields(s: &[u8], at: usize) -> Read
 }
 
 // A count and as many variants of an enum or bits of flags.
-pub fn read_bares(s: &[u8], at: usize) -> Read
+pub(crate) fn read_bares(s: &[u8], at: usize) -> Read
     ensures { λ r. ⌜ r ≡ skip (counted bareAt (now (s .entry)) at) ⌝ }
 {
     let count = read_number(s, at, 2);
@@ -130,7 +130,7 @@ pub fn read_bares(s: &[u8], at: usize) -> Read
 }
 
 // A variant of a union: ordinal, name and fields.
-pub fn read_variant(s: &[u8], at: usize) -> Read
+pub(crate) fn read_variant(s: &[u8], at: usize) -> Read
     ensures { λ r. ⌜ r ≡ skip (variantAt (now (s .entry)) at) ⌝ }
 {
     let bare = read_bare(s, at);
@@ -141,7 +141,7 @@ pub fn read_variant(s: &[u8], at: usize) -> Read
 }
 
 // A count and as many variants of a union.
-pub fn read_variants(s: &[u8], at: usize) -> Read
+pub(crate) fn read_variants(s: &[u8], at: usize) -> Read
     ensures { λ r. ⌜ r ≡ skip (counted variantAt (now (s .entry)) at) ⌝ }
 {
     let count = read_number(s, at, 2);

@@ -1,9 +1,9 @@
 // The reader of images: what document 01 says of every list of bytes. Each read answers the position after what it read, or the
 // number of the first refusal, which the reads above it return unchanged.
-pub mod bodies;
+mod bodies;
 pub mod contents;
-pub mod fields;
-pub mod names;
+mod fields;
+mod names;
 pub mod numbers;
 pub mod types;
 

@@ -1,11 +1,10 @@
 // Names: a length and as many letters, digits or `_`.
 use crate::Read;
 ghost use mathlib.Core.Path.{_≡_};
-ghost use mathlib.Core.Bool.{Bool};
 ghost use Rattle.image.specs.Names.{nameByte, nameAt, namesAt};
 ghost use Rattle.image.specs.Answer.{skip};
 
-pub fn is_name_byte(b: u8) -> bool
+pub(crate) fn is_name_byte(b: u8) -> bool
     ensures { λ r. ⌜ r ≡ nameByte b ⌝ }
 {
     if 97 <= b {
@@ -24,7 +23,7 @@ pub fn is_name_byte(b: u8) -> bool
 }
 
 // The length is judged before the bytes. short is the refusal where the list ends before the name does.
-pub fn read_name(s: &[u8], at: usize, short: u8) -> Read
+pub(crate) fn read_name(s: &[u8], at: usize, short: u8) -> Read
     ensures { λ r. ⌜ r ≡ skip (nameAt short (now (s .entry)) at) ⌝ }
 {
     if s.len() <= at {
@@ -47,7 +46,7 @@ pub fn read_name(s: &[u8], at: usize, short: u8) -> Read
 }
 
 // So many names, one after the other.
-pub fn read_names(s: &[u8], at: usize, count: usize, short: u8) -> Read
+pub(crate) fn read_names(s: &[u8], at: usize, count: usize, short: u8) -> Read
     ensures { λ r. ⌜ r ≡ skip (namesAt short count (now (s .entry)) at) ⌝ }
 {
     let mut next = at;

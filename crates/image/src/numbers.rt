@@ -6,7 +6,7 @@ ghost use lib.ListN.{length, drop};
 ghost use Rattle.image.specs.Parse.{byteAt, codeAt, numberAt, littleEndian};
 ghost use Rattle.image.specs.Answer.{skip};
 
-pub fn read_byte(s: &[u8], at: usize) -> Read
+pub(crate) fn read_byte(s: &[u8], at: usize) -> Read
     ensures { λ r. ⌜ r ≡ skip (byteAt 8 (now (s .entry)) at) ⌝ }
 {
     if s.len() <= at {
@@ -16,7 +16,7 @@ pub fn read_byte(s: &[u8], at: usize) -> Read
 }
 
 // A coded byte from lo to hi.
-pub fn read_code(s: &[u8], at: usize, lo: u8, hi: u8) -> Read
+pub(crate) fn read_code(s: &[u8], at: usize, lo: u8, hi: u8) -> Read
     ensures { λ r. ⌜ r ≡ skip (codeAt lo hi (now (s .entry)) at) ⌝ }
 {
     if s.len() <= at {
@@ -33,7 +33,7 @@ pub fn read_code(s: &[u8], at: usize, lo: u8, hi: u8) -> Read
 }
 
 // The bytes of a number, w of them.
-pub fn read_number(s: &[u8], at: usize, w: usize) -> Read
+pub(crate) fn read_number(s: &[u8], at: usize, w: usize) -> Read
     ensures { λ r. ⌜ r ≡ skip (numberAt w (now (s .entry)) at) ⌝ }
 {
     if s.len() < at {

@@ -42,12 +42,14 @@ got {A} {p} {x} {n} h e = go p e
     go (no k) e = apart (sym h ∙ e)
 
 -- so what follows it is what f says of every value at n
-pub next : {A B : Type 0} {p : Parsed A} (f : A → ℕ → Parsed B) {r : Read} {n : ℕ} → Got p n → ((a : A) → r ≡ skip (f a n)) → r ≡ skip (bind p f)
+pub next : {A B : Type 0} {p : Parsed A} (f : A → ℕ → Parsed B) {r : Read} {n : ℕ} → Got p n → ((a : A) → r ≡ skip (f a n))
+    → r ≡ skip (bind p f)
 unfolding bind
 next f g h = rw (g .is) (h (g .value))
 
 -- or what it says of the one value that it can be
-pub next-is : {A B : Type 0} {p : Parsed A} (f : A → ℕ → Parsed B) {r : Read} {a : A} {n : ℕ} → p ≡ ok a n → r ≡ skip (f a n) → r ≡ skip (bind p f)
+pub next-is : {A B : Type 0} {p : Parsed A} (f : A → ℕ → Parsed B) {r : Read} {a : A} {n : ℕ} → p ≡ ok a n → r ≡ skip (f a n)
+    → r ≡ skip (bind p f)
 unfolding bind
 next-is f e h = rw e h
 

@@ -8,7 +8,7 @@ use native.Mathlib.Nat.{add-sub-cancel-left}
 use borrow.Author.Tests.{eq-eqb, ne-eqb, le-leb, lt-leb, eqb-true, leb-true}
 use lib.ListN.{length, take, drop}
 use lib.Dec.{eqb, leb}
-use Rattle.image.specs.Parse.{part, pick}
+use Rattle.image.specs.Parse.{ok, no, part, pick}
 use Rattle.image.specs.Names.{namesAt}
 use Rattle.image.specs.Bodies.{bodyOf}
 use Rattle.image.specs.Image.{format, entryCount, idCount, segmentCount, entryOffset, entryLength, idsAt, segmentsAt, headOf, tablesOf, laid, entryOf, entriesOf, readImage}
@@ -24,40 +24,40 @@ module _ (s : List ℕ) where
   unfolding headOf pick skip
   head-long h = rw (lt-leb (length s) 32768 h)
 
-  module _ (a : length s ≤ 32768) where
-    pub head-short : length s < 8 → Refused 2 ≡ skip (headOf s)
-    unfolding headOf pick skip
-    head-short h = rw (le-leb (length s) 32768 a, lt-leb 8 (length s) h)
+  pub head-short : length s ≤ 32768 → length s < 8 → Refused 2 ≡ skip (headOf s)
+  unfolding headOf pick skip
+  head-short a h = rw (le-leb (length s) 32768 a, lt-leb 8 (length s) h)
 
-    module _ (b : 8 ≤ length s) where
-      pub head-format : (format s ≡ 1 → ⊥) → Refused 3 ≡ skip (headOf s)
-      unfolding headOf pick skip
-      head-format h = rw (le-leb (length s) 32768 a, le-leb 8 (length s) b, ne-eqb (format s) 1 h)
+  pub head-format : length s ≤ 32768 → 8 ≤ length s → (format s ≡ 1 → ⊥) → Refused 3 ≡ skip (headOf s)
+  unfolding headOf pick skip
+  head-format a b h = rw (le-leb (length s) 32768 a, le-leb 8 (length s) b, ne-eqb (format s) 1 h)
 
-      module _ (c : format s ≡ 1) where
-        pub crowded-entries : 512 < entryCount s → Refused 4 ≡ skip (headOf s)
-        unfolding headOf pick skip
-        crowded-entries h = rw (le-leb (length s) 32768 a, le-leb 8 (length s) b, eq-eqb (format s) 1 c, lt-leb (entryCount s) 512 h)
+  -- the tests before the counts
+  pub record Formatted : Type 0 where
+    pub short : length s ≤ 32768
+    pub there : 8 ≤ length s
+    pub one : format s ≡ 1
 
-        module _ (d : entryCount s ≤ 512) where
-          pub crowded-ids : 512 < idCount s → Refused 4 ≡ skip (headOf s)
-          unfolding headOf pick skip
-          crowded-ids h =
-              rw (le-leb (length s) 32768 a, le-leb 8 (length s) b, eq-eqb (format s) 1 c, le-leb (entryCount s) 512 d, lt-leb (idCount s) 512 h)
+  module _ (f : Formatted) where
+    counts : headOf s ≡ pick (leb (entryCount s) 512 && (leb (idCount s) 512 && leb (segmentCount s) 16)) (ok tt 8) (no 4)
+    unfolding headOf pick
+    counts = rw (le-leb (length s) 32768 (f .short), le-leb 8 (length s) (f .there), eq-eqb (format s) 1 (f .one))
 
-          module _ (e : idCount s ≤ 512) where
-            crowded : (q : Bool) → leb (segmentCount s) 16 ≡ q → skip (headOf s) ≡ cond q (At 8) (Refused 4)
-            unfolding headOf pick skip
-            crowded true h =
-                rw (le-leb (length s) 32768 a, le-leb 8 (length s) b, eq-eqb (format s) 1 c, le-leb (entryCount s) 512 d, le-leb (idCount s) 512 e, h)
-            crowded false h =
-                rw (le-leb (length s) 32768 a, le-leb 8 (length s) b, eq-eqb (format s) 1 c, le-leb (entryCount s) 512 d, le-leb (idCount s) 512 e, h)
+    pub crowded-entries : 512 < entryCount s → Refused 4 ≡ skip (headOf s)
+    unfolding pick skip
+    crowded-entries h = rw (counts, lt-leb (entryCount s) 512 h)
 
-            pub crowded-segments : 16 < segmentCount s → Refused 4 ≡ skip (headOf s)
-            crowded-segments h = sym (crowded false (lt-leb (segmentCount s) 16 h))
+    pub crowded-ids : entryCount s ≤ 512 → 512 < idCount s → Refused 4 ≡ skip (headOf s)
+    unfolding pick skip
+    crowded-ids d h = rw (counts, le-leb (entryCount s) 512 d, lt-leb (idCount s) 512 h)
 
-            pub head-good : segmentCount s ≤ 16 → At 8 ≡ skip (headOf s)
-            head-good h = sym (crowded true (le-leb (segmentCount s) 16 h))
+    pub crowded-segments : entryCount s ≤ 512 → idCount s ≤ 512 → 16 < segmentCount s → Refused 4 ≡ skip (headOf s)
+    unfolding pick skip
+    crowded-segments d e h = rw (counts, le-leb (entryCount s) 512 d, le-leb (idCount s) 512 e, lt-leb (segmentCount s) 16 h)
+
+    pub head-good : entryCount s ≤ 512 → idCount s ≤ 512 → segmentCount s ≤ 16 → At 8 ≡ skip (headOf s)
+    unfolding pick skip
+    head-good d e h = rw (counts, le-leb (entryCount s) 512 d, le-leb (idCount s) 512 e, le-leb (segmentCount s) 16 h)
 
 -- a head that was read
 head-sure : (s : List ℕ) → Sure (λ a n. 8 ≤ length s) (headOf s)
@@ -86,7 +86,8 @@ pub tables-within : (s : List ℕ) {x : Read} {n : ℕ} → x ≡ At n → x ≡
 tables-within s h e = sure-at (tables-sure s) h e .2
 
 -- the names after them end within the image
-pub names-within : (s : List ℕ) (c : ℕ) {x y : Read} {n m : ℕ} → x ≡ At n → x ≡ skip (tablesOf s) → y ≡ At m → y ≡ skip (namesAt 2 c s n) → m ≤ length s
+pub names-within : (s : List ℕ) (c : ℕ) {x y : Read} {n m : ℕ} → x ≡ At n → x ≡ skip (tablesOf s) → y ≡ At m → y ≡ skip (namesAt 2 c s n)
+    → m ≤ length s
 names-within s c {n = n} h e h′ e′ = sure-at (names-sure 2 c s n (tables-within s h e .1)) h′ e′ .2
 
 -- whether the bodies of the entries from the i-th of n on lie without gaps
@@ -128,20 +129,31 @@ laid-start n s at =
     rw z
 
 -- a body that is laid lies within the image
-laid-step : (k : ℕ) (s : List ℕ) (i at : ℕ) → laid (suc k) s i at ≡ true → (entryOffset s i + entryLength s i ≤ length s) × (q : ℕ) × (laid k s (i + 1) q ≡ true)
+laid-step : (k : ℕ) (s : List ℕ) (i at : ℕ) → laid (suc k) s i at ≡ true
+    → (entryOffset s i + entryLength s i ≤ length s) × (q : ℕ) × (laid k s (i + 1) q ≡ true)
 unfolding laid
-laid-step k s i at h = go (eqb (entryLength s i) 0) (eqb (entryOffset s i) 0) (eqb (entryOffset s i) at) (leb (at + entryLength s i) (length s)) refl refl refl refl h
+laid-step k s i at h =
+    go (eqb (entryLength s i) 0) (eqb (entryOffset s i) 0) (eqb (entryOffset s i) at) (leb (at + entryLength s i) (length s)) refl refl
+    refl refl h
   where
-    go : (a b c d : Bool) → eqb (entryLength s i) 0 ≡ a → eqb (entryOffset s i) 0 ≡ b → eqb (entryOffset s i) at ≡ c → leb (at + entryLength s i) (length s) ≡ d
+    go : (a b c d : Bool) → eqb (entryLength s i) 0 ≡ a → eqb (entryOffset s i) 0 ≡ b → eqb (entryOffset s i) at ≡ c
+        → leb (at + entryLength s i) (length s) ≡ d
         → cond a (b && laid k s (i + 1) at) (c && (d && laid k s (i + 1) (at + entryLength s i))) ≡ true
         → (entryOffset s i + entryLength s i ≤ length s) × (q : ℕ) × (laid k s (i + 1) q ≡ true)
-    go true true c d ea eb ec ed h = ((let x = eqb-true (entryLength s i) 0 ea in let y = eqb-true (entryOffset s i) 0 eb in omega arith), at, h)
+    go true true c d ea eb ec ed h =
+        let x = eqb-true (entryLength s i) 0 ea in
+        let y = eqb-true (entryOffset s i) 0 eb in
+        (omega arith, at, h)
     go true false c d ea eb ec ed h = absurd (false≢true h)
-    go false b true true ea eb ec ed h = ((let x = eqb-true (entryOffset s i) at ec in let y = leb-true (at + entryLength s i) (length s) ed in omega arith), at + entryLength s i, h)
+    go false b true true ea eb ec ed h =
+        let x = eqb-true (entryOffset s i) at ec in
+        let y = leb-true (at + entryLength s i) (length s) ed in
+        (omega arith, at + entryLength s i, h)
     go false b true false ea eb ec ed h = absurd (false≢true h)
     go false b false d ea eb ec ed h = absurd (false≢true h)
 
-laid-later : (k : ℕ) (s : List ℕ) (i at : ℕ) → laid k s i at ≡ true → (j : ℕ) → j < k → entryOffset s (i + j) + entryLength s (i + j) ≤ length s
+laid-later : (k : ℕ) (s : List ℕ) (i at : ℕ) → laid k s i at ≡ true → (j : ℕ) → j < k
+    → entryOffset s (i + j) + entryLength s (i + j) ≤ length s
 laid-later zero s i at h j p = absurd (omega arith)
 laid-later (suc k) s i at h zero p =
     let z : i + 0 ≡ i = omega arith in
@@ -167,7 +179,8 @@ module _ (s : List ℕ) (i : ℕ) {l : ℕ} (e : l ≡ entryLength s i) where
   unfolding entryOf pick skip
   entry-empty z = rw (← e, z)
 
-  pub entry-body : {o : ℕ} {x : Read} → (l ≡ 0 → ⊥) → o ≡ entryOffset s i → x ≡ skip (bodyOf (take (o + l - o) (drop o s))) → x ≡ skip (entryOf s i)
+  pub entry-body : {o : ℕ} {x : Read} → (l ≡ 0 → ⊥) → o ≡ entryOffset s i → x ≡ skip (bodyOf (take (o + l - o) (drop o s)))
+      → x ≡ skip (entryOf s i)
   unfolding entryOf pick
   entry-body f d q =
       rw (ne-eqb (entryLength s i) 0 (λ z. f (e ∙ z))) (q ∙ ap (λ (b : List ℕ). skip (bodyOf b)) (entry-part s d e) ∙ sym (skip-ok _ _))
@@ -186,7 +199,8 @@ module _ (n : ℕ) (s : List ℕ) (i : ℕ) where
       let z : n - i ≡ suc (n - (i + 1)) = omega arith in
       rw z (stop (entryOf s i) _ h e)
 
-  pub entries-more : {x : Read} {m : ℕ} → i < n → x ≡ At m → x ≡ skip (entryOf s i) → skip (entriesOf (n - (i + 1)) s (i + 1)) ≡ skip (entriesOf (n - i) s i)
+  pub entries-more : {x : Read} {m : ℕ} → i < n → x ≡ At m → x ≡ skip (entryOf s i)
+      → skip (entriesOf (n - (i + 1)) s (i + 1)) ≡ skip (entriesOf (n - i) s i)
   unfolding entriesOf
   entries-more p h e =
       let z : n - i ≡ suc (n - (i + 1)) = omega arith in

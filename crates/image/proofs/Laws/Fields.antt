@@ -77,7 +77,8 @@ bare-first s at f = go (numberAt 4 s at)
     go (no k) = refl
 
 module _ {B : Type 0} (s : List ℕ) (at : ℕ) (f : ℕ → Name → ℕ → Parsed B) {x : Read} where
-  bare-stop : {k : ℕ} → x ≡ Refused k → x ≡ skip (bareAt s at) → x ≡ skip (bind (numberAt 4 s at) (λ o n. bind (nameAt 8 s n) (λ x m. f o x m)))
+  bare-stop : {k : ℕ} → x ≡ Refused k → x ≡ skip (bareAt s at)
+      → x ≡ skip (bind (numberAt 4 s at) (λ o n. bind (nameAt 8 s n) (λ x m. f o x m)))
   bare-stop h e = stop (bareAt s at) _ h e ∙ ap skip (bare-first s at f)
 
   bare-next : {r : Read} {n : ℕ} → x ≡ At n → x ≡ skip (bareAt s at) → ((o : ℕ) (y : Name) → r ≡ skip (f o y n))

@@ -1,7 +1,7 @@
 -- Answers that are values: what was read before them was a value too, and so on from part to part. Assumes nothing.
-use mathlib.Core.Path.{_≡_, refl, sym, ap, ap₂, _∙_}
+use mathlib.Core.Path.{_≡_, refl, sym, ap, _∙_}
 use mathlib.Core.List.{List, [], _∷_}
-use Prim.Native.Nat.{ℕ, zero, suc, _+_, _-_, _≤_, _<_}
+use Prim.Native.Nat.{ℕ, zero, suc, _+_, _-_, _<_}
 use native.Mathlib.Omega.{arith}
 use native.Mathlib.Numerals.{sub-one}
 use lib.ListN.{length, drop}
@@ -105,7 +105,8 @@ module _ {A : Type 0} (d : A) (p : List ℕ → ℕ → Parsed A) where
         let b = good-first d (p s at) _ g in
         (b, good-first [] (many p c s (endOf (p s at))) _ (good-second d (p s at) _ g), bind-is d (p s at) _ b)
 
-    more-are : Good (many p (suc c) s at) → many p (suc c) s at ≡ ok (valueOr d (p s at) ∷ valueOr [] (many p c s (endOf (p s at)))) (endOf (many p c s (endOf (p s at))))
+    more-are : Good (many p (suc c) s at)
+        → many p (suc c) s at ≡ ok (valueOr d (p s at) ∷ valueOr [] (many p c s (endOf (p s at)))) (endOf (many p c s (endOf (p s at))))
     unfolding rest
     more-are g =
         let (b, r, e) = one-more g in
@@ -130,7 +131,8 @@ module _ {A : Type 0} (d : A) (p : List ℕ → ℕ → Parsed A) where
     unfolding valueOr
     many-are = go c h g
       where
-        go : (c : ℕ) → 0 < c → Good (many p c s at) → valueOr [] (many p c s at) ≡ valueOr d (p s at) ∷ valueOr [] (many p (c - 1) s (endOf (p s at)))
+        go : (c : ℕ) → 0 < c → Good (many p c s at)
+            → valueOr [] (many p c s at) ≡ valueOr d (p s at) ∷ valueOr [] (many p (c - 1) s (endOf (p s at)))
         go zero h g = absurd (omega arith)
         go (suc c) h g = rw sub-one (ap (valueOr []) (more-are c s at g))
 
@@ -151,5 +153,6 @@ module _ {A : Type 0} (d : A) (p : List ℕ → ℕ → Parsed A) where
   many-count zero s at g = many-zero s at
   many-count (suc c) s at g =
       let h : 0 < suc c = omega arith in
-      let n : length (valueOr [] (many p c s (endOf (p s at)))) ≡ c = many-count c s (endOf (p s at)) (rw sub-one at (many-rest (suc c) s at h g)) in
+      let r : Good (many p c s (endOf (p s at))) = rw sub-one at (many-rest (suc c) s at h g) in
+      let n = many-count c s (endOf (p s at)) r in
       rw (many-are (suc c) s at h g, sub-one) (ap suc n)

@@ -1,14 +1,14 @@
 -- Bytes, coded bytes and little-endian numbers: what the code's answers say of them. Assumes nothing.
-use mathlib.Core.Path.{_≡_, refl, sym, ap, ap₂, _∙_}
+use mathlib.Core.Path.{_≡_, ap, _∙_}
 use mathlib.Core.Bool.{and-false}
 use mathlib.Core.List.{List}
-use Prim.Native.Nat.{ℕ, zero, suc, _+_, _-_, _*_, _^_, _≤_, _<_}
+use Prim.Native.Nat.{ℕ, suc, _+_, _-_, _*_, _^_, _≤_, _<_}
 use native.Mathlib.Omega.{arith}
 use native.Mathlib.Nat.{pow-suc, pow-le-pow-right}
 use borrow.Author.Tests.{le-leb, lt-leb, lt-ltb, le-ltb}
 use lib.ListN.{length, getD, drop}
 use lib.Seq.{drop-drop, getD-drop}
-use Rattle.image.specs.Parse.{Parsed, ok, no, bind, pick, littleEndian, byteAt, codeAt, numberAt}
+use Rattle.image.specs.Parse.{Parsed, ok, bind, pick, littleEndian, byteAt, codeAt, numberAt}
 use Rattle.image.specs.Answer.{skip}
 use Rattle.image.specs.declared.Read.{Read}
 use Rattle.image.specs.declared.Read.the-variants.{At, Refused}
@@ -48,12 +48,14 @@ pub record There (p : Parsed ℕ) (s : List ℕ) (at n : ℕ) : Type 0 where
   pub inside : at < length s
   pub is : p ≡ ok (getD s at 0) n
 
-pub byte-there : (short : ℕ) (s : List ℕ) (at : ℕ) {x : Read} {n : ℕ} → x ≡ At n → x ≡ skip (byteAt short s at) → There (byteAt short s at) s at n
+pub byte-there : (short : ℕ) (s : List ℕ) (at : ℕ) {x : Read} {n : ℕ} → x ≡ At n → x ≡ skip (byteAt short s at)
+    → There (byteAt short s at) s at n
 byte-there short s at {n = n} h e =
     let (b, q, r) = sure-at (byte-sure short s at) h e in
     record { inside = (let i = r .inside in let j = r .next in omega arith); is = q ∙ ap (λ (v : ℕ). ok v n) (r .value) }
 
-pub code-there : (lo hi : ℕ) (s : List ℕ) (at : ℕ) {x : Read} {n : ℕ} → x ≡ At n → x ≡ skip (codeAt lo hi s at) → There (codeAt lo hi s at) s at n
+pub code-there : (lo hi : ℕ) (s : List ℕ) (at : ℕ) {x : Read} {n : ℕ} → x ≡ At n → x ≡ skip (codeAt lo hi s at)
+    → There (codeAt lo hi s at) s at n
 code-there lo hi s at {n = n} h e =
     let (b, q, r) = sure-at (code-sure lo hi s at) h e in
     record { inside = (let i = r .byte .inside in let j = r .byte .next in omega arith); is = q ∙ ap (λ (v : ℕ). ok v n) (r .byte .value) }

@@ -1,6 +1,6 @@
 -- So many of a kind, one after the other, for any kind. One loop of the code reads them: what it answers for all of them is what it
 -- answers for those that are left, from the next position on. Assumes nothing.
-use mathlib.Core.Path.{_≡_, sym, _∙_}
+use mathlib.Core.Path.{_≡_, sym}
 use mathlib.Core.List.{List}
 use Prim.Native.Nat.{ℕ, zero, suc, _-_, _<_}
 use native.Mathlib.Omega.{arith}
@@ -40,6 +40,7 @@ module _ {A : Type 0} (p : List ℕ → ℕ → Parsed A) (s : List ℕ) (at : �
   unfolding counted
   counted-stop h e = stop (numberAt 2 s at) _ h e
 
-  pub counted-as : {x y : Read} {c n : ℕ} → x ≡ At n → x ≡ skip (numberAt 2 s at) → c ≡ littleEndian 2 (drop at s) → y ≡ skip (many p c s n) → y ≡ skip (counted p s at)
+  pub counted-as : {x y : Read} {c n : ℕ} → x ≡ At n → x ≡ skip (numberAt 2 s at) → c ≡ littleEndian 2 (drop at s) → y ≡ skip (many p c s n)
+      → y ≡ skip (counted p s at)
   unfolding counted
   counted-as h e q r = next-is _ (number-is 2 s at h e) (rw q at r)

@@ -2,12 +2,12 @@
 -- Assumes nothing.
 use mathlib.Core.Path.{_≡_, refl, sym, ap, ap₂, _∙_}
 use mathlib.Core.Bool.{Bool, true, false, _&&_, false≢true}
-use mathlib.Core.List.{List, [], _∷_}
+use mathlib.Core.List.{List}
 use Prim.Native.Nat.{ℕ, zero, suc, _+_, _≤_, _<_}
 use native.Mathlib.Omega.{arith}
 use borrow.Author.Tests.{ltb-true, leb-true}
 use lib.ListN.{length, getD, drop, length-drop}
-use lib.Dec.{ltb, leb}
+use lib.Dec.{leb}
 use Rattle.image.specs.Schema.{Label, Ty}
 use Rattle.image.specs.Parse.{Parsed, ok, no, bind, pick, shift, within, part, byteAt, codeAt, littleEndian, numberAt, many, counted}
 use Rattle.image.specs.Names.{nameBytes, nameAt, namesAt}
@@ -15,7 +15,7 @@ use Rattle.image.specs.Types.{Follows, code, subByte, identity, size, no
 use Rattle.image.specs.Fields.{marksAt, encodingOf, encodingAt, limitAt, fieldAt, bareAt, variantAt}
 use Rattle.image.specs.Answer.{skip}
 use Rattle.image.specs.declared.Read.{Read}
-use Rattle.image.specs.declared.Read.the-variants.{At, Refused}
+use Rattle.image.specs.declared.Read.the-variants.{At}
 use Rattle.image.proofs.Laws.Answers.{apart}
 
 pub data Sure {A : Type 0} (P : A → ℕ → Type 0) : Parsed A → Type 0 where
@@ -28,7 +28,8 @@ unfolding bind
 sure-bind f (sure-ok {a = a} {n = n} q) g = g a n q
 sure-bind f sure-no g = sure-no
 
-pub sure-pick : {A : Type 0} {P : A → ℕ → Type 0} (b : Bool) {x y : Parsed A} → (b ≡ true → Sure P x) → (b ≡ false → Sure P y) → Sure P (pick b x y)
+pub sure-pick : {A : Type 0} {P : A → ℕ → Type 0} (b : Bool) {x y : Parsed A} → (b ≡ true → Sure P x) → (b ≡ false → Sure P y)
+    → Sure P (pick b x y)
 unfolding pick
 sure-pick true f g = f refl
 sure-pick false f g = g refl
@@ -42,7 +43,8 @@ sure-then (sure-ok {a = a} {n = n} q) g = sure-ok (g a n q)
 sure-then sure-no g = sure-no
 
 -- of a value that was read
-pub sure-at : {A : Type 0} {P : A → ℕ → Type 0} {p : Parsed A} {x : Read} {n : ℕ} → Sure P p → x ≡ At n → x ≡ skip p → (a : A) × (p ≡ ok a n) × P a n
+pub sure-at : {A : Type 0} {P : A → ℕ → Type 0} {p : Parsed A} {x : Read} {n : ℕ} → Sure P p → x ≡ At n → x ≡ skip p
+    → (a : A) × (p ≡ ok a n) × P a n
 unfolding skip
 sure-at {P = P} {n = n} (sure-ok {a = a} {n = m} q) h e =
     let d : m ≡ n = cc in
@@ -124,7 +126,8 @@ unfolding many
 many-sure p s q zero at h = sure-ok h
 many-sure p s q (suc c) at h = sure-bind _ (q at h) (λ x n i. sure-bind _ (many-sure p s q c n i) (λ xs m j. sure-ok j))
 
-pub counted-sure : {A : Type 0} (p : List ℕ → ℕ → Parsed A) (s : List ℕ) → ((at : ℕ) → at ≤ length s → Sure (In s) (p s at)) → (at : ℕ) → Sure (In s) (counted p s at)
+pub counted-sure : {A : Type 0} (p : List ℕ → ℕ → Parsed A) (s : List ℕ) → ((at : ℕ) → at ≤ length s → Sure (In s) (p s at)) → (at : ℕ)
+    → Sure (In s) (counted p s at)
 unfolding counted
 counted-sure p s q at = sure-bind _ (number-sure 2 s at) (λ c n k. many-sure p s q c n (k .inside))
 
@@ -169,11 +172,13 @@ shift-sure s at h (sure-ok {n = n} q) =
     sure-ok l
 shift-sure s at h sure-no = sure-no
 
-pub within-sure : {A : Type 0} (p : List ℕ → Parsed A) (s : List ℕ) (at : ℕ) → at ≤ length s → Sure (In (drop at s)) (p (drop at s)) → Sure (In s) (within p s at)
+pub within-sure : {A : Type 0} (p : List ℕ → Parsed A) (s : List ℕ) (at : ℕ) → at ≤ length s → Sure (In (drop at s)) (p (drop at s))
+    → Sure (In s) (within p s at)
 unfolding within
 within-sure p s at h q = shift-sure s at h q
 
-inner-sure : (p : List ℕ → Parsed Ty) → ((t : List ℕ) → Sure (In t) (p t)) → (i : ℕ) (l : Label) (s : List ℕ) (at : ℕ) → at ≤ length s → Sure (In s) (innerAt i l p s at)
+inner-sure : (p : List ℕ → Parsed Ty) → ((t : List ℕ) → Sure (In t) (p t)) → (i : ℕ) (l : Label) (s : List ℕ) (at : ℕ) → at ≤ length s
+    → Sure (In s) (innerAt i l p s at)
 unfolding innerAt
 inner-sure p q zero l s at h = sure-ok h
 inner-sure p q (suc zero) l s at h = sure-bind _ (within-sure p s at h (q (drop at s))) (λ t n r. sure-ok r)

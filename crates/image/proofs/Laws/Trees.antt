@@ -1,7 +1,7 @@
 -- Labels and types that are well formed: what stands in them, by their tag. Assumes nothing.
-use mathlib.Core.Path.{_≡_, refl, sym, ap, ap₂, _∙_}
+use mathlib.Core.Path.{_≡_, refl, ap, ap₂, _∙_}
 use mathlib.Core.Bool.{Bool, true, false}
-use mathlib.Core.List.{List, [], _∷_}
+use mathlib.Core.List.{List, []}
 use Prim.Native.Nat.{ℕ, zero, suc, _+_, _-_, _≤_, _<_}
 use native.Mathlib.Omega.{arith}
 use native.Mathlib.Numerals.{sub-one}
@@ -9,7 +9,7 @@ use borrow.Author.Tests.{leb-true, leb-false}
 use lib.ListN.{length, getD, drop, length-drop}
 use lib.Dec.{leb}
 use Rattle.image.specs.Schema.{Name, Label, label, Ty, leaf, one, two, noType}
-use Rattle.image.specs.Parse.{Parsed, ok, no, bind, within, littleEndian, byteAt, codeAt, numberAt}
+use Rattle.image.specs.Parse.{Parsed, ok, bind, within, littleEndian, byteAt, codeAt, numberAt}
 use Rattle.image.specs.Names.{namesAt}
 use Rattle.image.specs.Types.{Follows, code, subByte, identity, size, nothing, bits, unknown, followsTag, innerTypes, afterTag, labelOf, innerAt, typeOf}
 use Rattle.image.specs.WellFormed.{Good, valueOr, endOf, labelIn, treeIn, namesIn}
@@ -35,7 +35,8 @@ unfolding labelIn
 label-tag s g = sure-good noLabel (label-sure s) g
 
 -- a good type is its label and its inner types
-type-is : (d : ℕ) (s : List ℕ) → Good (typeOf d s) → typeOf d s ≡ innerAt (innerTypes (getD s 0 0)) (labelIn s) (typeOf (d - 1)) s (endOf (labelOf s))
+type-is : (d : ℕ) (s : List ℕ) → Good (typeOf d s)
+    → typeOf d s ≡ innerAt (innerTypes (getD s 0 0)) (labelIn s) (typeOf (d - 1)) s (endOf (labelOf s))
 unfolding typeOf labelIn
 type-is zero s g = absurd (type-deeper zero s g refl)
 type-is (suc d) s g =
@@ -50,6 +51,10 @@ type-within d s at l g =
     omega arith
 
 module _ (i : ℕ) (l : Label) (p : List ℕ → Parsed Ty) (s : List ℕ) (at : ℕ) where
+  -- where the second starts
+  abbrev later : ℕ
+  later = at + endOf (p (drop at s))
+
   inner-leaf : i ≡ 0 → valueOr noType (innerAt i l p s at) ≡ leaf l
   unfolding innerAt valueOr
   inner-leaf e = rw e
@@ -75,23 +80,24 @@ module _ (i : ℕ) (l : Label) (p : List ℕ → Parsed Ty) (s : List ℕ) (at :
       go (suc (suc k)) e g = absurd (omega arith)
 
   module _ (f : i ≡ 0 → ⊥) (h : i ≡ 1 → ⊥) (g : Good (innerAt i l p s at)) where
-    inner-second : Good (p (drop (at + endOf (p (drop at s))) s))
+    inner-second : Good (p (drop later s))
     unfolding innerAt
     inner-second = go i f h g
       where
-        go : (j : ℕ) → (j ≡ 0 → ⊥) → (j ≡ 1 → ⊥) → Good (innerAt j l p s at) → Good (p (drop (at + endOf (p (drop at s))) s))
+        go : (j : ℕ) → (j ≡ 0 → ⊥) → (j ≡ 1 → ⊥) → Good (innerAt j l p s at) → Good (p (drop later s))
         go zero f h g = absurd (f refl)
         go (suc zero) f h g = absurd (h refl)
         go (suc (suc k)) f h g =
             let b = good-first noType (within p s at) _ g in
             let c = good-first noType _ _ (good-second noType (within p s at) _ g) in
-            within-good noType p s (at + endOf (p (drop at s))) (rw (within-end noType p s at b) at c)
+            within-good noType p s later (rw (within-end noType p s at b) at c)
 
-    inner-two-is : valueOr noType (innerAt i l p s at) ≡ two l (valueOr noType (p (drop at s))) (valueOr noType (p (drop (at + endOf (p (drop at s))) s)))
+    inner-two-is : valueOr noType (innerAt i l p s at) ≡ two l (valueOr noType (p (drop at s))) (valueOr noType (p (drop later s)))
     unfolding innerAt valueOr
     inner-two-is = go i f h g
       where
-        go : (j : ℕ) → (j ≡ 0 → ⊥) → (j ≡ 1 → ⊥) → Good (innerAt j l p s at) → valueOr noType (innerAt j l p s at) ≡ two l (valueOr noType (p (drop at s))) (valueOr noType (p (drop (at + endOf (p (drop at s))) s)))
+        go : (j : ℕ) → (j ≡ 0 → ⊥) → (j ≡ 1 → ⊥) → Good (innerAt j l p s at)
+            → valueOr noType (innerAt j l p s at) ≡ two l (valueOr noType (p (drop at s))) (valueOr noType (p (drop later s)))
         go zero f h g = absurd (f refl)
         go (suc zero) f h g = absurd (h refl)
         go (suc (suc k)) f h g =
@@ -102,8 +108,12 @@ module _ (i : ℕ) (l : Label) (p : List ℕ → Parsed Ty) (s : List ℕ) (at :
 
 -- for the crates above: a good type by its tag
 module _ (d : ℕ) (s : List ℕ) (g : Good (typeOf d s)) where
+  -- where the inner types start
   abbrev E : ℕ
   E = endOf (labelOf s)
+
+  abbrev E₂ : ℕ
+  E₂ = E + endOf (typeOf (d - 1) (drop E s))
 
   g′ : Good (innerAt (innerTypes (getD s 0 0)) (labelIn s) (typeOf (d - 1)) s E)
   g′ = rw (type-is d s g) at g
@@ -120,10 +130,10 @@ module _ (d : ℕ) (s : List ℕ) (g : Good (typeOf d s)) where
   tree-one e = ap (valueOr noType) (type-is d s g) ∙ inner-one-is _ _ _ _ _ e g′
 
   module _ (f : innerTypes (getD s 0 0) ≡ 0 → ⊥) (h : innerTypes (getD s 0 0) ≡ 1 → ⊥) where
-    pub second-good : Good (typeOf (d - 1) (drop (E + endOf (typeOf (d - 1) (drop E s))) s))
+    pub second-good : Good (typeOf (d - 1) (drop E₂ s))
     second-good = inner-second _ _ _ _ _ f h g′
 
-    pub tree-two : treeIn d s ≡ two (labelIn s) (treeIn (d - 1) (drop E s)) (treeIn (d - 1) (drop (E + endOf (typeOf (d - 1) (drop E s))) s))
+    pub tree-two : treeIn d s ≡ two (labelIn s) (treeIn (d - 1) (drop E s)) (treeIn (d - 1) (drop E₂ s))
     unfolding treeIn
     tree-two = ap (valueOr noType) (type-is d s g) ∙ inner-two-is _ _ _ _ _ f h g′
 
@@ -154,7 +164,9 @@ unfolding labelIn valueOr
 number-stands w s e g =
     let b = good-first 0 (numberAt w s 1) _ g in
     let h = sure-good 0 (number-sure w s 1) b in
-    (ap (valueOr noLabel) (e ∙ bind-is 0 (numberAt w s 1) _ b) ∙ ap (λ (a : ℕ). label (getD s 0 0) a 0 []) (h .value), (let m = h .next in let o = h .inside in omega arith))
+    let m = h .next in
+    let o = h .inside in
+    (ap (valueOr noLabel) (e ∙ bind-is 0 (numberAt w s 1) _ b) ∙ ap (λ (a : ℕ). label (getD s 0 0) a 0 []) (h .value), omega arith)
 
 -- a sub-byte's sign and bits
 sub-byte-stands : (s : List ℕ) → labelOf s ≡ bind (codeAt 0 1 s 1) (λ a n. bind (codeAt 1 64 s n) (λ b m. ok (label (getD s 0 0) a b []) m))
@@ -170,12 +182,15 @@ sub-byte-stands s e b c =
       (let m = k .next in let o = k .inside in omega arith),
     )
 
-stands : (s : List ℕ) (f : Follows) → 0 < length s → labelOf s ≡ afterTag (getD s 0 0) f s 1 → Good (afterTag (getD s 0 0) f s 1) → Stands f s
+stands : (s : List ℕ) (f : Follows) → 0 < length s → labelOf s ≡ afterTag (getD s 0 0) f s 1 → Good (afterTag (getD s 0 0) f s 1)
+    → Stands f s
 unfolding afterTag labelIn namesIn valueOr Good
 stands s (code highest) l e g =
     let b = good-first 0 (codeAt 0 highest s 1) _ g in
     let h = sure-good 0 (code-sure 0 highest s 1) b .byte in
-    (ap (valueOr noLabel) (e ∙ bind-is 0 (codeAt 0 highest s 1) _ b) ∙ ap (λ (a : ℕ). label (getD s 0 0) a 0 []) (h .value), (let m = h .next in let o = h .inside in omega arith))
+    let m = h .next in
+    let o = h .inside in
+    (ap (valueOr noLabel) (e ∙ bind-is 0 (codeAt 0 highest s 1) _ b) ∙ ap (λ (a : ℕ). label (getD s 0 0) a 0 []) (h .value), omega arith)
 stands s subByte l e g =
     let b = good-first 0 (codeAt 0 1 s 1) _ g in
     sub-byte-stands s e b (good-first 0 _ _ (good-second 0 (codeAt 0 1 s 1) _ g))
@@ -186,10 +201,13 @@ stands s bits l e g =
     let b = good-first 0 (byteAt 8 s 1) _ g in
     let h = sure-good 0 (byte-sure 8 s 1) b in
     let c = good-first [] _ _ (good-second 0 (byteAt 8 s 1) _ g) in
-    let q : namesAt 8 (valueOr 0 (byteAt 8 s 1)) s (endOf (byteAt 8 s 1)) ≡ namesAt 8 (getD s 1 0) s 2 = ap₂ (λ (k n : ℕ). namesAt 8 k s n) (h .value) (h .next) in (
-      ap (valueOr noLabel) (e ∙ bind-is 0 (byteAt 8 s 1) _ b ∙ bind-is [] (namesAt 8 (valueOr 0 (byteAt 8 s 1)) s (endOf (byteAt 8 s 1))) _ c)
+    let names : ℕ → ℕ → Parsed (List Name) = λ k n. namesAt 8 k s n in
+    let q : names (valueOr 0 (byteAt 8 s 1)) (endOf (byteAt 8 s 1)) ≡ names (getD s 1 0) 2 = ap₂ names (h .value) (h .next) in
+    let m = h .next in
+    let o = h .inside in (
+      ap (valueOr noLabel) (e ∙ bind-is 0 (byteAt 8 s 1) _ b ∙ bind-is [] (names (valueOr 0 (byteAt 8 s 1)) (endOf (byteAt 8 s 1))) _ c)
           ∙ ap (λ (p : Parsed (List Name)). label (getD s 0 0) 0 0 (valueOr [] p)) q,
-      (let m = h .next in let o = h .inside in omega arith),
+      omega arith,
       rw q at c,
     )
 stands s unknown l e g = g
@@ -205,7 +223,8 @@ pub stands-at : (s : List ℕ) (t : ℕ) (f : Follows) → Good (labelOf s) → 
 stands-at s t f g e q = label-stands s f g (ap followsTag e ∙ q)
 
 -- and for a tag that only inner types follow
-pub nothing-at : (s : List ℕ) → Good (labelOf s) → (getD s 0 0 ≡ 0 → ⊥) → (getD s 0 0 ≡ 1 → ⊥) → (getD s 0 0 ≡ 2 → ⊥) → (getD s 0 0 ≡ 3 → ⊥) → (getD s 0 0 ≡ 6 → ⊥) → (getD s 0 0 ≡ 16 → ⊥)
+pub nothing-at : (s : List ℕ) → Good (labelOf s) → (getD s 0 0 ≡ 0 → ⊥) → (getD s 0 0 ≡ 1 → ⊥) → (getD s 0 0 ≡ 2 → ⊥) → (getD s 0 0 ≡ 3 → ⊥)
+    → (getD s 0 0 ≡ 6 → ⊥) → (getD s 0 0 ≡ 16 → ⊥)
     → (getD s 0 0 ≤ 15) × (labelIn s ≡ label (getD s 0 0) 0 0 [])
 nothing-at s g a b c d e f = go (leb (getD s 0 0) 15) refl
   where

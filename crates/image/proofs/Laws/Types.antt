@@ -1,7 +1,7 @@
 -- Labels and types: what the code's answers say of them. Assumes nothing.
 use mathlib.Core.Path.{_≡_, refl, sym, ap, _∙_}
 use mathlib.Core.Bool.{Bool, true, false, cond, _&&_, and-false}
-use mathlib.Core.List.{List, [], _∷_}
+use mathlib.Core.List.{List}
 use Prim.Native.Nat.{ℕ, zero, suc, _+_, _-_, _≤_, _<_}
 use native.Mathlib.Omega.{arith}
 use native.Mathlib.Numerals.{sub-one}
@@ -10,7 +10,7 @@ use lib.ListN.{length, getD, take, drop, length-drop}
 use lib.Seq.{take-all}
 use lib.Dec.{leb, eqb}
 use Rattle.image.specs.Schema.{Label, Ty}
-use Rattle.image.specs.Parse.{Parsed, ok, no, bind, within, byteAt}
+use Rattle.image.specs.Parse.{Parsed, bind, within, byteAt}
 use Rattle.image.specs.Names.{namesAt}
 use Rattle.image.specs.Types.{Follows, nothing, bits, unknown, followsTag, innerTypes, afterTag, labelOf, innerAt, typeOf}
 use Rattle.image.specs.Answer.{skip}
@@ -21,7 +21,8 @@ use Rattle.image.proofs.Laws.Sure.{sure-at, label-sure, type-sure}
 use Rattle.image.proofs.Laws.Numbers.{There}
 
 -- what is read of `&s[n..]` is read of the part that starts at n
-pub from-start : {A : Type 0} (p : List ℕ → Parsed A) (s : List ℕ) (n : ℕ) {x : Read} → x ≡ skip (p (take (length s - n) (drop n s))) → x ≡ skip (p (drop n s))
+pub from-start : {A : Type 0} (p : List ℕ → Parsed A) (s : List ℕ) (n : ℕ) {x : Read} → x ≡ skip (p (take (length s - n) (drop n s)))
+    → x ≡ skip (p (drop n s))
 from-start p s n h =
     h ∙ ap (λ (l : List ℕ). skip (p l)) (take-all (length s - n) (drop n s) (let e = length-drop n s in omega arith))
 
@@ -40,10 +41,12 @@ follows-nothing tag a b c d e f h =
 pub follows-unknown : (tag : ℕ) → (tag ≡ 16 → ⊥) → 15 < tag → followsTag tag ≡ unknown
 unfolding followsTag
 follows-unknown tag f h =
-    rw (ne-eqb tag 0 (omega arith), ne-eqb tag 1 (omega arith), ne-eqb tag 2 (omega arith), ne-eqb tag 3 (omega arith), ne-eqb tag 6 (omega arith), ne-eqb tag 16 f, lt-leb tag 15 h)
+    let ne : (k : ℕ) → k ≤ 15 → eqb tag k ≡ false = λ k l. ne-eqb tag k (omega arith) in
+    rw (ne 0 (omega arith), ne 1 (omega arith), ne 2 (omega arith), ne 3 (omega arith), ne 6 (omega arith), ne-eqb tag 16 f, lt-leb tag 15 h)
 
 -- bits: a count and as many names
-pub bits-as : (s : List ℕ) (at : ℕ) {n : ℕ} {x : Read} → There (byteAt 8 s at) s at n → x ≡ skip (namesAt 8 (getD s at 0) s n) → x ≡ skip (afterTag 16 bits s at)
+pub bits-as : (s : List ℕ) (at : ℕ) {n : ℕ} {x : Read} → There (byteAt 8 s at) s at n → x ≡ skip (namesAt 8 (getD s at 0) s n)
+    → x ≡ skip (afterTag 16 bits s at)
 unfolding afterTag
 bits-as s at {n} b e = next-is _ (b .is) (e ∙ sym (skip-ok (namesAt 8 (getD s at 0) s n) _))
 
@@ -91,7 +94,8 @@ label-within s h e =
     (r .there, r .inside)
 
 -- where an inner type ends
-pub inner-within : (d : ℕ) (s : List ℕ) (at : ℕ) {x : Read} {n : ℕ} → at ≤ length s → x ≡ At n → x ≡ skip (typeOf d (drop at s)) → at + n ≤ length s
+pub inner-within : (d : ℕ) (s : List ℕ) (at : ℕ) {x : Read} {n : ℕ} → at ≤ length s → x ≡ At n → x ≡ skip (typeOf d (drop at s))
+    → at + n ≤ length s
 inner-within d s at l h e =
     let (t, q, r) = sure-at (type-sure d (drop at s)) h e in
     let z = length-drop at s in

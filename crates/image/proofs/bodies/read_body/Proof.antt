@@ -1,5 +1,6 @@
 -- `image::bodies::read_body` meets its contract. Assumes nothing.
 use borrow.Author.Needs.{needs}
+use native.Mathlib.Omega.{arith}
 use denote.Ref.{now}
 use Rattle.image.specs.Parse.{byteAt}
 use Rattle.image.specs.Bodies.{bodyOf}
@@ -23,7 +24,9 @@ unfolding bodyOf
 returns c = stop _ _ (c .enum-told .given .1) (c .before .before .read-byte .ensures)
 
 -- the kind is there
-kind : (c : tie.After-known-told) → There (byteAt 8 (now (c .before .before .before .before .before .args .s)) 0) (now (c .before .before .before .before .before .args .s)) 0 (c .before .kind .given .0 .0)
+kind : (c : tie.After-known-told) →
+    let s = now (c .before .before .before .before .before .args .s) in
+    There (byteAt 8 s 0) s 0 (c .before .kind .given .0 .0)
 kind c = byte-there 8 _ _ (c .before .kind .given .1) (c .before .before .before .read-byte .ensures)
 
 shared-slice-read-read-decl : tie.Need-shared-slice-read-read-decl
@@ -42,10 +45,14 @@ returns-2 : tie.Need-returns-2
 returns-2 c = body-stop _ (kind (c .before .before .before .before)) (c .enum-told2 .given .1) (c .before .before .read-decl .ensures)
 
 returns-3 : tie.Need-returns-3
-returns-3 c = body-left _ (kind (c .before .before .before .before .before .before)) (c .before .before .decl .given .1) (c .before .before .before .before .read-decl .ensures) (c .if1 .taken)
+returns-3 c =
+    body-left _ (kind (c .before .before .before .before .before .before)) (c .before .before .decl .given .1)
+    (c .before .before .before .before .read-decl .ensures) (omega arith)
 
 returns-4 : tie.Need-returns-4
-returns-4 c = body-whole _ (kind (c .before .before .before .before .before .before)) (c .before .before .decl .given .1) (c .before .before .before .before .read-decl .ensures) (c .if1 .left)
+returns-4 c =
+    body-whole _ (kind (c .before .before .before .before .before .before)) (c .before .before .decl .given .1)
+    (c .before .before .before .before .read-decl .ensures) (omega arith)
 
 pub read-body-spec : {M : Type 1} → statement M
 read-body-spec =

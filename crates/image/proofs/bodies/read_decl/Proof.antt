@@ -1,6 +1,6 @@
 -- `image::bodies::read_decl` meets its contract: in each arm the kind is known. Assumes nothing.
 use borrow.Author.Needs.{needs}
-use mathlib.Core.Path.{_≡_, _∙_}
+use mathlib.Core.Path.{_∙_}
 use native.Mathlib.Omega.{arith}
 use Rattle.image.specs.Bodies.{implAt, declAt}
 use Rattle.image.specs.Answer.{skip}

@@ -25,7 +25,9 @@ read-bares-requires c κs = search needs
 
 returns-2 : tie.Need-returns-2
 unfolding flagsAt
-returns-2 c = named-rest (counted bareAt) _ _ _ (c .before .before .name .given .1) (c .before .before .before .before .read-name .ensures) (c .read-bares .ensures)
+returns-2 c =
+    named-rest (counted bareAt) _ _ _ (c .before .before .name .given .1) (c .before .before .before .before .read-name .ensures)
+    (c .read-bares .ensures)
 
 pub read-flags-spec : {M : Type 1} → statement M
 read-flags-spec =

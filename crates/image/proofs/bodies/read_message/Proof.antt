@@ -32,7 +32,9 @@ enum-told-2 c = search needs
 returns-2 : tie.Need-returns-2
 unfolding messageAt
 returns-2 c =
-    marked-marks (counted fieldAt) _ _ _ (c .before .before .before .before .name .given .1) (c .before .before .before .before .before .before .read-name .ensures) (c .enum-told2 .given .1) (c .before .before .read-marks .ensures)
+    marked-marks (counted fieldAt) _ _ _ (c .before .before .before .before .name .given .1)
+    (c .before .before .before .before .before .before .read-name .ensures) (c .enum-told2 .given .1)
+    (c .before .before .read-marks .ensures)
 
 read-fields-requires : tie.Need-read-fields-requires
 read-fields-requires c κs = search needs
@@ -40,7 +42,9 @@ read-fields-requires c κs = search needs
 returns-3 : tie.Need-returns-3
 unfolding messageAt
 returns-3 c =
-    marked-rest (counted fieldAt) _ _ _ (c .before .before .before .before .before .before .name .given .1) (c .before .before .before .before .before .before .before .before .read-name .ensures) (c .before .before .marks .given .1) (c .before .before .before .before .read-marks .ensures) (c .read-fields .ensures)
+    marked-rest (counted fieldAt) _ _ _ (c .before .before .before .before .before .before .name .given .1)
+    (c .before .before .before .before .before .before .before .before .read-name .ensures) (c .before .before .marks .given .1)
+    (c .before .before .before .before .read-marks .ensures) (c .read-fields .ensures)
 
 pub read-message-spec : {M : Type 1} → statement M
 read-message-spec =

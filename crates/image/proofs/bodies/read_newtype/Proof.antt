@@ -21,11 +21,14 @@ unfolding newtypeAt
 returns c = named-stop typeAt _ _ _ (c .enum-told .given .1) (c .before .before .read-name .ensures)
 
 read-type-at-requires : tie.Need-read-type-at-requires
-read-type-at-requires c κs = sure-at (name-sure _ _ _) (c .before .name .given .1) (c .before .before .before .read-name .ensures) .2 .inside
+read-type-at-requires c κs =
+    sure-at (name-sure _ _ _) (c .before .name .given .1) (c .before .before .before .read-name .ensures) .2 .inside
 
 returns-2 : tie.Need-returns-2
 unfolding newtypeAt
-returns-2 c = named-rest typeAt _ _ _ (c .before .before .name .given .1) (c .before .before .before .before .read-name .ensures) (c .read-type-at .ensures)
+returns-2 c =
+    named-rest typeAt _ _ _ (c .before .before .name .given .1) (c .before .before .before .before .read-name .ensures)
+    (c .read-type-at .ensures)
 
 pub read-newtype-spec : {M : Type 1} → statement M
 read-newtype-spec =

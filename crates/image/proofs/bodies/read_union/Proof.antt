@@ -25,7 +25,9 @@ read-variants-requires c κs = search needs
 
 returns-2 : tie.Need-returns-2
 unfolding unionAt
-returns-2 c = named-rest (counted variantAt) _ _ _ (c .before .before .name .given .1) (c .before .before .before .before .read-name .ensures) (c .read-variants .ensures)
+returns-2 c =
+    named-rest (counted variantAt) _ _ _ (c .before .before .name .given .1) (c .before .before .before .before .read-name .ensures)
+    (c .read-variants .ensures)
 
 pub read-union-spec : {M : Type 1} → statement M
 read-union-spec =

@@ -1,6 +1,7 @@
 -- `image::contents::is_laid` meets its contract. The invariant: the entries from the i-th on decide. Assumes nothing.
 use mathlib.Core.Path.{_≡_, sym, ap, _∙_}
 use mathlib.Core.Logic.{⊎-elim}
+use mathlib.Core.Bool.{Bool}
 use Prim.Native.Nat.{ℕ, _+_, _-_, _≤_}
 use native.Mathlib.Omega.{arith}
 use lib.ListN.{length}
@@ -27,18 +28,27 @@ entry-length-requires c κs = omega arith
 
 returns : tie.Need-returns Inv-loop μ-loop
 returns c =
-    sym (c .before .before .before .before .before .loop .inv .2 ∙ laid-nowhere _ _ _ _ (c .before .before .before .before .loop-test .taken) (c .before .before .before .entry-offset .ensures .0) (c .before .before .entry-length .ensures .0) (c .before .if1 .taken) (c .if2 .taken))
+    let d = c .before .before in
+    let o = d .before .entry-offset .ensures .0 in
+    let l = d .entry-length .ensures .0 in
+    sym (d .before .before .before .loop .inv .2 ∙ laid-nowhere _ _ _ _ (d .before .before .loop-test .taken) o l (c .before .if1 .taken) (c .if2 .taken))
 
 returns-2 : tie.Need-returns-2 Inv-loop μ-loop
 returns-2 c =
-    sym (c .before .before .before .before .before .loop .inv .2 ∙ laid-gap _ _ _ _ (c .before .before .before .before .loop-test .taken) (c .before .before .before .entry-offset .ensures .0) (c .before .before .entry-length .ensures .0) (c .before .if1 .left) (c .if3 .taken))
+    let d = c .before .before in
+    let o = d .before .entry-offset .ensures .0 in
+    let l = d .entry-length .ensures .0 in
+    sym (d .before .before .before .loop .inv .2 ∙ laid-gap _ _ _ _ (d .before .before .loop-test .taken) o l (c .before .if1 .left) (omega arith))
 
 sub-if4 : tie.Need-sub-if4 Inv-loop μ-loop
 sub-if4 c = c .before .before .before .before .before .loop .inv .1
 
 returns-3 : tie.Need-returns-3 Inv-loop μ-loop
 returns-3 c =
-    sym (c .before .before .before .before .before .before .loop .inv .2 ∙ laid-past _ _ _ _ (c .before .before .before .before .before .loop-test .taken) (c .before .before .before .before .entry-offset .ensures .0) (c .before .before .before .entry-length .ensures .0) (c .before .before .if1 .left) (c .before .if3 .left) (omega arith))
+    let d = c .before .before .before in
+    let o = d .before .entry-offset .ensures .0 in
+    let l = d .entry-length .ensures .0 in
+    sym (d .before .before .before .loop .inv .2 ∙ laid-past _ _ _ _ (d .before .before .loop-test .taken) o l (c .before .before .if1 .left) (omega arith) (omega arith))
 
 add-at : tie.Need-add-at Inv-loop μ-loop
 add-at c = omega arith
@@ -49,6 +59,7 @@ add-i c = omega arith
 loop-less : tie.Need-loop-less Inv-loop μ-loop
 loop-less c = omega arith
 
+-- the position after an entry is the one that its arm left
 loop-again : tie.Need-loop-again Inv-loop μ-loop
 loop-again c =
     let a = c .before .before .before .before .before .before .args in
@@ -57,17 +68,14 @@ loop-again c =
     let o = c .before .before .entry-offset .ensures .0 in
     let l = c .before .entry-length .ensures .0 in
     let p = c .before .before .before .loop-test .taken in
+    let from : ℕ → Bool = λ k. laid (a .n - (i + 1)) (now (a .s)) (i + 1) k in
     ⊎-elim
-    (λ w. (
-      omega arith,
-      (let e = w .2 in omega arith),
-      v .2 ∙ laid-empty _ _ _ _ p o l (w .0 .taken) (w .1 .left) ∙ ap (λ (k : ℕ). laid (a .n - (i + 1)) (now (a .s)) (i + 1) k) (sym (w .2)),
-    ))
-    (λ w. (
-      omega arith,
-      (let e = w .3 in let q = w .2 .left in omega arith),
-      v .2 ∙ laid-next _ _ _ _ p o l (w .0 .left) (w .1 .left) (let q = w .2 .left in omega arith) ∙ ap (λ (k : ℕ). laid (a .n - (i + 1)) (now (a .s)) (i + 1) k) (sym (w .3)),
-    ))
+    (λ w. (omega arith, (let e = w .2 in omega arith), v .2 ∙ laid-empty _ _ _ _ p o l (w .0 .taken) (w .1 .left) ∙ ap from (sym (w .2))))
+    (λ w.
+    let q = w .1 .left in
+    let r = w .2 .left in
+    let e = w .3 in
+    (omega arith, omega arith, v .2 ∙ laid-next _ _ _ _ p o l (w .0 .left) (omega arith) (omega arith) ∙ ap from (sym e)))
     (c .if1 .came)
 
 returns-4 : tie.Need-returns-4 Inv-loop μ-loop

@@ -1,4 +1,5 @@
--- `image::contents::read_entries` meets its contract. The invariant: the answer for all entries is the answer for those from the i-th on. Assumes nothing.
+-- `image::contents::read_entries` meets its contract. The invariant: the answer for all entries is the answer for those from the
+-- i-th on. Assumes nothing.
 use borrow.Author.Needs.{needs}
 use mathlib.Core.Path.{_≡_, _∙_}
 use Prim.Native.Nat.{_-_, _≤_}
@@ -28,7 +29,9 @@ enum-told-2 : tie.Need-enum-told-2 Inv-loop μ-loop
 enum-told-2 c = search needs
 
 returns : tie.Need-returns Inv-loop μ-loop
-returns c = entries-stop _ _ _ (c .before .before .before .loop-test .taken) (c .enum-told2 .given .1) (c .before .before .read-entry .ensures) ∙ c .before .before .before .before .loop .inv .1
+returns c =
+    entries-stop _ _ _ (c .before .before .before .loop-test .taken) (c .enum-told2 .given .1) (c .before .before .read-entry .ensures)
+    ∙ c .before .before .before .before .loop .inv .1
 
 add-i : tie.Need-add-i Inv-loop μ-loop
 add-i c = omega arith
@@ -37,7 +40,9 @@ loop-less : tie.Need-loop-less Inv-loop μ-loop
 loop-less c = omega arith
 
 loop-again : tie.Need-loop-again Inv-loop μ-loop
-loop-again c = (omega arith, entries-more _ _ _ (c .before .before .before .loop-test .taken) (c .enum-told .given .1) (c .before .before .read-entry .ensures) ∙ c .before .before .before .before .loop .inv .1)
+loop-again c =
+    let l = c .before .before .before .before .loop in
+    (omega arith, entries-more _ _ _ (c .before .before .before .loop-test .taken) (c .enum-told .given .1) (c .before .before .read-entry .ensures) ∙ l .inv .1)
 
 returns-2 : tie.Need-returns-2 Inv-loop μ-loop
 returns-2 c = entries-done _ _ _ (c .loop-test .left) ∙ c .before .loop .inv .1

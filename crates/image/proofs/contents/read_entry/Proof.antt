@@ -29,7 +29,9 @@ read-body-requires : tie.Need-read-body-requires
 read-body-requires c κs = search needs
 
 returns-2 : tie.Need-returns-2
-returns-2 c = entry-body _ _ (c .before .before .before .before .entry-length .ensures .0) (c .before .before .before .if1 .left) (c .before .before .entry-offset .ensures .0) (c .read-body .ensures)
+returns-2 c =
+    entry-body _ _ (c .before .before .before .before .entry-length .ensures .0) (c .before .before .before .if1 .left)
+    (c .before .before .entry-offset .ensures .0) (c .read-body .ensures)
 
 pub read-entry-spec : {M : Type 1} → statement M
 read-entry-spec =

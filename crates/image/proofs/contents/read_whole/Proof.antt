@@ -36,7 +36,9 @@ enum-told-3 : tie.Need-enum-told-3
 enum-told-3 c = search needs
 
 returns-2 : tie.Need-returns-2
-returns-2 c = image-tables _ (c .before .before .before .enum-told .given .1) (c .before .before .before .before .before .read-head .ensures) (c .enum-told3 .given .1) (c .before .before .read-tables .ensures)
+returns-2 c =
+    image-tables _ (c .before .before .before .enum-told .given .1) (c .before .before .before .before .before .read-head .ensures)
+    (c .enum-told3 .given .1) (c .before .before .read-tables .ensures)
 
 segment-count-requires : tie.Need-segment-count-requires
 segment-count-requires c κs = eight (c .before .before .before .before)
@@ -54,7 +56,8 @@ returns-3 : tie.Need-returns-3
 returns-3 c =
     let h = c .before .before .before .before .before .before .before .before in
     let t = c .before .before .before .before in
-    image-names _ (h .enum-told .given .1) (h .before .before .read-head .ensures) (t .before .tables .given .1) (t .before .before .before .read-tables .ensures)
+    image-names _ (h .enum-told .given .1) (h .before .before .read-head .ensures) (t .before .tables .given .1)
+    (t .before .before .before .read-tables .ensures)
     (c .before .before .before .segment-count .ensures .0) (c .enum-told4 .given .1) (c .before .before .read-names .ensures)
 
 entry-count-requires : tie.Need-entry-count-requires
@@ -72,8 +75,10 @@ returns-4 c =
     let h = c .before .before .before .before .before .before .before .before .before .before .before .before in
     let t = c .before .before .before .before .before .before .before .before in
     let n = c .before .before .before in
-    image-gap _ (h .enum-told .given .1) (h .before .before .read-head .ensures) (t .before .tables .given .1) (t .before .before .before .read-tables .ensures)
-    (n .before .before .before .before .segment-count .ensures .0) (n .before .names .given .1) (n .before .before .before .read-names .ensures)
+    image-gap _ (h .enum-told .given .1) (h .before .before .read-head .ensures) (t .before .tables .given .1)
+    (t .before .before .before .read-tables .ensures)
+    (n .before .before .before .before .segment-count .ensures .0) (n .before .names .given .1)
+    (n .before .before .before .read-names .ensures)
     (c .before .before .entry-count .ensures .0) (sym (c .before .is-laid .ensures) ∙ not-true _ (c .if1 .taken))
 
 read-entries-requires : tie.Need-read-entries-requires
@@ -84,9 +89,12 @@ returns-5 c =
     let h = c .before .before .before .before .before .before .before .before .before .before .before .before .before in
     let t = c .before .before .before .before .before .before .before .before .before in
     let n = c .before .before .before .before in
-    image-entries _ (h .enum-told .given .1) (h .before .before .read-head .ensures) (t .before .tables .given .1) (t .before .before .before .read-tables .ensures)
-    (n .before .before .before .before .segment-count .ensures .0) (n .before .names .given .1) (n .before .before .before .read-names .ensures)
-    (c .before .before .before .entry-count .ensures .0) (sym (c .before .before .is-laid .ensures) ∙ not-false _ (c .before .if1 .left)) (c .read-entries .ensures)
+    image-entries _ (h .enum-told .given .1) (h .before .before .read-head .ensures) (t .before .tables .given .1)
+    (t .before .before .before .read-tables .ensures)
+    (n .before .before .before .before .segment-count .ensures .0) (n .before .names .given .1)
+    (n .before .before .before .read-names .ensures)
+    (c .before .before .before .entry-count .ensures .0) (sym (c .before .before .is-laid .ensures) ∙ not-false _ (c .before .if1 .left))
+    (c .read-entries .ensures)
 
 pub read-whole-spec : {M : Type 1} → statement M
 read-whole-spec =

@@ -25,7 +25,8 @@ read-name-requires c κs = search needs
 returns-2 : tie.Need-returns-2
 unfolding bareAt
 returns-2 c =
-    next _ (got (c .before .before .ordinal .given .1) (c .before .before .before .before .read-number .ensures)) (λ _. c .read-name .ensures ∙ sym (skip-ok _ _))
+    next _ (got (c .before .before .ordinal .given .1) (c .before .before .before .before .read-number .ensures))
+    (λ _. c .read-name .ensures ∙ sym (skip-ok _ _))
 
 pub read-bare-spec : {M : Type 1} → statement M
 read-bare-spec =

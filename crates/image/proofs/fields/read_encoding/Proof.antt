@@ -1,7 +1,7 @@
--- `image::fields::read_encoding` meets its contract. The invariant: the answer for the whole encoding is the answer for the one within, at the deltas that are left.
--- Assumes nothing.
+-- `image::fields::read_encoding` meets its contract. The invariant: the answer for the whole encoding is the answer for
+-- the one within, at the deltas that are left. Assumes nothing.
 use borrow.Author.Needs.{needs}
-use mathlib.Core.Path.{_≡_, refl, sym, _∙_}
+use mathlib.Core.Path.{_≡_, refl, _∙_}
 use native.Mathlib.Omega.{arith}
 use denote.Ref.{now}
 use Rattle.image.specs.Parse.{codeAt}
@@ -37,7 +37,8 @@ returns c = encoding-stop _ _ _ (c .enum-told .given .1) (c .before .before .rea
 -- the byte is there, 0 to 3
 byte : (c : tie.After-known-told Inv-loop μ-loop) →
     let s = now (c .before .before .before .before .before .before .args .s) in
-    There (codeAt 0 3 s (c .before .before .before .before .loop .next)) s (c .before .before .before .before .loop .next) (c .before .step .given .0 .0)
+    There (codeAt 0 3 s (c .before .before .before .before .loop .next)) s (c .before .before .before .before .loop .next)
+    (c .before .step .given .0 .0)
 byte c = code-there 0 3 _ _ (c .before .step .given .1) (c .before .before .before .read-code .ensures)
 
 shared-slice-read-if1 : tie.Need-shared-slice-read-if1 Inv-loop μ-loop
@@ -47,7 +48,9 @@ returns-2 : tie.Need-returns-2 Inv-loop μ-loop
 returns-2 c = encoding-plain _ _ _ (byte (c .before .before)) (c .if1 .taken) ∙ c .before .before .before .before .before .before .loop .inv
 
 returns-3 : tie.Need-returns-3 Inv-loop μ-loop
-returns-3 c = encoding-ninth _ _ _ (byte (c .before .before .before)) (c .if2 .taken) (c .before .if1 .left) ∙ c .before .before .before .before .before .before .before .loop .inv
+returns-3 c =
+    encoding-ninth _ _ _ (byte (c .before .before .before)) (c .if2 .taken) (c .before .if1 .left)
+    ∙ c .before .before .before .before .before .before .before .loop .inv
 
 sub-left : tie.Need-sub-left Inv-loop μ-loop
 sub-left c = omega arith
@@ -56,7 +59,9 @@ loop-less : tie.Need-loop-less Inv-loop μ-loop
 loop-less c = omega arith
 
 loop-again : tie.Need-loop-again Inv-loop μ-loop
-loop-again c = encoding-more _ _ _ (byte (c .before .before .before)) (c .if2 .left) (c .before .if1 .left) ∙ c .before .before .before .before .before .before .before .loop .inv
+loop-again c =
+    encoding-more _ _ _ (byte (c .before .before .before)) (c .if2 .left) (c .before .if1 .left)
+    ∙ c .before .before .before .before .before .before .before .loop .inv
 
 pub read-encoding-spec : {M : Type 1} → statement M
 read-encoding-spec =

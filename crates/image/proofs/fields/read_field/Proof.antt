@@ -27,7 +27,10 @@ enum-told-2 : tie.Need-enum-told-2
 enum-told-2 c = search needs
 
 returns-2 : tie.Need-returns-2
-returns-2 c = field-marks _ _ (c .before .before .before .before .bare .given .1) (c .before .before .before .before .before .before .read-bare .ensures) (c .enum-told2 .given .1) (c .before .before .read-marks .ensures)
+returns-2 c =
+    field-marks _ _ (c .before .before .before .before .bare .given .1)
+    (c .before .before .before .before .before .before .read-bare .ensures) (c .enum-told2 .given .1)
+    (c .before .before .read-marks .ensures)
 
 read-encoding-requires : tie.Need-read-encoding-requires
 read-encoding-requires c κs = search needs
@@ -40,7 +43,9 @@ enum-told-3 c = search needs
 
 returns-3 : tie.Need-returns-3
 returns-3 c =
-    field-encoding _ _ (c .before .before .before .before .before .before .before .before .bare .given .1) (c .before .before .before .before .before .before .before .before .before .before .read-bare .ensures) (c .before .before .before .before .marks .given .1) (c .before .before .before .before .before .before .read-marks .ensures)
+    field-encoding _ _ (c .before .before .before .before .before .before .before .before .bare .given .1)
+    (c .before .before .before .before .before .before .before .before .before .before .read-bare .ensures)
+    (c .before .before .before .before .marks .given .1) (c .before .before .before .before .before .before .read-marks .ensures)
     (c .enum-told3 .given .1) (c .before .before .read-encoding .ensures)
 
 read-limit-requires : tie.Need-read-limit-requires
@@ -55,8 +60,12 @@ enum-told-4 c = search needs
 returns-4 : tie.Need-returns-4
 returns-4 c =
     let d = c .before .before .before in
-    field-limit _ _ (d .before .before .before .before .before .before .before .before .before .bare .given .1) (d .before .before .before .before .before .before .before .before .before .before .before .read-bare .ensures) (d .before .before .before .before .before .marks .given .1) (d .before .before .before .before .before .before .before .read-marks .ensures)
-    (d .before .encoding .given .1) (d .before .before .before .read-encoding .ensures) (c .enum-told4 .given .1) (c .before .before .read-limit .ensures)
+    field-limit _ _ (d .before .before .before .before .before .before .before .before .before .bare .given .1)
+    (d .before .before .before .before .before .before .before .before .before .before .before .read-bare .ensures)
+    (d .before .before .before .before .before .marks .given .1)
+    (d .before .before .before .before .before .before .before .read-marks .ensures)
+    (d .before .encoding .given .1) (d .before .before .before .read-encoding .ensures) (c .enum-told4 .given .1)
+    (c .before .before .read-limit .ensures)
 
 read-type-at-requires : tie.Need-read-type-at-requires
 read-type-at-requires c κs = sure-at (limit-sure _ _) (c .before .limit .given .1) (c .before .before .before .read-limit .ensures) .2
@@ -64,8 +73,12 @@ read-type-at-requires c κs = sure-at (limit-sure _ _) (c .before .limit .given 
 returns-5 : tie.Need-returns-5
 returns-5 c =
     let d = c .before .before .before .before .before in
-    field-type _ _ (d .before .before .before .before .before .before .before .before .before .bare .given .1) (d .before .before .before .before .before .before .before .before .before .before .before .read-bare .ensures) (d .before .before .before .before .before .marks .given .1) (d .before .before .before .before .before .before .before .read-marks .ensures)
-    (d .before .encoding .given .1) (d .before .before .before .read-encoding .ensures) (c .before .before .limit .given .1) (c .before .before .before .before .read-limit .ensures) (c .read-type-at .ensures)
+    field-type _ _ (d .before .before .before .before .before .before .before .before .before .bare .given .1)
+    (d .before .before .before .before .before .before .before .before .before .before .before .read-bare .ensures)
+    (d .before .before .before .before .before .marks .given .1)
+    (d .before .before .before .before .before .before .before .read-marks .ensures)
+    (d .before .encoding .given .1) (d .before .before .before .read-encoding .ensures) (c .before .before .limit .given .1)
+    (c .before .before .before .before .read-limit .ensures) (c .read-type-at .ensures)
 
 pub read-field-spec : {M : Type 1} → statement M
 read-field-spec =

@@ -33,7 +33,9 @@ u16-at-requires : tie.Need-u16-at-requires Inv-loop μ-loop
 u16-at-requires c κs = number-within 2 _ _ (c .before .count .given .1) (c .before .before .before .read-number .ensures)
 
 loop-holds : tie.Need-loop-holds Inv-loop μ-loop
-loop-holds c = counted-as fieldAt _ _ (c .before .before .count .given .1) (c .before .before .before .before .read-number .ensures) (c .u16-at .ensures .0) refl
+loop-holds c =
+    counted-as fieldAt _ _ (c .before .before .count .given .1) (c .before .before .before .before .read-number .ensures)
+    (c .u16-at .ensures .0) refl
 
 read-field-requires : tie.Need-read-field-requires Inv-loop μ-loop
 read-field-requires c κs = search needs
@@ -45,7 +47,9 @@ enum-told-2 : tie.Need-enum-told-2 Inv-loop μ-loop
 enum-told-2 c = search needs
 
 returns-2 : tie.Need-returns-2 Inv-loop μ-loop
-returns-2 c = many-stop fieldAt _ _ _ (c .before .before .before .loop-test .taken) (c .enum-told2 .given .1) (c .before .before .read-field .ensures) ∙ c .before .before .before .before .loop .inv
+returns-2 c =
+    many-stop fieldAt _ _ _ (c .before .before .before .loop-test .taken) (c .enum-told2 .given .1)
+    (c .before .before .read-field .ensures) ∙ c .before .before .before .before .loop .inv
 
 sub-left : tie.Need-sub-left Inv-loop μ-loop
 sub-left c = omega arith
@@ -54,7 +58,9 @@ loop-less : tie.Need-loop-less Inv-loop μ-loop
 loop-less c = omega arith
 
 loop-again : tie.Need-loop-again Inv-loop μ-loop
-loop-again c = many-more fieldAt _ _ _ (c .before .before .before .before .loop-test .taken) (c .before .step .given .1) (c .before .before .before .read-field .ensures) ∙ c .before .before .before .before .before .loop .inv
+loop-again c =
+    many-more fieldAt _ _ _ (c .before .before .before .before .loop-test .taken) (c .before .step .given .1)
+    (c .before .before .before .read-field .ensures) ∙ c .before .before .before .before .before .loop .inv
 
 returns-3 : tie.Need-returns-3 Inv-loop μ-loop
 returns-3 c = many-none fieldAt _ _ _ (omega arith) ∙ c .before .loop .inv

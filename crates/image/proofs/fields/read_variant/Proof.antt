@@ -20,7 +20,9 @@ read-fields-requires : tie.Need-read-fields-requires
 read-fields-requires c κs = search needs
 
 returns-2 : tie.Need-returns-2
-returns-2 c = variant-fields _ _ (c .before .before .bare .given .1) (c .before .before .before .before .read-bare .ensures) (c .read-fields .ensures)
+returns-2 c =
+    variant-fields _ _ (c .before .before .bare .given .1) (c .before .before .before .before .read-bare .ensures)
+    (c .read-fields .ensures)
 
 pub read-variant-spec : {M : Type 1} → statement M
 read-variant-spec =

@@ -1,6 +1,6 @@
 -- `image::names::is_name_byte` meets its contract: what each test leaves decides the other ranges.
 -- Assumes nothing.
-use mathlib.Core.Bool.{and-false, or-false, false-or}
+use mathlib.Core.Bool.{and-false, or-false}
 use borrow.Author.Tests.{le-leb, lt-leb, ne-eqb}
 use native.Mathlib.Omega.{arith}
 use Rattle.image.specs.Names.{nameByte}

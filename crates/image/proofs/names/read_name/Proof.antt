@@ -2,7 +2,7 @@
 -- Assumes nothing.
 use borrow.Author.Needs.{needs}
 use mathlib.Core.Path.{_≡_, _∙_}
-use Prim.Native.Nat.{ℕ, _+_, _-_, _≤_, _<_}
+use Prim.Native.Nat.{_-_, _≤_}
 use borrow.Author.Tests.{not-true, not-false}
 use native.Mathlib.Omega.{arith}
 use Rattle.image.specs.Parse.{part}
@@ -37,7 +37,7 @@ returns-2 : tie.Need-returns-2 Inv-loop μ-loop
 returns-2 c = name-long _ _ _ (omega arith) (omega arith)
 
 add-end : tie.Need-add-end Inv-loop μ-loop
-add-end c = omega arith
+add-end c = omega (arith, c .before .shared-slice-known2 .given (c .before .before .before .before .args .at), c .before .before .before .before .good .0 .1)
 
 loop-holds : tie.Need-loop-holds Inv-loop μ-loop
 loop-holds c = (omega arith, bytes-first _ _ _)
@@ -51,7 +51,8 @@ is-name-byte-requires c κs = search needs
 returns-3 : tie.Need-returns-3 Inv-loop μ-loop
 returns-3 c =
     name-bad _ _ _ (omega arith) (omega arith)
-    (c .before .before .before .before .loop .inv .1 ∙ bytes-bad _ _ _ (c .before .before .before .loop-test .taken) (omega arith) (c .before .is-name-byte .ensures) (not-true _ (c .if3 .taken)))
+    (c .before .before .before .before .loop .inv .1
+    ∙ bytes-bad _ _ _ (c .before .before .before .loop-test .taken) (omega arith) (c .before .is-name-byte .ensures) (not-true _ (c .if3 .taken)))
 
 add-i : tie.Need-add-i Inv-loop μ-loop
 add-i c = omega arith
@@ -62,7 +63,8 @@ loop-less c = omega arith
 loop-again : tie.Need-loop-again Inv-loop μ-loop
 loop-again c = (
   omega arith,
-  c .before .before .before .before .loop .inv .1 ∙ bytes-next _ _ _ (c .before .before .before .loop-test .taken) (omega arith) (c .before .is-name-byte .ensures) (not-false _ (c .if3 .left)),
+  c .before .before .before .before .loop .inv .1
+      ∙ bytes-next _ _ _ (c .before .before .before .loop-test .taken) (omega arith) (c .before .is-name-byte .ensures) (not-false _ (c .if3 .left)),
 )
 
 returns-4 : tie.Need-returns-4 Inv-loop μ-loop

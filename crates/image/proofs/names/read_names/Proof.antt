@@ -29,7 +29,9 @@ enum-told c = search needs
 
 returns : tie.Need-returns Inv-loop μ-loop
 unfolding namesAt
-returns c = many-stop (nameAt _) _ _ _ (c .before .before .before .loop-test .taken) (c .enum-told .given .1) (c .before .before .read-name .ensures) ∙ c .before .before .before .before .loop .inv
+returns c =
+    many-stop (nameAt _) _ _ _ (c .before .before .before .loop-test .taken) (c .enum-told .given .1)
+    (c .before .before .read-name .ensures) ∙ c .before .before .before .before .loop .inv
 
 sub-left : tie.Need-sub-left Inv-loop μ-loop
 sub-left c = omega arith
@@ -39,7 +41,9 @@ loop-less c = omega arith
 
 loop-again : tie.Need-loop-again Inv-loop μ-loop
 unfolding namesAt
-loop-again c = many-more (nameAt _) _ _ _ (c .before .before .before .before .loop-test .taken) (c .before .step .given .1) (c .before .before .before .read-name .ensures) ∙ c .before .before .before .before .before .loop .inv
+loop-again c =
+    many-more (nameAt _) _ _ _ (c .before .before .before .before .loop-test .taken) (c .before .step .given .1)
+    (c .before .before .before .read-name .ensures) ∙ c .before .before .before .before .before .loop .inv
 
 returns-2 : tie.Need-returns-2 Inv-loop μ-loop
 unfolding namesAt

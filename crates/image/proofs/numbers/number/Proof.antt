@@ -1,7 +1,7 @@
--- `image::numbers::number` meets its contract. The invariant: the value is the number of the bytes from i on, and is as small as their count says.
--- Assumes nothing.
-use mathlib.Core.Path.{_≡_, sym, ap, _∙_}
-use Prim.Native.Nat.{ℕ, _+_, _-_, _^_, _≤_, _<_}
+-- `image::numbers::number` meets its contract. The invariant: the value is the number of the bytes from i on, and is as small as their
+-- count says. Assumes nothing.
+use mathlib.Core.Path.{_≡_, _∙_}
+use Prim.Native.Nat.{_+_, _-_, _^_, _≤_, _<_}
 use native.Mathlib.Omega.{arith}
 use lib.ListN.{drop}
 use Rattle.image.specs.Parse.{littleEndian}
@@ -26,7 +26,8 @@ sub-i : tie.Need-sub-i Inv-loop μ-loop
 sub-i c = omega arith
 
 small : (c : tie.In-loop Inv-loop μ-loop) → c .before .loop .value < 72057594037927936
-small c = below-seven (c .before .before .args .at + c .before .before .args .w - c .before .loop .i) _ (omega arith) (c .before .loop .inv .3)
+small c =
+    below-seven (c .before .before .args .at + c .before .before .args .w - c .before .loop .i) _ (omega arith) (c .before .loop .inv .3)
 
 mul-value : tie.Need-mul-value Inv-loop μ-loop
 mul-value c =

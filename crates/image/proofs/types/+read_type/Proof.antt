@@ -1,7 +1,7 @@
 -- The proof of the cycle of calls {read_type}. The measure is `left`, the nodes that a path may still have.
 -- Assumes nothing.
 use borrow.Author.Needs.{needs}
-use mathlib.Core.Path.{_≡_, sym, ap, _∙_}
+use mathlib.Core.Path.{_≡_, sym, _∙_}
 use mathlib.Core.List.{List}
 use Prim.Native.Nat.{ℕ, _+_, _-_, _<_, _≤_}
 use native.Mathlib.Omega.{arith}
@@ -13,7 +13,6 @@ use Rattle.image.specs.Schema.{Label}
 use Rattle.image.specs.Types.{innerTypes, innerAt, typeOf}
 use Rattle.image.specs.Answer.{skip}
 use Rattle.image.specs.declared.Read.{Read}
-use Rattle.image.specs.declared.Read.the-variants.{At, Refused}
 use Rattle.image.proofs.Laws.Types.{from-start, type-deep, type-stop, type-label, label-within, inner-within, inner-none, inner-stop, inner-one, inner-two-stop, inner-two}
 use Rattle.image.proofs.types.read_type.Reads as read-type
 use Rattle.image.proofs.types.read_type.Kinds as read-type-kinds
@@ -80,8 +79,11 @@ module _ (t : ℕ) where
 
   -- and what is left are the inner types
   rest : (c : here t lts.After-known-told) {r : Read} →
-      ((l : Label) → r ≡ skip (innerAt (innerTypes (getD (bytes c) 0 0)) l (typeOf (nodes c - 1)) (bytes c) (first c))) → r ≡ skip (typeOf (nodes c) (bytes c))
-  rest c g = type-label _ _ (c .before .before .before .before .if1 .left) (c .before .head .given .1) (c .before .before .before .read-label .ensures) g
+      ((l : Label) → r ≡ skip (innerAt (innerTypes (getD (bytes c) 0 0)) l (typeOf (nodes c - 1)) (bytes c) (first c))) → r ≡ skip
+      (typeOf (nodes c) (bytes c))
+  rest c g =
+      type-label _ _ (c .before .before .before .before .if1 .left) (c .before .head .given .1)
+      (c .before .before .before .read-label .ensures) g
 
   shared-slice-read-inner-types : here t lts.Need-shared-slice-read-inner-types
   shared-slice-read-inner-types c = within (c .before) .0
@@ -112,8 +114,12 @@ module _ (t : ℕ) where
   some c z = c .if2 .left (c .before .inner-types .ensures ∙ z)
 
   -- the first inner type is read from the part that starts at it
-  first-inner : (c : here t lts.After-read-type) → c .read-type .result ≡ skip (typeOf (nodes (c .before .before .before .before .before) - 1) (drop (first (c .before .before .before .before .before)) (bytes (c .before .before .before .before .before))))
-  first-inner c = from-start (typeOf (nodes (c .before .before .before .before .before) - 1)) (bytes (c .before .before .before .before .before)) (first (c .before .before .before .before .before)) (c .read-type .ensures)
+  first-inner : (c : here t lts.After-read-type) →
+      let l = c .before .before .before .before .before in
+      c .read-type .result ≡ skip (typeOf (nodes l - 1) (drop (first l) (bytes l)))
+  first-inner c =
+      let l = c .before .before .before .before .before in
+      from-start (typeOf (nodes l - 1)) (bytes l) (first l) (c .read-type .ensures)
 
   enum-known-one : here t lts.Need-enum-known-one
   enum-known-one c = search needs
@@ -122,7 +128,9 @@ module _ (t : ℕ) where
   enum-told-2 c = search needs
 
   returns-4 : here t lts.Need-returns-4
-  returns-4 c = rest (c .before .before .before .before .before .before .before) (λ l. inner-stop _ l _ _ _ (some (c .before .before .before .before)) (c .enum-told2 .given .1) (first-inner (c .before .before)))
+  returns-4 c =
+      rest (c .before .before .before .before .before .before .before)
+      (λ l. inner-stop _ l _ _ _ (some (c .before .before .before .before)) (c .enum-told2 .given .1) (first-inner (c .before .before)))
 
   -- where the first inner type was read: the place where the label was, and where the second starts
   abbrev labelled : here t lts.After-known-told2 → here t lts.After-known-told
@@ -143,13 +151,14 @@ module _ (t : ℕ) where
   returns-5 : here t lts.Need-returns-5
   returns-5 c =
       rest (labelled (c .before)) (λ l.
-      inner-one _ l _ _ _ (sym (c .before .before .before .before .before .before .before .inner-types .ensures) ∙ c .if3 .taken) (c .before .before .one .given .1) (first-inner (c .before .before .before .before)))
+      inner-one _ l _ _ _ (sym (c .before .before .before .before .before .before .before .inner-types .ensures) ∙ c .if3 .taken)
+      (c .before .before .one .given .1) (first-inner (c .before .before .before .before)))
 
   sub-read-type-3 : here t lts.Need-sub-read-type-3
-  sub-read-type-3 c = second-within (c .before)
+  sub-read-type-3 c = omega (arith, second-within (c .before), within (labelled (c .before)) .1)
 
   part-read-type-start-2 : here t lts.Need-part-read-type-start-2
-  part-read-type-start-2 c = second-within (c .before)
+  part-read-type-start-2 c = omega (arith, second-within (c .before), within (labelled (c .before)) .1)
 
   part-read-type-end-2 : here t lts.Need-part-read-type-end-2
   part-read-type-end-2 c = search needs
@@ -182,18 +191,25 @@ module _ (t : ℕ) where
   returns-6 : here t lts.Need-returns-6
   returns-6 c =
       rest (labelled (c .before .before .before .before .before)) (λ l.
-      inner-two-stop _ l _ _ _ (some (c .before .before .before .before .before .before .before .before .before .before)) (more (c .before .before .before .before)) (c .before .before .before .before .before .before .one .given .1) (first-inner (c .before .before .before .before .before .before .before .before)) (c .enum-told3 .given .1) (second-inner (c .before .before)))
+      inner-two-stop _ l _ _ _ (some (c .before .before .before .before .before .before .before .before .before .before))
+      (more (c .before .before .before .before)) (c .before .before .before .before .before .before .one .given .1)
+      (first-inner (c .before .before .before .before .before .before .before .before)) (c .enum-told3 .given .1)
+      (second-inner (c .before .before)))
 
   add-t18 : here t lts.Need-add-t18
   add-t18 c =
-      let h = inner-within _ _ _ (second-within (c .before .before .before .before .before .before)) (c .before .two .given .1) (second-inner (c .before .before .before)) in
-      let g = labelled (c .before .before .before .before .before .before) .before .before .before .before .before .before .good .0 .0 in
+      let k = c .before .before .before .before .before .before in
+      let h = inner-within _ _ _ (second-within k) (c .before .two .given .1) (second-inner (c .before .before .before)) in
+      let g = labelled k .before .before .before .before .before .before .good .0 .0 in
       omega arith
 
   returns-7 : here t lts.Need-returns-7
   returns-7 c =
       rest (labelled (c .before .before .before .before .before .before)) (λ l.
-      inner-two _ l _ _ _ (some (c .before .before .before .before .before .before .before .before .before .before .before)) (more (c .before .before .before .before .before)) (c .before .before .before .before .before .before .before .one .given .1) (first-inner (c .before .before .before .before .before .before .before .before .before)) (c .before .two .given .1) (second-inner (c .before .before .before)))
+      inner-two _ l _ _ _ (some (c .before .before .before .before .before .before .before .before .before .before .before))
+      (more (c .before .before .before .before .before)) (c .before .before .before .before .before .before .before .one .given .1)
+      (first-inner (c .before .before .before .before .before .before .before .before .before)) (c .before .two .given .1)
+      (second-inner (c .before .before .before)))
 
 pub +read-type-spec : {M : Type 1} → statement M
 +read-type-spec = close μ-read-type λ t. lts.spec (claims t) (read-type-at t) read-type.Post

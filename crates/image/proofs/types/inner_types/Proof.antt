@@ -6,10 +6,10 @@ use Rattle.image.proofs.types.inner_types.Statement.{statement}
 use Rattle.image.proofs.types.inner_types.Tie as tie
 
 returns : tie.Need-returns
-returns c = inner-below _ (c .if1 .taken)
+returns c = inner-below _ (omega arith)
 
 returns-2 : tie.Need-returns-2
-returns-2 c = inner-above _ (c .if2 .taken)
+returns-2 c = inner-above _ (omega arith)
 
 returns-3 : tie.Need-returns-3
 unfolding innerTypes

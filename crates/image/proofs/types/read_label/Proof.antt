@@ -26,7 +26,9 @@ unfolding labelOf
 returns c = stop _ _ (c .enum-told .given .1) (c .before .before .read-byte .ensures)
 
 -- the tag is there
-tag : (c : tie.After-known-told) → There (byteAt 8 (now (c .before .before .before .before .before .args .s)) 0) (now (c .before .before .before .before .before .args .s)) 0 (c .before .step .given .0 .0)
+tag : (c : tie.After-known-told) →
+    let s = now (c .before .before .before .before .before .args .s) in
+    There (byteAt 8 s 0) s 0 (c .before .step .given .0 .0)
 tag c = byte-there 8 _ _ (c .before .step .given .1) (c .before .before .before .read-byte .ensures)
 
 shared-slice-read-tag : tie.Need-shared-slice-read-tag
@@ -72,7 +74,8 @@ returns-6 c = label-by _ 3 _ (tag (c .before .before .before)) (c .before .match
 
 returns-7 : tie.Need-returns-7
 unfolding followsTag afterTag
-returns-7 c = label-by _ 6 _ (tag (c .before .before .before)) (c .before .match2 .keys5) refl (c .read-number2 .ensures ∙ sym (skip-ok _ _))
+returns-7 c =
+    label-by _ 6 _ (tag (c .before .before .before)) (c .before .match2 .keys5) refl (c .read-number2 .ensures ∙ sym (skip-ok _ _))
 
 returns-8 : tie.Need-returns-8
 unfolding followsTag

@@ -26,7 +26,8 @@ read-code-requires-2 c κs = search needs
 returns-2 : tie.Need-returns-2
 unfolding afterTag
 returns-2 c =
-    next _ (got (c .before .before .step .given .1) (c .before .before .before .before .read-code .ensures)) (λ _. c .read-code2 .ensures ∙ sym (skip-ok _ _))
+    next _ (got (c .before .before .step .given .1) (c .before .before .before .before .read-code .ensures))
+    (λ _. c .read-code2 .ensures ∙ sym (skip-ok _ _))
 
 pub read-sub-byte-spec : {M : Type 1} → statement M
 read-sub-byte-spec =

@@ -30,7 +30,8 @@ enum-told : tie.Need-enum-told
 enum-told c = search needs
 
 -- the answer for the part that starts at the type
-type-is : (c : tie.After-read-type) → c .read-type .result ≡ skip (typeOf 32 (drop (c .before .before .before .args .at) (now (c .before .before .before .args .s))))
+type-is : (c : tie.After-read-type)
+    → c .read-type .result ≡ skip (typeOf 32 (drop (c .before .before .before .args .at) (now (c .before .before .before .args .s))))
 type-is c = from-start (typeOf 32) (now (c .before .before .before .args .s)) (c .before .before .before .args .at) (c .read-type .ensures)
 
 returns : tie.Need-returns
