@@ -32,9 +32,9 @@ enum-told-2 c = search needs
 returns-2 : tie.Need-returns-2
 unfolding enumAt
 returns-2 c =
-    marked-marks (counted bareAt) _ _ _ (c .before .before .before .before .name .given .1)
-    (c .before .before .before .before .before .before .read-name .ensures) (c .enum-told2 .given .1)
-    (c .before .before .read-marks .ensures)
+    let n = c .before .before .before in
+    marked-marks (counted bareAt) _ _ _ (n .before .name .given .1) (n .before .before .before .read-name .ensures)
+    (c .enum-told2 .given .1) (c .before .before .read-marks .ensures)
 
 read-bares-requires : tie.Need-read-bares-requires
 read-bares-requires c κs = search needs
@@ -42,9 +42,11 @@ read-bares-requires c κs = search needs
 returns-3 : tie.Need-returns-3
 unfolding enumAt
 returns-3 c =
-    marked-rest (counted bareAt) _ _ _ (c .before .before .before .before .before .before .name .given .1)
-    (c .before .before .before .before .before .before .before .before .read-name .ensures) (c .before .before .marks .given .1)
-    (c .before .before .before .before .read-marks .ensures) (c .read-bares .ensures)
+    let m = c .before in
+    let n = m .before .before .before .before in
+    marked-rest (counted bareAt) _ _ _ (n .before .name .given .1) (n .before .before .before .read-name .ensures)
+    (m .before .marks .given .1) (m .before .before .before .read-marks .ensures)
+    (c .read-bares .ensures)
 
 pub read-enum-spec : {M : Type 1} → statement M
 read-enum-spec =

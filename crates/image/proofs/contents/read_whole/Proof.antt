@@ -37,8 +37,9 @@ enum-told-3 c = search needs
 
 returns-2 : tie.Need-returns-2
 returns-2 c =
-    image-tables _ (c .before .before .before .enum-told .given .1) (c .before .before .before .before .before .read-head .ensures)
-    (c .enum-told3 .given .1) (c .before .before .read-tables .ensures)
+    let h = c .before .before .before in
+    image-tables _ (h .enum-told .given .1) (h .before .before .read-head .ensures) (c .enum-told3 .given .1)
+    (c .before .before .read-tables .ensures)
 
 segment-count-requires : tie.Need-segment-count-requires
 segment-count-requires c κs = eight (c .before .before .before .before)
@@ -54,8 +55,8 @@ enum-told-4 c = search needs
 
 returns-3 : tie.Need-returns-3
 returns-3 c =
-    let h = c .before .before .before .before .before .before .before .before in
     let t = c .before .before .before .before in
+    let h = t .before .before .before .before in
     image-names _ (h .enum-told .given .1) (h .before .before .read-head .ensures) (t .before .tables .given .1)
     (t .before .before .before .read-tables .ensures)
     (c .before .before .before .segment-count .ensures .0) (c .enum-told4 .given .1) (c .before .before .read-names .ensures)
@@ -65,16 +66,17 @@ entry-count-requires c κs = eight (c .before .before .before .before .before .b
 
 is-laid-requires : tie.Need-is-laid-requires
 is-laid-requires c κs =
-    let t = c .before .before .before .before .before .before in
+    let n = c .before in
+    let t = n .before .before .before .before .before in
     let i = tables-within _ (t .before .tables .given .1) (t .before .before .before .read-tables .ensures) .0 in
     let e = c .entry-count .ensures .0 in
-    (omega arith, names-within _ _ (t .before .tables .given .1) (t .before .before .before .read-tables .ensures) (c .before .before .names .given .1) (c .before .before .before .before .read-names .ensures))
+    (omega arith, names-within _ _ (t .before .tables .given .1) (t .before .before .before .read-tables .ensures) (n .before .names .given .1) (n .before .before .before .read-names .ensures))
 
 returns-4 : tie.Need-returns-4
 returns-4 c =
-    let h = c .before .before .before .before .before .before .before .before .before .before .before .before in
-    let t = c .before .before .before .before .before .before .before .before in
     let n = c .before .before .before in
+    let t = n .before .before .before .before .before in
+    let h = t .before .before .before .before in
     image-gap _ (h .enum-told .given .1) (h .before .before .read-head .ensures) (t .before .tables .given .1)
     (t .before .before .before .read-tables .ensures)
     (n .before .before .before .before .segment-count .ensures .0) (n .before .names .given .1)
@@ -86,9 +88,9 @@ read-entries-requires c κs = (is-laid-requires (c .before .before) κs .0, sym 
 
 returns-5 : tie.Need-returns-5
 returns-5 c =
-    let h = c .before .before .before .before .before .before .before .before .before .before .before .before .before in
-    let t = c .before .before .before .before .before .before .before .before .before in
     let n = c .before .before .before .before in
+    let t = n .before .before .before .before .before in
+    let h = t .before .before .before .before in
     image-entries _ (h .enum-told .given .1) (h .before .before .read-head .ensures) (t .before .tables .given .1)
     (t .before .before .before .read-tables .ensures)
     (n .before .before .before .before .segment-count .ensures .0) (n .before .names .given .1)

@@ -28,8 +28,8 @@ enum-told-2 c = search needs
 
 returns-2 : tie.Need-returns-2
 returns-2 c =
-    field-marks _ _ (c .before .before .before .before .bare .given .1)
-    (c .before .before .before .before .before .before .read-bare .ensures) (c .enum-told2 .given .1)
+    let b = c .before .before .before in
+    field-marks _ _ (b .before .bare .given .1) (b .before .before .before .read-bare .ensures) (c .enum-told2 .given .1)
     (c .before .before .read-marks .ensures)
 
 read-encoding-requires : tie.Need-read-encoding-requires
@@ -43,9 +43,10 @@ enum-told-3 c = search needs
 
 returns-3 : tie.Need-returns-3
 returns-3 c =
-    field-encoding _ _ (c .before .before .before .before .before .before .before .before .bare .given .1)
-    (c .before .before .before .before .before .before .before .before .before .before .read-bare .ensures)
-    (c .before .before .before .before .marks .given .1) (c .before .before .before .before .before .before .read-marks .ensures)
+    let m = c .before .before .before in
+    let b = m .before .before .before .before in
+    field-encoding _ _ (b .before .bare .given .1) (b .before .before .before .read-bare .ensures) (m .before .marks .given .1)
+    (m .before .before .before .read-marks .ensures)
     (c .enum-told3 .given .1) (c .before .before .read-encoding .ensures)
 
 read-limit-requires : tie.Need-read-limit-requires
@@ -59,12 +60,12 @@ enum-told-4 c = search needs
 
 returns-4 : tie.Need-returns-4
 returns-4 c =
-    let d = c .before .before .before in
-    field-limit _ _ (d .before .before .before .before .before .before .before .before .before .bare .given .1)
-    (d .before .before .before .before .before .before .before .before .before .before .before .read-bare .ensures)
-    (d .before .before .before .before .before .marks .given .1)
-    (d .before .before .before .before .before .before .before .read-marks .ensures)
-    (d .before .encoding .given .1) (d .before .before .before .read-encoding .ensures) (c .enum-told4 .given .1)
+    let e = c .before .before .before in
+    let m = e .before .before .before .before in
+    let b = m .before .before .before .before in
+    field-limit _ _ (b .before .bare .given .1) (b .before .before .before .read-bare .ensures) (m .before .marks .given .1)
+    (m .before .before .before .read-marks .ensures)
+    (e .before .encoding .given .1) (e .before .before .before .read-encoding .ensures) (c .enum-told4 .given .1)
     (c .before .before .read-limit .ensures)
 
 read-type-at-requires : tie.Need-read-type-at-requires
@@ -72,13 +73,14 @@ read-type-at-requires c κs = sure-at (limit-sure _ _) (c .before .limit .given 
 
 returns-5 : tie.Need-returns-5
 returns-5 c =
-    let d = c .before .before .before .before .before in
-    field-type _ _ (d .before .before .before .before .before .before .before .before .before .bare .given .1)
-    (d .before .before .before .before .before .before .before .before .before .before .before .read-bare .ensures)
-    (d .before .before .before .before .before .marks .given .1)
-    (d .before .before .before .before .before .before .before .read-marks .ensures)
-    (d .before .encoding .given .1) (d .before .before .before .read-encoding .ensures) (c .before .before .limit .given .1)
-    (c .before .before .before .before .read-limit .ensures) (c .read-type-at .ensures)
+    let l = c .before in
+    let e = l .before .before .before .before in
+    let m = e .before .before .before .before in
+    let b = m .before .before .before .before in
+    field-type _ _ (b .before .bare .given .1) (b .before .before .before .read-bare .ensures) (m .before .marks .given .1)
+    (m .before .before .before .read-marks .ensures)
+    (e .before .encoding .given .1) (e .before .before .before .read-encoding .ensures) (l .before .limit .given .1)
+    (l .before .before .before .read-limit .ensures) (c .read-type-at .ensures)
 
 pub read-field-spec : {M : Type 1} → statement M
 read-field-spec =
