@@ -1,0 +1,213 @@
+-- The eight clauses of document 01, "Clauses and verdict", named as the functions of compat.rs that they stand for. What they compare is
+-- handed in: the views of the two schemas, and how types are read. Assumes nothing.
+use mathlib.Core.Bool.{Bool, cond, not, _&&_, Bool·beq}
+use mathlib.Core.Option.{Option, none, some}
+use mathlib.Core.List.{List, [], _∷_, _++_, flatMap}
+use Prim.Native.Nat.{ℕ, zero, suc}
+use lib.Dec.{eqb, ltb}
+use Rattle.maps.specs.Compare.{Rules, compare}
+use Rattle.maps.specs.Orders.{before}
+use Rattle.image.specs.Schema.{Name, Marks, Encoding, Ty, Field, Variant, Decl}
+use Rattle.image.specs.Words.{bytes, kindWord}
+use Rattle.rules.specs.Equal.{sameOption, sameName, sameNames}
+use Rattle.rules.specs.Survivors.{Registry, nameOf, ordinalOf, fieldMap, variantOrdinal, variantMap, View}
+use Rattle.rules.specs.Types.{Reading, resolve}
+use Rattle.rules.specs.Text.{decimal, joined, boolWord, showType, showEncoding}
+use Rattle.rules.specs.Changes.{Bump, patch, minor, major, Change, change, only, quoted, numbered, fromTo, FieldAdded, FieldRemoved, FieldTypeChanged, FieldRenamed, FieldDeprecated, FieldEncodingChanged, VariantAdded, VariantRemoved, DeclarationAdded, DeclarationRemoved, DeclarationKindChanged, NamespaceChanged, NonExhaustiveChanged, FlagsBitAdded, FlagsBitRemoved}
+
+-- ---- 1. `NamespaceChanged` Major: segment lists differ.
+
+unfoldable pub showNamespace : List Name → List ℕ
+showNamespace segments = quoted (joined (bytes ".") segments)
+
+unfoldable pub compareNamespaces : List Name → List Name → List Change
+compareNamespaces old new =
+    only (not (sameNames old new))
+    (change NamespaceChanged major [] none (bytes "namespace changed" ++ fromTo (showNamespace old) (showNamespace new)))
+
+-- ---- a type that changed: of a field (clause 4) or of a newtype (clause 8)
+
+-- how types are read, with the registries of the old and of the new image
+pub record Reader : Type 0 where
+  pub same : Reading
+  pub old : Registry
+  pub new : Registry
+
+unfoldable pub compareTypes : Reader → Name → Option Name → List ℕ → Ty → Ty → List Change
+compareTypes r d field what t u =
+    only (not (r .same (resolve (r .old) t) (resolve (r .new) u)))
+    (change FieldTypeChanged major d field
+    (what ++ (bytes " type changed" ++ fromTo (showType (resolve (r .old) t)) (showType (resolve (r .new) u)))))
+
+-- ---- 4. Field sets, by ordinal: `FieldRemoved` Major; `FieldAdded` Major; then per shared ordinal `FieldRenamed` Patch, `FieldTypeChanged`
+-- Major, `FieldEncodingChanged` Major (encoding or limit differs), `FieldDeprecated` Patch (mark gained; lost is silent).
+
+unfoldable pub fieldText : Field → List ℕ
+fieldText f = numbered (bytes "field") (f .name) (f .ordinal)
+
+unfoldable pub compareFieldNames : Name → Field → Field → List Change
+compareFieldNames d f g =
+    only (not (sameName (f .name) (g .name)))
+    (change FieldRenamed patch d (some (g .name))
+    (bytes "field @" ++ (decimal (g .ordinal) ++ (bytes " renamed" ++ fromTo (quoted (f .name)) (quoted (g .name))))))
+
+unfoldable pub sameEncoding : Encoding → Encoding → Bool
+sameEncoding a b = eqb (a .deltas) (b .deltas) && eqb (a .base) (b .base)
+
+unfoldable pub compareEncodings : Name → Field → Field → List Change
+compareEncodings d f g =
+    only (not (sameEncoding (f .encoding) (g .encoding) && sameOption eqb (f .limit) (g .limit)))
+    (change FieldEncodingChanged major d (some (g .name))
+    (fieldText g ++ (bytes " encoding changed" ++ fromTo (showEncoding (f .encoding)) (showEncoding (g .encoding)))))
+
+-- the mark was gained: by a field, or by a message itself
+unfoldable pub compareDeprecated : Name → Option Name → List ℕ → Marks → Marks → List Change
+compareDeprecated d field target old new =
+    only (not (old .deprecated) && new .deprecated)
+    (change FieldDeprecated patch d field (target ++ bytes " was marked @deprecated"))
+
+unfoldable pub compareFields : Reader → Name → Field → Field → List Change
+compareFields r d f g =
+    compareFieldNames d f g
+    ++ (compareTypes r d (some (g .name)) (fieldText g) (f .type) (g .type)
+    ++ (compareEncodings d f g
+    ++ compareDeprecated d (some (g .name)) (bytes "field " ++ quoted (g .name)) (f .marks) (g .marks)))
+
+unfoldable pub fieldRules : Reader → Name → Rules Field Change
+fieldRules r d = record {
+  gone = λ f. change FieldRemoved major d (some (f .name)) (fieldText f ++ bytes " was removed") ∷ [];
+  came = λ f. change FieldAdded major d (some (f .name)) (fieldText f ++ bytes " was added") ∷ [];
+  kept = λ f g. compareFields r d f g;
+}
+
+unfoldable pub compareFieldSets : Reader → Name → List Field → List Field → List Change
+compareFieldSets r d old new = compare ordinalOf ltb (fieldRules r d) (fieldMap old) (fieldMap new)
+
+-- Message: then its own `FieldDeprecated`.
+unfoldable pub compareMessages : Reader → Name → Decl → Decl → List Change
+compareMessages r d old new =
+    compareFieldSets r d (old .fields) (new .fields)
+    ++ compareDeprecated d none (bytes "declaration") (old .marks) (new .marks)
+
+-- ---- 5. Enum: `NonExhaustiveChanged` Major; `VariantRemoved` Major; `VariantAdded` Minor if the new enum is non-exhaustive, else Major.
+-- Renames and deprecation silent.
+
+unfoldable pub variantText : Variant → List ℕ
+variantText v = numbered (bytes "variant") (v .name) (v .ordinal)
+
+unfoldable pub variantGone : Name → Variant → List Change
+variantGone d v = change VariantRemoved major d (some (v .name)) (variantText v ++ bytes " was removed") ∷ []
+
+unfoldable pub variantCame : Bump → Name → Variant → List Change
+variantCame bump d v = change VariantAdded bump d (some (v .name)) (variantText v ++ bytes " was added") ∷ []
+
+unfoldable pub enumBump : Marks → Bump
+enumBump new = cond (new .nonExhaustive) minor major
+
+unfoldable pub enumRules : Name → Marks → Rules Variant Change
+enumRules d new = record { gone = variantGone d; came = variantCame (enumBump new) d; kept = λ v w. [] }
+
+unfoldable pub compareNonExhaustive : Name → Marks → Marks → List Change
+compareNonExhaustive d old new =
+    only (not (Bool·beq (old .nonExhaustive) (new .nonExhaustive)))
+    (change NonExhaustiveChanged major d none
+    (bytes "@non_exhaustive changed" ++ fromTo (boolWord (old .nonExhaustive)) (boolWord (new .nonExhaustive))))
+
+unfoldable pub compareEnums : Name → Decl → Decl → List Change
+compareEnums d old new =
+    compareNonExhaustive d (old .marks) (new .marks)
+    ++ compare variantOrdinal ltb (enumRules d (new .marks)) (variantMap (old .variants)) (variantMap (new .variants))
+
+-- ---- 6. Flags: `FlagsBitRemoved` Major, `FlagsBitAdded` Minor.
+
+unfoldable pub bitText : Variant → List ℕ
+bitText v = numbered (bytes "bit") (v .name) (v .ordinal)
+
+unfoldable pub flagsRules : Name → Rules Variant Change
+flagsRules d = record {
+  gone = λ v. change FlagsBitRemoved major d (some (v .name)) (bitText v ++ bytes " was removed") ∷ [];
+  came = λ v. change FlagsBitAdded minor d (some (v .name)) (bitText v ++ bytes " was added") ∷ [];
+  kept = λ v w. [];
+}
+
+unfoldable pub compareFlags : Name → Decl → Decl → List Change
+compareFlags d old new = compare variantOrdinal ltb (flagsRules d) (variantMap (old .variants)) (variantMap (new .variants))
+
+-- ---- 7. Union: `VariantRemoved` Major, `VariantAdded` Minor; shared ordinals compare fields, under the declaration's name, two colons and
+-- the old variant's name.
+
+unfoldable pub variantDecl : Name → Variant → Name
+variantDecl d v = d ++ (bytes "::" ++ v .name)
+
+unfoldable pub unionRules : Reader → Name → Rules Variant Change
+unionRules r d = record {
+  gone = variantGone d;
+  came = variantCame minor d;
+  kept = λ v w. compareFieldSets r (variantDecl d v) (v .fields) (w .fields);
+}
+
+unfoldable pub compareUnions : Reader → Name → Decl → Decl → List Change
+compareUnions r d old new = compare variantOrdinal ltb (unionRules r d) (variantMap (old .variants)) (variantMap (new .variants))
+
+-- ---- 8. Newtype: `FieldTypeChanged` Major.
+
+unfoldable pub compareNewtypes : Reader → Name → Decl → Decl → List Change
+compareNewtypes r d old new = compareTypes r d none (bytes "newtype " ++ (quoted d ++ bytes " inner")) (old .inner) (new .inner)
+
+-- ---- 3. Per shared name: kinds differ, `DeclarationKindChanged` Major and no more. Config, trait, impl: silent; so is a generic alias, of
+-- which a pair is refused.
+
+unfoldable pub compareKind : ℕ → Reader → Decl → Decl → List Change
+compareKind zero r old new = compareMessages r (old .name) old new
+compareKind (suc zero) r old new = compareEnums (old .name) old new
+compareKind (suc (suc zero)) r old new = compareFlags (old .name) old new
+compareKind (suc (suc (suc zero))) r old new = compareUnions r (old .name) old new
+compareKind (suc (suc (suc (suc zero)))) r old new = compareNewtypes r (old .name) old new
+compareKind (suc (suc (suc (suc (suc k))))) r old new = []
+
+unfoldable pub kindChanged : Decl → Decl → List Change
+kindChanged old new =
+    change DeclarationKindChanged major (old .name) none
+    (quoted (old .name) ++ (bytes " changed" ++ fromTo (kindWord (old .kind)) (kindWord (new .kind)))) ∷ []
+
+unfoldable pub compareDecls : Reader → Decl → Decl → List Change
+compareDecls r old new = cond (eqb (old .kind) (new .kind)) (compareKind (old .kind) r old new) (kindChanged old new)
+
+-- ---- 2. `DeclarationRemoved` Major, then `DeclarationAdded` Minor.
+
+unfoldable pub declText : Decl → List ℕ
+declText d = kindWord (d .kind) ++ (bytes " " ++ quoted (d .name))
+
+unfoldable pub declRules : Reader → Rules Decl Change
+declRules r = record {
+  gone = λ d. change DeclarationRemoved major (d .name) none (declText d ++ bytes " was removed") ∷ [];
+  came = λ d. change DeclarationAdded minor (d .name) none (declText d ++ bytes " was added") ∷ [];
+  kept = λ d e. compareDecls r d e;
+}
+
+-- ---- all clauses, in report order
+
+unfoldable pub changes : Reading → View → View → List Change
+changes same old new =
+    compareNamespaces (old .namespace) (new .namespace)
+    ++ compare nameOf before (declRules (record { same = same; old = old .registry; new = new .registry })) (old .standing) (new .standing)
+
+-- ---- "The types compared in an image are those of surviving newtypes and of surviving fields in surviving messages and in surviving
+-- variants of surviving unions"
+
+unfoldable pub fieldTypes : List Field → List Ty
+fieldTypes fs = flatMap (λ f. f .type ∷ []) (fieldMap fs)
+
+unfoldable pub variantTypes : List Variant → List Ty
+variantTypes vs = flatMap (λ v. fieldTypes (v .fields)) (variantMap vs)
+
+unfoldable pub typesOf : ℕ → Decl → List Ty
+typesOf zero d = fieldTypes (d .fields)
+typesOf (suc zero) d = []
+typesOf (suc (suc zero)) d = []
+typesOf (suc (suc (suc zero))) d = variantTypes (d .variants)
+typesOf (suc (suc (suc (suc zero)))) d = d .inner ∷ []
+typesOf (suc (suc (suc (suc (suc k))))) d = []
+
+unfoldable pub comparedTypes : View → List Ty
+comparedTypes v = flatMap (λ d. typesOf (d .kind) d) (v .standing)

@@ -1,0 +1,41 @@
+-- The report: document 01, "Report". Assumes nothing.
+use mathlib.Core.Option.{Option, none, some}
+use mathlib.Core.List.{List, [], _∷_, _++_, flatMap}
+use Prim.Native.Nat.{ℕ}
+use lib.ListN.{length}
+use Rattle.image.specs.Schema.{Name}
+use Rattle.image.specs.Words.{bytes}
+use Rattle.rules.specs.Text.{decimal, joined, word}
+use Rattle.rules.specs.Changes.{level, Change}
+use Rattle.rules.specs.Verdict.{bumpOf, resultOf}
+
+-- the names of `ChangeKind`, `BumpKind` and `CompatResult`
+unfoldable pub changeWord : ℕ → List ℕ
+changeWord kind =
+    word ("FieldAdded" ∷ "FieldRemoved" ∷ "FieldTypeChanged" ∷ "FieldOrdinalChanged" ∷ "FieldRenamed" ∷ "FieldDeprecated" ∷ "FieldEncodingChanged" ∷ "VariantAdded" ∷ "VariantRemoved" ∷ "VariantOrdinalChanged" ∷ "DeclarationAdded" ∷ "DeclarationRemoved" ∷ "DeclarationKindChanged" ∷ "NamespaceChanged" ∷ "NonExhaustiveChanged" ∷ "FlagsBitAdded" ∷ "FlagsBitRemoved" ∷ "FlagsBitOrdinalChanged" ∷ []) kind
+
+unfoldable pub bumpWord : ℕ → List ℕ
+bumpWord bump = word ("Patch" ∷ "Minor" ∷ "Major" ∷ []) bump
+
+unfoldable pub resultWord : ℕ → List ℕ
+resultWord result = word ("Compatible" ∷ "Breaking" ∷ []) result
+
+-- "`-` if the change has no field, else `+` and the field"
+unfoldable pub fieldText : Option Name → List ℕ
+fieldText none = bytes "-"
+fieldText (some n) = bytes "+" ++ n
+
+-- "parted by `;`, ended by byte 10"
+unfoldable pub line : List (List ℕ) → List ℕ
+line parts = joined (bytes ";") parts ++ bytes "\n"
+
+-- "One line a change: kind, bump, declaration .., field .., the `detail`"
+unfoldable pub changeLine : Change → List ℕ
+changeLine c = line (changeWord (c .kind) ∷ bumpWord (level (c .bump)) ∷ c .declaration ∷ fieldText (c .field) ∷ c .detail ∷ [])
+
+-- "Last line, in the same way: result, bump, number of changes."
+unfoldable pub lastLine : List Change → List ℕ
+lastLine cs = line (resultWord (resultOf cs) ∷ bumpWord (bumpOf cs) ∷ decimal (length cs) ∷ [])
+
+unfoldable pub report : List Change → List ℕ
+report cs = flatMap changeLine cs ++ lastLine cs
