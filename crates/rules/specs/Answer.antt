@@ -33,21 +33,22 @@ pub data Outcome : Type 0 where
 unfoldable pub comparePair : Reading → View → View → Outcome
 comparePair same old new = cond (aliasPair old new) (refused 11 bothSides) (compared (changes same old new))
 
--- "old before new; in each 1 .. Then 11"
-unfoldable pub acceptNew : Reading → View → Parsed Schema → Outcome
-acceptNew same old (ok s n) = comparePair same old (viewOf s)
-acceptNew same old (no k) = refused k newSide
+-- "old before new; in each 1 .. Then 11". What is compared of a schema, and how types are read, are handed in.
+module _ (view : Schema → View) (same : Reading) where
+  unfoldable pub acceptNew : View → Parsed Schema → Outcome
+  acceptNew old (ok s n) = comparePair same old (view s)
+  acceptNew old (no k) = refused k newSide
 
-unfoldable pub acceptOld : Reading → Parsed Schema → Parsed Schema → Outcome
-acceptOld same (ok s n) new = acceptNew same (viewOf s) new
-acceptOld same (no k) new = refused k oldSide
+  unfoldable pub acceptOld : Parsed Schema → Parsed Schema → Outcome
+  acceptOld (ok s n) new = acceptNew (view s) new
+  acceptOld (no k) new = refused k oldSide
 
-unfoldable pub outcome : Reading → List ℕ → List ℕ → Outcome
-outcome same old new = acceptOld same (readImage old) (readImage new)
+  unfoldable pub outcome : List ℕ → List ℕ → Outcome
+  outcome old new = acceptOld (readImage old) (readImage new)
 
--- types read as document 01 says
+-- survivors are compared, and types are read as document 01 says
 unfoldable pub checked : List ℕ → List ℕ → Outcome
-checked old new = outcome sameType old new
+checked old new = outcome viewOf sameType old new
 
 -- ---- the verdict call
 
