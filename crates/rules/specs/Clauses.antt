@@ -33,6 +33,9 @@ pub record Reader : Type 0 where
   pub old : Registry
   pub new : Registry
 
+abbrev pub reader : Reading → Registry → Registry → Reader
+reader same old new = record { same = same; old = old; new = new }
+
 unfoldable pub compareTypes : Reader → Name → Option Name → List ℕ → Ty → Ty → List Change
 compareTypes r d field what t u =
     only (not (r .same (resolve (r .old) t) (resolve (r .new) u)))
@@ -190,7 +193,7 @@ declRules r = record {
 unfoldable pub changes : Reading → View → View → List Change
 changes same old new =
     compareNamespaces (old .namespace) (new .namespace)
-    ++ compare nameOf before (declRules (record { same = same; old = old .registry; new = new .registry })) (old .standing) (new .standing)
+    ++ compare nameOf before (declRules (reader same (old .registry) (new .registry))) (old .standing) (new .standing)
 
 -- ---- "The types compared in an image are those of surviving newtypes and of surviving fields in surviving messages and in surviving
 -- variants of surviving unions"

@@ -1,5 +1,6 @@
--- Tests of equality of names, lists and what may be absent. Assumes nothing.
-use mathlib.Core.Bool.{Bool, true, false, _&&_}
+-- Tests of equality: of names, of lists, of what may be absent; and when a test is sound. Assumes nothing.
+use mathlib.Core.Path.{_≡_}
+use mathlib.Core.Bool.{Bool, true, false, not, _&&_}
 use mathlib.Core.Option.{Option, none, some}
 use mathlib.Core.List.{List, [], _∷_}
 use lib.Dec.{eqb}
@@ -22,3 +23,12 @@ sameName a b = sameList eqb a b
 
 unfoldable pub sameNames : List Name → List Name → Bool
 sameNames a b = sameList sameName a b
+
+-- A test is sound if it says yes only of equal things, and of a thing and itself unless the thing is odd.
+pub record Sound {A : Type 0} (same : A → A → Bool) (odd : A → Bool) : Type 0 where
+  pub equal : (a b : A) → same a b ≡ true → a ≡ b
+  pub self : (a : A) → same a a ≡ not (odd a)
+
+-- nothing is odd
+abbrev pub never : {A : Type 0} → A → Bool
+never a = false
