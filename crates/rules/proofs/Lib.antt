@@ -5,3 +5,5 @@ pub mod Types
 pub mod Chain
 pub mod Self
 pub mod Swap
+pub mod Answer
+pub mod Distance

@@ -1,0 +1,153 @@
+-- The distance rule, demand 3, over byte lists: of any verdict call that compares rising views by a sound reading of types, and so of the
+-- verdict call of document 01. Assumes nothing.
+use mathlib.Core.Path.{_≡_, refl, sym, ap, _∙_}
+use mathlib.Core.Bool.{Bool, true, false, cond, _||_}
+use mathlib.Core.List.{List, [], _∷_, flatMap}
+use Prim.Native.Nat.{ℕ, _+_, _≤_, max}
+use native.Mathlib.Omega.{arith}
+use lib.Dec.{eqb}
+use lib.ListN.{getD}
+use Rattle.maps.specs.Lists.{pass, largest, All}
+use Rattle.maps.specs.Keyed.{survivors}
+use Rattle.maps.specs.Orders.{before}
+use Rattle.maps.specs.Walk.{Rising}
+use Rattle.maps.proofs.Names.{byName}
+use Rattle.maps.proofs.Survivors.{rising}
+use Rattle.image.specs.Schema.{Schema, Ty}
+use Rattle.image.specs.Parse.{Parsed, ok, no}
+use Rattle.image.specs.Image.{readImage}
+use Rattle.rules.specs.Equal.{Sound}
+use Rattle.rules.specs.Survivors.{nameOf, listed, declarations, View, viewOf}
+use Rattle.rules.specs.Types.{Reading, resolve, sameType, holdsVector}
+use Rattle.rules.specs.Changes.{Change, FieldAdded, FieldRemoved, FieldTypeChanged, FieldOrdinalChanged, FieldRenamed, FieldDeprecated, FieldEncodingChanged, VariantAdded, VariantRemoved, VariantOrdinalChanged, DeclarationAdded, DeclarationRemoved, DeclarationKindChanged, NamespaceChanged, NonExhaustiveChanged, FlagsBitAdded, FlagsBitRemoved, FlagsBitOrdinalChanged}
+use Rattle.rules.specs.Clauses.{comparedTypes}
+use Rattle.rules.specs.Verdict.{bumpOf, countOf, any}
+use Rattle.rules.specs.Answer.{Outcome, compared, outcome, checked, counts, selected, select, verdictOf}
+use Rattle.rules.specs.Distance.{Image, vectorCompared, last, Verdict, distance, counted, Steps, largestStep, Swapped, DistanceRule, holdsVectors}
+use Rattle.rules.proofs.Types.{types, holds-resolved}
+use Rattle.rules.proofs.Chain.{changes-chained}
+use Rattle.rules.proofs.Self.{changes-self}
+use Rattle.rules.proofs.Swap.{mirror, changes-swap}
+use Rattle.rules.proofs.Answer.{schemaOf, changesOf, compared-of}
+
+module _ (view : Schema → View) (rise : (s : Schema) → Rising nameOf before (view s .standing)) {same : Reading} {odd : Ty → Bool} (sound : Sound same odd) where
+  -- the verdict call, and what is compared of an image
+  abbrev call : Image → Image → ℕ → ℕ
+  call a b selector = select (outcome view same a b) selector
+
+  abbrev viewIn : Image → View
+  viewIn a = view (schemaOf (readImage a))
+
+  -- whether a compared type is odd
+  abbrev oddIn : Image → Bool
+  oddIn a = any (λ t. odd (resolve (viewIn a .registry) t)) (comparedTypes (viewIn a))
+
+  distance-is : (a b : Image) → Verdict call a b → distance call a b ≡ bumpOf (changesOf view same a b)
+  unfolding Verdict distance select selected
+  distance-is a b v = ap (λ o. select o 2) (compared-of view same a b v)
+
+  -- ---- chain
+
+  triangle : (a b c : Image) → bumpOf (changesOf view same a c) ≤ max (bumpOf (changesOf view same a b)) (bumpOf (changesOf view same b c))
+  unfolding changesOf bumpOf
+  triangle a b c = omega (arith, changes-chained sound (viewIn a) (viewIn b) (viewIn c) (rise _) (rise _) .bound)
+
+  reach : (a b : Image) (rest : List Image) → Steps call a (b ∷ rest) → bumpOf (changesOf view same a (last b rest)) ≤ largestStep call a (b ∷ rest)
+  unfolding Steps last largestStep
+  reach a b [] s = omega (arith, distance-is a b (s .0))
+  reach a b (c ∷ rest) s = omega (arith, distance-is a b (s .0), triangle a b (last c rest), reach b c rest (s .1))
+
+  -- ---- swap
+
+  -- a selector that gives a count
+  abbrev Counts : ℕ → Type 0
+  Counts kind = (cs : List Change) → select (compared cs) (5 + kind) ≡ countOf kind cs
+
+  counted-is : (kind : ℕ) → Counts kind → (a b : Image) → Verdict call a b → counted call kind a b ≡ countOf kind (changesOf view same a b)
+  unfolding Verdict counted
+  counted-is kind h a b v = ap (λ o. select o (5 + kind)) (compared-of view same a b v) ∙ h (changesOf view same a b)
+
+  module _ (a b : Image) (v : Verdict call a b) (w : Verdict call b a) where
+    count-swap : (j k : ℕ) → Counts j → Counts k → eqb FieldDeprecated j ≡ false → mirror j ≡ k → counted call j a b ≡ counted call k b a
+    unfolding changesOf
+    count-swap j k p q other m =
+        counted-is j p a b v
+        ∙ (changes-swap sound j other (viewIn a) (viewIn b) (rise _) (rise _)
+        ∙ (ap (λ i. countOf i (changesOf view same b a)) m ∙ sym (counted-is k q b a w)))
+
+    swapped : Swapped call a b
+    unfolding select selected counts mirror All
+    swapped = record {
+      declarations = count-swap DeclarationRemoved DeclarationAdded (λ cs. refl) (λ cs. refl) refl refl;
+      fields = count-swap FieldRemoved FieldAdded (λ cs. refl) (λ cs. refl) refl refl;
+      variants = count-swap VariantRemoved VariantAdded (λ cs. refl) (λ cs. refl) refl refl;
+      bits = count-swap FlagsBitRemoved FlagsBitAdded (λ cs. refl) (λ cs. refl) refl refl;
+      others = (
+        own FieldTypeChanged (λ cs. refl) refl refl,
+        (
+          own FieldOrdinalChanged (λ cs. refl) refl refl,
+          (
+            own FieldRenamed (λ cs. refl) refl refl,
+            (
+              own FieldEncodingChanged (λ cs. refl) refl refl,
+              (
+                own VariantOrdinalChanged (λ cs. refl) refl refl,
+                (
+                  own DeclarationKindChanged (λ cs. refl) refl refl,
+                  (
+                    own NamespaceChanged (λ cs. refl) refl refl,
+                    (
+                      own NonExhaustiveChanged (λ cs. refl) refl refl,
+                      (own FlagsBitOrdinalChanged (λ cs. refl) refl refl, tt),
+                    ),
+                  ),
+                ),
+              ),
+            ),
+          ),
+        ),
+      );
+    }
+      where
+        own : (k : ℕ) → Counts k → eqb FieldDeprecated k ≡ false → mirror k ≡ k → counted call k a b ≡ counted call k b a
+        own k h = count-swap k k h h
+
+  pub distance-rule-of : DistanceRule call oddIn
+  unfolding distance bumpOf changesOf
+  distance-rule-of = record {
+    chain = λ first second rest s v. omega (arith, distance-is first (last second rest) v, reach first second rest s);
+    self = λ a v. distance-is a a v ∙ changes-self sound (viewIn a) (rise _);
+    swap = swapped;
+  }
+
+-- ---- the verdict call of document 01
+
+-- survivors rise by name
+pub view-rises : (s : Schema) → Rising nameOf before (viewOf s .standing)
+unfolding viewOf declarations
+view-rises s = rising nameOf byName (listed (s .registry) (s .ids))
+
+any-same : {A : Type 0} (p q : A → Bool) → ((a : A) → p a ≡ q a) → (l : List A) → any p l ≡ any q l
+unfolding any
+any-same p q h [] = refl
+any-same p q h (a ∷ l) = rw (h a, any-same p q h l)
+
+-- an odd type is one that holds a vector, quaternion or matrix node
+odd-vectors : (a : Image) → oddIn viewOf view-rises types a ≡ holdsVectors a
+unfolding holdsVectors vectorCompared schemaOf viewOf declarations listed survivors pass comparedTypes flatMap any
+odd-vectors a = go (readImage a)
+  where
+    go : (p : Parsed Schema) → any (λ t. holdsVector (resolve (viewOf (schemaOf p) .registry) t)) (comparedTypes (viewOf (schemaOf p))) ≡ vectorCompared p
+    go (ok s n) = any-same _ holdsVector (holds-resolved (s .registry)) (comparedTypes (viewOf s))
+    go (no k) = refl
+
+pub distance-rule : DistanceRule verdictOf holdsVectors
+unfolding verdictOf checked
+distance-rule = record {
+  chain = rule .chain;
+  self = λ a v. rule .self a v ∙ ap (λ u. cond u 2 0) (odd-vectors a);
+  swap = rule .swap;
+}
+  where
+    rule : DistanceRule verdictOf (oddIn viewOf view-rises types)
+    rule = distance-rule-of viewOf view-rises types
