@@ -1,10 +1,9 @@
 -- The four cases of two images: the old one is refused, the new one is, the pair is, or there are changes. Assumes nothing.
-use mathlib.Core.Path.{_≡_, refl, sym, ap, _∙_}
+use mathlib.Core.Path.{_≡_, refl}
 use mathlib.Core.Bool.{Bool, true, false, cond}
-use mathlib.Core.List.{List, [], _∷_}
-use Prim.Native.Nat.{ℕ}
+use mathlib.Core.List.{List, []}
+use Prim.Native.Nat.{ℕ, _≤_}
 use native.Mathlib.Omega.{arith}
-use lib.ListN.{getD}
 use Rattle.image.specs.Schema.{Schema}
 use Rattle.image.specs.Parse.{Parsed, ok, no}
 use Rattle.image.specs.Image.{readImage}
@@ -16,10 +15,14 @@ use Rattle.rules.specs.Clauses.{changes}
 use Rattle.rules.specs.Verdict.{aliasPair}
 use Rattle.rules.specs.Answer.{oldSide, newSide, bothSides, Outcome, refused, compared, comparePair, acceptNew, acceptOld, outcome, selected, select}
 
+-- a number of a single image
+abbrev pub Single : ℕ → Type 0
+Single k = (1 ≤ k) × (k ≤ 10)
+
 module _ (view : Schema → View) (same : Reading) (a b : List ℕ) where
   pub data Case : Outcome → Type 0 where
-    old-refused : {k : ℕ} → readImage a ≡ no k → Case (refused k oldSide)
-    new-refused : {x : Schema} {m k : ℕ} → readImage a ≡ ok x m → readImage b ≡ no k → Case (refused k newSide)
+    old-refused : {k : ℕ} → Single k → readImage a ≡ no k → Case (refused k oldSide)
+    new-refused : {x : Schema} {m k : ℕ} → Single k → readImage a ≡ ok x m → readImage b ≡ no k → Case (refused k newSide)
     pair-refused : {x y : Schema} {m n : ℕ} → readImage a ≡ ok x m → readImage b ≡ ok y n → aliasPair (view x) (view y) ≡ true → Case (refused 11 bothSides)
     verdict : {x y : Schema} {m n : ℕ} → readImage a ≡ ok x m → readImage b ≡ ok y n → aliasPair (view x) (view y) ≡ false
         → Case (compared (changes same (view x) (view y)))
@@ -35,14 +38,10 @@ module _ (view : Schema → View) (same : Reading) (a b : List ℕ) where
 
       go : (r s : Parsed Schema) → readImage a ≡ r → readImage b ≡ s → Case (acceptOld view same r s)
       go (ok x m) (ok y n) p q = pair x y m n p q (aliasPair (view x) (view y)) refl
-      go (ok x m) (no k) p q = new-refused p q
-      go (no k) s p q = old-refused p
+      go (ok x m) (no k) p q = new-refused (only-ten b k q) p q
+      go (no k) s p q = old-refused (only-ten a k p) p
 
--- ---- a verdict has number 0
-
--- a refusal of an image is not 0
-not-zero : {A : Type 0} (a : List ℕ) (k : ℕ) → readImage a ≡ no k → k ≡ 0 → A
-not-zero a k e z = absurd (omega (arith, only-ten a k e .0))
+-- ---- a pair with number 0 has the changes of what the two images hold
 
 -- the schema that an image holds; of one that is refused, one that holds nothing
 unfoldable pub schemaOf : Parsed Schema → Schema
@@ -59,7 +58,7 @@ module _ (view : Schema → View) (same : Reading) where
   compared-of a b = go (case view same a b)
     where
       go : {o : Outcome} → Case view same a b o → select o 0 ≡ 0 → o ≡ compared (changesOf a b)
-      go (old-refused {k = k} p) z = not-zero a k p z
-      go (new-refused {k = k} p q) z = not-zero b k q z
-      go (pair-refused p q e) z = absurd (omega (arith, z))
+      go (old-refused l p) z = absurd (omega arith)
+      go (new-refused l p q) z = absurd (omega arith)
+      go (pair-refused p q e) z = absurd (omega arith)
       go (verdict p q e) z = rw (p, q)

@@ -7,3 +7,4 @@ pub mod Self
 pub mod Swap
 pub mod Answer
 pub mod Distance
+pub mod TurnedBack

@@ -9,4 +9,5 @@ pub mod Clauses
 pub mod Verdict
 pub mod Report
 pub mod Answer
+pub mod TurnedBack
 pub mod Distance
