@@ -8,3 +8,4 @@ pub mod Swap
 pub mod Answer
 pub mod Distance
 pub mod TurnedBack
+pub mod Edges

@@ -11,3 +11,4 @@ pub mod Report
 pub mod Answer
 pub mod TurnedBack
 pub mod Distance
+pub mod Edges

@@ -21,9 +21,9 @@ unfoldable pub resultWord : ℕ → List ℕ
 resultWord result = word ("Compatible" ∷ "Breaking" ∷ []) result
 
 -- "`-` if the change has no field, else `+` and the field"
-unfoldable pub fieldText : Option Name → List ℕ
-fieldText none = bytes "-"
-fieldText (some n) = bytes "+" ++ n
+unfoldable pub fieldPart : Option Name → List ℕ
+fieldPart none = bytes "-"
+fieldPart (some n) = bytes "+" ++ n
 
 -- "parted by `;`, ended by byte 10"
 unfoldable pub line : List (List ℕ) → List ℕ
@@ -31,7 +31,7 @@ line parts = joined (bytes ";") parts ++ bytes "\n"
 
 -- "One line a change: kind, bump, declaration .., field .., the `detail`"
 unfoldable pub changeLine : Change → List ℕ
-changeLine c = line (changeWord (c .kind) ∷ bumpWord (level (c .bump)) ∷ c .declaration ∷ fieldText (c .field) ∷ c .detail ∷ [])
+changeLine c = line (changeWord (c .kind) ∷ bumpWord (level (c .bump)) ∷ c .declaration ∷ fieldPart (c .field) ∷ c .detail ∷ [])
 
 -- "Last line, in the same way: result, bump, number of changes."
 unfoldable pub lastLine : List Change → List ℕ
