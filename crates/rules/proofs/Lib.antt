@@ -9,3 +9,8 @@ pub mod Answer
 pub mod Distance
 pub mod TurnedBack
 pub mod Edges
+pub mod Sizes
+pub mod Texts
+pub mod Weights
+pub mod Held
+pub mod Bound

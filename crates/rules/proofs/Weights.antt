@@ -1,0 +1,325 @@
+-- How long the lines of the clauses are in all: linear in the sizes of what is compared, since each entry is met once. Assumes nothing.
+use mathlib.Core.Path.{_≡_, refl, ap}
+use mathlib.Core.Bool.{Bool, true, false, cond, not, _&&_}
+use mathlib.Core.Option.{Option, none, some}
+use mathlib.Core.List.{List, [], _∷_, _++_, flatMap}
+use Prim.Native.Nat.{ℕ, zero, suc, _+_, _*_, _≤_}
+use native.Mathlib.Nat.{le-trans}
+use native.Mathlib.Omega.{arith}
+use borrow.Author.Tests.{leb-true, le-leb}
+use lib.Dec.{eqb, ltb, leb}
+use lib.ListN.{length, length-append}
+use Rattle.maps.specs.Lists.{total, All}
+use Rattle.maps.specs.Orders.{Strict, before}
+use Rattle.maps.specs.Keyed.{survivors, lookup}
+use Rattle.maps.specs.Compare.{Rules, unmatched, matched, between, compare}
+use Rattle.maps.specs.Walk.{Rising}
+use Rattle.maps.proofs.Lists.{all, all-map, total-append, flatMap-same}
+use Rattle.maps.proofs.Orders.{byNumber}
+use Rattle.maps.proofs.Names.{byName}
+use Rattle.maps.proofs.Survivors.{rising, all-survivors}
+use Rattle.maps.proofs.Sums.{total-survivors, compare-weight}
+use Rattle.image.specs.Schema.{Name, Marks, Ty, leaf, one, two, Field, Variant, Decl}
+use Rattle.image.specs.Words.{bytes, kindWord}
+use Rattle.rules.specs.Equal.{sameNames}
+use Rattle.rules.specs.Survivors.{Registry, nameOf, ordinalOf, fieldMap, variantOrdinal, variantMap, View}
+use Rattle.rules.specs.Types.{Reading, resolve}
+use Rattle.rules.specs.Text.{decimal, joined, boolWord, showType, showEncoding}
+use Rattle.rules.specs.Changes.{Bump, minor, Change, change, only, quoted, numbered, fromTo}
+use Rattle.rules.specs.Clauses.{showNamespace, compareNamespaces, Reader, reader, compareTypes, fieldText, compareFieldNames, compareEncodings, compareDeprecated, compareFields, fieldRules, compareFieldSets, compareMessages, variantText, variantGone, variantCame, enumRules, compareNonExhaustive, compareEnums, bitText, flagsRules, compareFlags, variantDecl, unionRules, compareUnions, compareNewtypes, compareKind, kindChanged, compareDecls, declText, declRules, changes}
+use Rattle.rules.specs.Report.{changeLine}
+use Rattle.rules.proofs.Sizes.{namesSize, typeSize, fieldSize, variantSize, declSize}
+use Rattle.rules.proofs.Texts.{decimal-length, kind-length, bool-length, joined-length, encoding-length, Short, type-length, quoted-length, numbered-length, fromTo-length, optionLength, line-length}
+
+-- ---- sums over maps, of which only the entries of the first that are fine count
+
+module _ {K E C : Type 0} {lt : K → K → Bool} (key : E → K) (S : Strict K lt) (w : C → ℕ) (fine : E → Bool) where
+  -- nothing is reported of a kept entry that is not fine
+  guarded : Rules E C → Rules E C
+  guarded r = record { gone = r .gone; came = r .came; kept = λ e f. cond (fine e) (r .kept e f) [] }
+
+  same-guarded : (r : Rules E C) (m n : List E) → All (λ e. fine e ≡ true) m → compare key lt r m n ≡ compare key lt (guarded r) m n
+  unfolding compare between matched guarded
+  same-guarded r m n h = rw (flatMap-same _ (λ e. matched (guarded r .kept) (some e) (lookup key lt (key e) n)) m (all-map (λ e p. go e p (lookup key lt (key e) n)) m h))
+    where
+      go : (e : E) → fine e ≡ true → (o : Option E) → matched (r .kept) (some e) o ≡ matched (guarded r .kept) (some e) o
+      go e p none = refl
+      go e p (some f) = rw p
+
+  pub fine-weight : (a b : E → ℕ) (m n : List E) → Rising key lt m → Rising key lt n → All (λ e. fine e ≡ true) m → (r : Rules E C)
+      → ((e : E) → total w (r .gone e) ≤ a e) → ((f : E) → total w (r .came f) ≤ b f) → ((e f : E) → fine e ≡ true → total w (r .kept e f) ≤ a e + b f)
+      → total w (compare key lt r m n) ≤ total a m + total b n
+  unfolding guarded total
+  fine-weight a b m n R Q h r p q k =
+      rw (same-guarded r m n h) (compare-weight key S w a b m n R Q (guarded r) p q (λ e f i. go e f (fine e) refl))
+    where
+      go : (e f : E) (u : Bool) → fine e ≡ u → total w (cond u (r .kept e f) []) ≤ a e + b f
+      go e f true i = k e f i
+      go e f false i = omega arith
+
+-- ---- so many bytes for each byte of size
+
+unfoldable pub heavy : {A : Type 0} → (A → ℕ) → A → ℕ
+heavy size a = 200000 * size a
+
+total-heavy : {A : Type 0} (size : A → ℕ) (l : List A) → total (heavy size) l ≡ 200000 * total size l
+unfolding heavy total
+total-heavy size [] = refl
+total-heavy size (a ∷ l) = omega (arith, total-heavy size l)
+
+total-each : {A : Type 0} (w : A → ℕ) (l : List A) → All (λ a. w a ≤ total w l) l
+unfolding total All
+total-each w [] = tt
+total-each w (a ∷ l) = (omega arith, all-map (λ b h. omega (arith, h)) l (total-each w l))
+
+-- what stands weighs no more than what is listed
+survivors-heavy : {K E : Type 0} (key : E → K) (lt : K → K → Bool) (size : E → ℕ) (l : List E) → total (heavy size) (survivors key lt l) ≤ 200000 * total size l
+survivors-heavy key lt size l = omega (arith, total-heavy size (survivors key lt l), total-survivors key lt size l)
+
+type-one : (t : Ty) → 1 ≤ typeSize t
+unfolding typeSize
+type-one (leaf l) = omega arith
+type-one (one l t) = omega arith
+type-one (two l t u) = omega arith
+
+-- ---- one change
+
+abbrev pub lineLength : Change → ℕ
+lineLength c = length (changeLine c)
+
+single-weight : (c : Change) → total lineLength (c ∷ []) ≤ 40 + (length (c .declaration) + (optionLength (c .field) + length (c .detail)))
+unfolding total
+single-weight c = omega (arith, line-length c)
+
+only-weight : (test : Bool) (c : Change) → total lineLength (only test c) ≤ 40 + (length (c .declaration) + (optionLength (c .field) + length (c .detail)))
+unfolding only total
+only-weight true c = single-weight c
+only-weight false c = omega arith
+
+-- ---- clauses that show no types
+
+namespace-length : (l : List Name) → length (showNamespace l) ≤ 2 + 2 * namesSize l
+unfolding showNamespace bytes
+namespace-length l = omega (arith, quoted-length (joined (bytes ".") l), joined-length (bytes ".") (omega arith) l)
+
+namespaces-weight : (m n : List Name) → total lineLength (compareNamespaces m n) ≤ 100 + (2 * namesSize m + 2 * namesSize n)
+unfolding compareNamespaces bytes optionLength
+namespaces-weight m n =
+    le-trans (only-weight _ _) (simp fromTo-length (omega (arith, namespace-length m, namespace-length n)))
+
+names-weight : (d : Name) (f g : Field) → total lineLength (compareFieldNames d f g) ≤ 100 + (length d + (length (f .name) + 2 * length (g .name)))
+unfolding compareFieldNames bytes optionLength
+names-weight d f g =
+    le-trans (only-weight _ _) (simp (length-append, fromTo-length, quoted-length) (omega (arith, decimal-length (g .ordinal))))
+
+field-length : (f : Field) → length (fieldText f) ≤ 30 + length (f .name)
+unfolding fieldText bytes
+field-length f = omega (arith, numbered-length (bytes "field") (f .name) (f .ordinal))
+
+encodings-weight : (d : Name) (f g : Field)
+    → total lineLength (compareEncodings d f g) ≤ 150 + (length d + (2 * length (g .name) + 7 * (f .encoding .deltas + g .encoding .deltas)))
+unfolding compareEncodings bytes optionLength
+encodings-weight d f g =
+    le-trans (only-weight _ _)
+    (simp (length-append, fromTo-length) (omega (arith, field-length g, encoding-length (f .encoding), encoding-length (g .encoding))))
+
+deprecated-weight : (d : Name) (field : Option Name) (target : List ℕ) (m n : Marks)
+    → total lineLength (compareDeprecated d field target m n) ≤ 100 + (length d + (optionLength field + length target))
+unfolding compareDeprecated bytes
+deprecated-weight d field target m n = le-trans (only-weight _ _) (simp length-append (omega arith))
+
+openness-weight : (d : Name) (m n : Marks) → total lineLength (compareNonExhaustive d m n) ≤ 100 + length d
+unfolding compareNonExhaustive bytes optionLength
+openness-weight d m n =
+    le-trans (only-weight _ _) (simp fromTo-length (omega (arith, bool-length (m .nonExhaustive), bool-length (n .nonExhaustive))))
+
+-- an item that is gone or came
+item-weight : (kind : ℕ) (bump : Bump) (d : Name) (what : List ℕ) (n : Name) (o : ℕ) (text : List ℕ)
+    → total lineLength (change kind bump d (some n) (numbered what n o ++ text) ∷ []) ≤ 65 + (length d + (2 * length n + (length what + length text)))
+unfolding optionLength
+item-weight kind bump d what n o text = le-trans (single-weight _) (simp length-append (omega (arith, numbered-length what n o)))
+
+-- ---- variants and bits
+
+module _ (d : Name) (h : length d ≤ 32768) where
+  gone-weight : (v : Variant) → total lineLength (variantGone d v) ≤ heavy variantSize v
+  unfolding variantGone variantText bytes heavy variantSize
+  gone-weight v = le-trans (item-weight _ _ d (bytes "variant") (v .name) (v .ordinal) (bytes " was removed")) (omega arith)
+
+  came-weight : (b : Bump) (v : Variant) → total lineLength (variantCame b d v) ≤ heavy variantSize v
+  unfolding variantCame variantText bytes heavy variantSize
+  came-weight b v = le-trans (item-weight _ _ d (bytes "variant") (v .name) (v .ordinal) (bytes " was added")) (omega arith)
+
+  -- rules that keep nothing of an entry
+  variants-weight : (r : Rules Variant Change) → ((v : Variant) → total lineLength (r .gone v) ≤ heavy variantSize v)
+      → ((v : Variant) → total lineLength (r .came v) ≤ heavy variantSize v) → ((v w : Variant) → r .kept v w ≡ []) → (l m : List Variant)
+      → total lineLength (compare variantOrdinal ltb r (variantMap l) (variantMap m)) ≤ 200000 * (total variantSize l + total variantSize m)
+  unfolding variantMap total
+  variants-weight r p q k l m =
+      omega (
+        arith,
+        compare-weight variantOrdinal byNumber lineLength (heavy variantSize) (heavy variantSize) (variantMap l) (variantMap m)
+            (rising variantOrdinal byNumber l) (rising variantOrdinal byNumber m) r p q (λ v w e. rw (k v w) (omega arith)),
+        survivors-heavy variantOrdinal ltb variantSize l,
+        survivors-heavy variantOrdinal ltb variantSize m,
+      )
+
+  flags-weight : (x y : Decl) → total lineLength (compareFlags d x y) ≤ 200000 * (total variantSize (x .variants) + total variantSize (y .variants))
+  unfolding compareFlags flagsRules bitText bytes heavy variantSize
+  flags-weight x y =
+      variants-weight (flagsRules d)
+      (λ v. le-trans (item-weight _ _ d (bytes "bit") (v .name) (v .ordinal) (bytes " was removed")) (omega arith))
+      (λ v. le-trans (item-weight _ _ d (bytes "bit") (v .name) (v .ordinal) (bytes " was added")) (omega arith))
+      (λ v w. refl) (x .variants) (y .variants)
+
+  enums-weight : (x y : Decl) → total lineLength (compareEnums d x y) ≤ 33000 + 200000 * (total variantSize (x .variants) + total variantSize (y .variants))
+  unfolding compareEnums enumRules
+  enums-weight x y =
+      simp (total-append lineLength)
+      (omega (arith, openness-weight d (x .marks) (y .marks), variants-weight (enumRules d (y .marks)) gone-weight (came-weight _) (λ v w. refl) (x .variants) (y .variants)))
+
+-- ---- clauses that show types
+
+module _ (r : Reader) (S : Short (r .old)) (T : Short (r .new)) where
+  types-weight : (d : Name) (field : Option Name) (what : List ℕ) (t u : Ty)
+      → total lineLength (compareTypes r d field what t u) ≤ 100 + (length d + (optionLength field + (length what + 66000 * (typeSize t + typeSize u))))
+  unfolding compareTypes bytes
+  types-weight d field what t u =
+      le-trans (only-weight _ _) (simp (length-append, fromTo-length) (omega (arith, type-length (r .old) S t, type-length (r .new) T u)))
+
+  fields-weight : (d : Name) → length d ≤ 65538 → (f g : Field) → total lineLength (compareFields r d f g) ≤ heavy fieldSize f + heavy fieldSize g
+  unfolding compareFields bytes optionLength heavy fieldSize
+  fields-weight d h f g =
+      simp (total-append lineLength)
+      (omega (
+        arith,
+        names-weight d f g,
+        types-weight d (some (g .name)) (fieldText g) (f .type) (g .type),
+        field-length g,
+        encodings-weight d f g,
+        deprecated-weight d (some (g .name)) (bytes "field " ++ quoted (g .name)) (f .marks) (g .marks),
+        length-append (bytes "field ") (quoted (g .name)),
+        quoted-length (g .name),
+        type-one (f .type),
+        type-one (g .type),
+      ))
+
+  sets-weight : (d : Name) → length d ≤ 65538 → (l m : List Field)
+      → total lineLength (compareFieldSets r d l m) ≤ 200000 * (total fieldSize l + total fieldSize m)
+  unfolding compareFieldSets fieldRules fieldMap fieldText bytes heavy fieldSize
+  sets-weight d h l m =
+      omega (
+        arith,
+        compare-weight ordinalOf byNumber lineLength (heavy fieldSize) (heavy fieldSize) (fieldMap l) (fieldMap m)
+            (rising ordinalOf byNumber l) (rising ordinalOf byNumber m) (fieldRules r d)
+            (λ f. le-trans (item-weight _ _ d (bytes "field") (f .name) (f .ordinal) (bytes " was removed")) (omega (arith, type-one (f .type))))
+            (λ f. le-trans (item-weight _ _ d (bytes "field") (f .name) (f .ordinal) (bytes " was added")) (omega (arith, type-one (f .type))))
+            (λ f g e. fields-weight d h f g),
+        survivors-heavy ordinalOf ltb fieldSize l,
+        survivors-heavy ordinalOf ltb fieldSize m,
+      )
+
+  -- of an old declaration that an image can hold
+  module _ (x y : Decl) (h : declSize x ≤ 32768) where
+    name-short : length (x .name) ≤ 32768
+    unfolding declSize
+    name-short = omega arith
+
+    messages-weight : total lineLength (compareMessages r (x .name) x y) ≤ heavy declSize x + heavy declSize y
+    unfolding compareMessages bytes optionLength heavy declSize
+    messages-weight =
+        simp (total-append lineLength)
+        (omega (arith, sets-weight (x .name) (omega (arith, name-short)) (x .fields) (y .fields), deprecated-weight (x .name) none (bytes "declaration") (x .marks) (y .marks), name-short, type-one (x .inner)))
+
+    variants-short : All (λ v. leb (length (v .name)) 32768 ≡ true) (variantMap (x .variants))
+    unfolding variantMap declSize variantSize
+    variants-short =
+        all-survivors variantOrdinal ltb _ (x .variants)
+        (all-map {P = λ v. variantSize v ≤ total variantSize (x .variants)} (λ v p. le-leb (length (v .name)) 32768 (omega (arith, p))) (x .variants) (total-each variantSize (x .variants)))
+
+    variant-short : (v : Variant) → leb (length (v .name)) 32768 ≡ true → length (variantDecl (x .name) v) ≤ 65538
+    unfolding variantDecl bytes
+    variant-short v p = simp length-append (omega (arith, name-short, leb-true (length (v .name)) 32768 p))
+
+    variant-weight : (v w : Variant) → leb (length (v .name)) 32768 ≡ true
+        → total lineLength (compareFieldSets r (variantDecl (x .name) v) (v .fields) (w .fields)) ≤ heavy variantSize v + heavy variantSize w
+    unfolding heavy variantSize
+    variant-weight v w p = omega (arith, sets-weight (variantDecl (x .name) v) (variant-short v p) (v .fields) (w .fields))
+
+    unions-weight : total lineLength (compareUnions r (x .name) x y) ≤ 200000 * (total variantSize (x .variants) + total variantSize (y .variants))
+    unfolding compareUnions unionRules variantMap
+    unions-weight =
+        omega (
+          arith,
+          fine-weight variantOrdinal byNumber lineLength (λ v. leb (length (v .name)) 32768) (heavy variantSize) (heavy variantSize)
+              (variantMap (x .variants)) (variantMap (y .variants)) (rising variantOrdinal byNumber (x .variants)) (rising variantOrdinal byNumber (y .variants)) variants-short
+              (unionRules r (x .name)) (gone-weight (x .name) name-short) (came-weight (x .name) name-short minor) variant-weight,
+          survivors-heavy variantOrdinal ltb variantSize (x .variants),
+          survivors-heavy variantOrdinal ltb variantSize (y .variants),
+        )
+
+    newtypes-weight : total lineLength (compareNewtypes r (x .name) x y) ≤ heavy declSize x + heavy declSize y
+    unfolding compareNewtypes bytes optionLength heavy declSize
+    newtypes-weight =
+        omega (
+          arith,
+          types-weight (x .name) none (bytes "newtype " ++ (quoted (x .name) ++ bytes " inner")) (x .inner) (y .inner),
+          length-append (bytes "newtype ") (quoted (x .name) ++ bytes " inner"),
+          length-append (quoted (x .name)) (bytes " inner"),
+          quoted-length (x .name),
+          type-one (x .inner),
+        )
+
+    kinds-weight : (k : ℕ) → total lineLength (compareKind k r x y) ≤ heavy declSize x + heavy declSize y
+    unfolding compareKind heavy declSize total
+    kinds-weight zero = messages-weight
+    kinds-weight (suc zero) = omega (arith, enums-weight (x .name) name-short x y, type-one (x .inner))
+    kinds-weight (suc (suc zero)) = omega (arith, flags-weight (x .name) name-short x y)
+    kinds-weight (suc (suc (suc zero))) = omega (arith, unions-weight)
+    kinds-weight (suc (suc (suc (suc zero)))) = newtypes-weight
+    kinds-weight (suc (suc (suc (suc (suc k))))) = omega arith
+
+    changed-weight : total lineLength (kindChanged x y) ≤ heavy declSize x + heavy declSize y
+    unfolding kindChanged bytes optionLength heavy declSize
+    changed-weight =
+        le-trans (single-weight _)
+        (simp (length-append, fromTo-length, quoted-length) (omega (arith, kind-length (x .kind), kind-length (y .kind), name-short, type-one (x .inner))))
+
+    decls-weight : total lineLength (compareDecls r x y) ≤ heavy declSize x + heavy declSize y
+    unfolding compareDecls
+    decls-weight = go (eqb (x .kind) (y .kind))
+      where
+        go : (u : Bool) → total lineLength (cond u (compareKind (x .kind) r x y) (kindChanged x y)) ≤ heavy declSize x + heavy declSize y
+        go true = kinds-weight (x .kind)
+        go false = changed-weight
+
+-- ---- all clauses
+
+-- of views whose declarations an image can hold
+module _ (same : Reading) (x y : View) (S : Short (x .registry)) (T : Short (y .registry))
+    (R : Rising nameOf before (x .standing)) (Q : Rising nameOf before (y .standing)) (h : All (λ d. declSize d ≤ 32768) (x .standing)) where
+  abbrev between-views : Reader
+  between-views = reader same (x .registry) (y .registry)
+
+  -- a declaration that is gone or came
+  decl-weight : (kind : ℕ) (bump : Bump) (d : Decl) (text : List ℕ) → length text ≤ 12
+      → total lineLength (change kind bump (d .name) none (declText d ++ text) ∷ []) ≤ heavy declSize d
+  unfolding declText bytes optionLength heavy declSize
+  decl-weight kind bump d text l =
+      le-trans (single-weight _) (simp (length-append, quoted-length) (omega (arith, kind-length (d .kind), type-one (d .inner))))
+
+  pub changes-weight : total lineLength (changes same x y)
+      ≤ 100 + (2 * namesSize (x .namespace) + 2 * namesSize (y .namespace)) + 200000 * (total declSize (x .standing) + total declSize (y .standing))
+  unfolding changes declRules bytes
+  changes-weight =
+      simp (total-append lineLength)
+      (omega (
+        arith,
+        namespaces-weight (x .namespace) (y .namespace),
+        fine-weight nameOf byName lineLength (λ d. leb (declSize d) 32768) (heavy declSize) (heavy declSize) (x .standing) (y .standing) R Q
+            (all-map (λ d p. le-leb (declSize d) 32768 p) (x .standing) h) (declRules between-views)
+            (λ d. decl-weight _ _ d _ (omega arith)) (λ d. decl-weight _ _ d _ (omega arith))
+            (λ d e p. decls-weight between-views S T d e (leb-true (declSize d) 32768 p)),
+        total-heavy declSize (x .standing),
+        total-heavy declSize (y .standing),
+      ))
