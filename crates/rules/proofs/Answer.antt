@@ -1,19 +1,22 @@
 -- The four cases of two images: the old one is refused, the new one is, the pair is, or there are changes. Assumes nothing.
-use mathlib.Core.Path.{_≡_, refl}
+use mathlib.Core.Path.{_≡_, refl, ap, _∙_}
 use mathlib.Core.Bool.{Bool, true, false, cond}
-use mathlib.Core.List.{List, []}
-use Prim.Native.Nat.{ℕ, _≤_}
+use mathlib.Core.List.{List, [], _∷_}
+use Prim.Native.Nat.{ℕ, zero, suc, _+_, _≤_, _<_}
 use native.Mathlib.Omega.{arith}
+use lib.ListN.{length, getD}
+use lib.Seq.{getD-append-add}
 use Rattle.image.specs.Schema.{Schema}
 use Rattle.image.specs.Parse.{Parsed, ok, no}
 use Rattle.image.specs.Image.{readImage}
 use Rattle.image.proofs.Theorems.Refusals.{only-ten}
 use Rattle.rules.specs.Survivors.{View}
 use Rattle.rules.specs.Types.{Reading}
-use Rattle.rules.specs.Changes.{Change}
+use Rattle.rules.specs.Changes.{Change, kindCount}
 use Rattle.rules.specs.Clauses.{changes}
-use Rattle.rules.specs.Verdict.{aliasPair}
-use Rattle.rules.specs.Answer.{oldSide, newSide, bothSides, Outcome, refused, compared, comparePair, acceptNew, acceptOld, outcome, selected, select}
+use Rattle.rules.specs.Verdict.{bumpOf, resultOf, countOf, aliasPair}
+use Rattle.rules.specs.Report.{report}
+use Rattle.rules.specs.Answer.{oldSide, newSide, bothSides, Outcome, refused, compared, comparePair, acceptNew, acceptOld, outcome, counts, selected, select}
 
 -- a number of a single image
 abbrev pub Single : ℕ → Type 0
@@ -62,3 +65,17 @@ module _ (view : Schema → View) (same : Reading) where
       go (new-refused l p q) z = absurd (omega arith)
       go (pair-refused p q e) z = absurd (omega arith)
       go (verdict p q e) z = rw (p, q)
+
+-- ---- the selectors from 5 on
+
+counts-at : (n from k : ℕ) (cs : List Change) → k < n → getD (counts n from cs) k 0 ≡ countOf (from + k) cs
+unfolding counts
+counts-at zero from k cs h = absurd (omega arith)
+counts-at (suc n) from zero cs h = ap (λ i. countOf i cs) (omega arith)
+counts-at (suc n) from (suc k) cs h = counts-at n (suc from) k cs (omega arith) ∙ ap (λ i. countOf i cs) (omega arith)
+
+pub count-selected : (kind : ℕ) → kind < kindCount → (cs : List Change) → select (compared cs) (5 + kind) ≡ countOf kind cs
+unfolding select selected
+count-selected kind h cs =
+    getD-append-add (0 ∷ 0 ∷ bumpOf cs ∷ resultOf cs ∷ length (report cs) ∷ []) (counts kindCount 0 cs) kind 0
+    ∙ (counts-at kindCount 0 kind cs h ∙ ap (λ i. countOf i cs) (omega arith))

@@ -1,16 +1,17 @@
 -- The distance rule, demand 3, over byte lists: of any verdict call that compares rising views by a sound reading of types, and so of the
 -- verdict call of document 01. Assumes nothing.
 use mathlib.Core.Path.{_≡_, refl, sym, ap, _∙_}
-use mathlib.Core.Bool.{Bool, true, false, cond, _||_}
+use mathlib.Core.Bool.{Bool, true, cond, not, _&&_}
 use mathlib.Core.List.{List, [], _∷_, flatMap}
-use Prim.Native.Nat.{ℕ, _+_, _≤_, max}
+use Prim.Native.Nat.{ℕ, _+_, _≤_, _<_, max}
 use native.Mathlib.Omega.{arith}
-use lib.Dec.{eqb}
-use lib.ListN.{getD}
-use Rattle.maps.specs.Lists.{pass, largest, All}
+use lib.Dec.{eqb, ltb}
+use borrow.Author.Tests.{ltb-true, eqb-true, not-true}
+use Rattle.maps.specs.Lists.{pass, All}
 use Rattle.maps.specs.Keyed.{survivors}
 use Rattle.maps.specs.Orders.{before}
 use Rattle.maps.specs.Walk.{Rising}
+use Rattle.maps.proofs.Lists.{all-map}
 use Rattle.maps.proofs.Names.{byName}
 use Rattle.maps.proofs.Survivors.{rising}
 use Rattle.image.specs.Schema.{Schema, Ty}
@@ -19,16 +20,21 @@ use Rattle.image.specs.Image.{readImage}
 use Rattle.rules.specs.Equal.{Sound}
 use Rattle.rules.specs.Survivors.{nameOf, listed, declarations, View, viewOf}
 use Rattle.rules.specs.Types.{Reading, resolve, sameType, holdsVector}
-use Rattle.rules.specs.Changes.{Change, FieldAdded, FieldRemoved, FieldTypeChanged, FieldOrdinalChanged, FieldRenamed, FieldDeprecated, FieldEncodingChanged, VariantAdded, VariantRemoved, VariantOrdinalChanged, DeclarationAdded, DeclarationRemoved, DeclarationKindChanged, NamespaceChanged, NonExhaustiveChanged, FlagsBitAdded, FlagsBitRemoved, FlagsBitOrdinalChanged}
+use Rattle.rules.specs.Changes.{kindCount, FieldAdded, FieldRemoved, FieldDeprecated, VariantAdded, VariantRemoved, DeclarationAdded, DeclarationRemoved, FlagsBitAdded, FlagsBitRemoved}
 use Rattle.rules.specs.Clauses.{comparedTypes}
 use Rattle.rules.specs.Verdict.{bumpOf, countOf, any}
-use Rattle.rules.specs.Answer.{Outcome, compared, outcome, checked, counts, selected, select, verdictOf}
-use Rattle.rules.specs.Distance.{Image, vectorCompared, last, Verdict, distance, counted, Steps, largestStep, Swapped, DistanceRule, holdsVectors}
+use Rattle.rules.specs.Answer.{outcome, checked, selected, select, verdictOf}
+use Rattle.rules.specs.Distance.{Image, vectorCompared, last, otherKinds, Verdict, distance, counted, Steps, largestStep, Swapped, DistanceRule, holdsVectors}
+use Rattle.rules.proofs.Equal.{both}
 use Rattle.rules.proofs.Types.{types, holds-resolved}
 use Rattle.rules.proofs.Chain.{changes-chained}
 use Rattle.rules.proofs.Self.{changes-self}
 use Rattle.rules.proofs.Swap.{mirror, changes-swap}
-use Rattle.rules.proofs.Answer.{schemaOf, changesOf, compared-of}
+use Rattle.rules.proofs.Answer.{schemaOf, changesOf, compared-of, count-selected}
+
+-- whether the count of one kind is that of another the other way
+unfoldable turned : ℕ → ℕ → Bool
+turned j k = ltb j kindCount && (ltb k kindCount && (not (eqb FieldDeprecated j) && eqb (mirror j) k))
 
 module _ (view : Schema → View) (rise : (s : Schema) → Rising nameOf before (view s .standing)) {same : Reading} {odd : Ty → Bool} (sound : Sound same odd) where
   -- the verdict call, and what is compared of an image
@@ -59,58 +65,30 @@ module _ (view : Schema → View) (rise : (s : Schema) → Rising nameOf before 
 
   -- ---- swap
 
-  -- a selector that gives a count
-  abbrev Counts : ℕ → Type 0
-  Counts kind = (cs : List Change) → select (compared cs) (5 + kind) ≡ countOf kind cs
-
-  counted-is : (kind : ℕ) → Counts kind → (a b : Image) → Verdict call a b → counted call kind a b ≡ countOf kind (changesOf view same a b)
+  counted-is : (kind : ℕ) → kind < kindCount → (a b : Image) → Verdict call a b → counted call kind a b ≡ countOf kind (changesOf view same a b)
   unfolding Verdict counted
-  counted-is kind h a b v = ap (λ o. select o (5 + kind)) (compared-of view same a b v) ∙ h (changesOf view same a b)
+  counted-is kind h a b v = ap (λ o. select o (5 + kind)) (compared-of view same a b v) ∙ count-selected kind h (changesOf view same a b)
 
   module _ (a b : Image) (v : Verdict call a b) (w : Verdict call b a) where
-    count-swap : (j k : ℕ) → Counts j → Counts k → eqb FieldDeprecated j ≡ false → mirror j ≡ k → counted call j a b ≡ counted call k b a
-    unfolding changesOf
-    count-swap j k p q other m =
-        counted-is j p a b v
-        ∙ (changes-swap sound j other (viewIn a) (viewIn b) (rise _) (rise _)
-        ∙ (ap (λ i. countOf i (changesOf view same b a)) m ∙ sym (counted-is k q b a w)))
+    count-swap : (j k : ℕ) → turned j k ≡ true → counted call j a b ≡ counted call k b a
+    unfolding turned changesOf
+    count-swap j k e =
+        let p = both (ltb j kindCount) _ e in
+        let q = both (ltb k kindCount) _ (p .1) in
+        let r = both (not (eqb FieldDeprecated j)) _ (q .1) in
+        counted-is j (ltb-true j kindCount (p .0)) a b v
+        ∙ (changes-swap sound j (not-true (eqb FieldDeprecated j) (r .0)) (viewIn a) (viewIn b) (rise _) (rise _)
+        ∙ (ap (λ i. countOf i (changesOf view same b a)) (eqb-true (mirror j) k (r .1)) ∙ sym (counted-is k (ltb-true k kindCount (q .0)) b a w)))
 
     swapped : Swapped call a b
-    unfolding select selected counts mirror All
+    unfolding turned mirror All
     swapped = record {
-      declarations = count-swap DeclarationRemoved DeclarationAdded (λ cs. refl) (λ cs. refl) refl refl;
-      fields = count-swap FieldRemoved FieldAdded (λ cs. refl) (λ cs. refl) refl refl;
-      variants = count-swap VariantRemoved VariantAdded (λ cs. refl) (λ cs. refl) refl refl;
-      bits = count-swap FlagsBitRemoved FlagsBitAdded (λ cs. refl) (λ cs. refl) refl refl;
-      others = (
-        own FieldTypeChanged (λ cs. refl) refl refl,
-        (
-          own FieldOrdinalChanged (λ cs. refl) refl refl,
-          (
-            own FieldRenamed (λ cs. refl) refl refl,
-            (
-              own FieldEncodingChanged (λ cs. refl) refl refl,
-              (
-                own VariantOrdinalChanged (λ cs. refl) refl refl,
-                (
-                  own DeclarationKindChanged (λ cs. refl) refl refl,
-                  (
-                    own NamespaceChanged (λ cs. refl) refl refl,
-                    (
-                      own NonExhaustiveChanged (λ cs. refl) refl refl,
-                      (own FlagsBitOrdinalChanged (λ cs. refl) refl refl, tt),
-                    ),
-                  ),
-                ),
-              ),
-            ),
-          ),
-        ),
-      );
+      declarations = count-swap DeclarationRemoved DeclarationAdded refl;
+      fields = count-swap FieldRemoved FieldAdded refl;
+      variants = count-swap VariantRemoved VariantAdded refl;
+      bits = count-swap FlagsBitRemoved FlagsBitAdded refl;
+      others = all-map (λ kind. count-swap kind kind) otherKinds (refl, (refl, (refl, (refl, (refl, (refl, (refl, (refl, (refl, tt)))))))));
     }
-      where
-        own : (k : ℕ) → Counts k → eqb FieldDeprecated k ≡ false → mirror k ≡ k → counted call k a b ≡ counted call k b a
-        own k h = count-swap k k h h
 
   pub distance-rule-of : DistanceRule call oddIn
   unfolding distance bumpOf changesOf

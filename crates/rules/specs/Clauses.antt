@@ -1,5 +1,5 @@
 -- The eight clauses of document 01, "Clauses and verdict", named as the functions of compat.rs that they stand for. What they compare is
--- handed in: the views of the two schemas, and how types are read. Assumes nothing.
+-- handed in: the views of the two schemas, and how types are read. Clauses 2 and 3 stand last, since they call on 4 to 8. Assumes nothing.
 use mathlib.Core.Bool.{Bool, cond, not, _&&_, Bool·beq}
 use mathlib.Core.Option.{Option, none, some}
 use mathlib.Core.List.{List, [], _∷_, _++_, flatMap}

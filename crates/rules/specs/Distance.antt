@@ -22,10 +22,19 @@ unfoldable pub vectorCompared : Parsed Schema → Bool
 vectorCompared (ok s n) = any holdsVector (comparedTypes (viewOf s))
 vectorCompared (no k) = false
 
+unfoldable pub holdsVectors : Image → Bool
+holdsVectors a = vectorCompared (readImage a)
+
 -- the last of a list that begins with the given image
 unfoldable pub last : Image → List Image → Image
 last a [] = a
 last a (b ∷ rest) = last b rest
+
+-- the kinds that are neither removals nor additions nor deprecations
+abbrev pub otherKinds : List ℕ
+otherKinds =
+    FieldTypeChanged ∷ FieldOrdinalChanged ∷ FieldRenamed ∷ FieldEncodingChanged ∷ VariantOrdinalChanged ∷ DeclarationKindChanged ∷ NamespaceChanged
+    ∷ NonExhaustiveChanged ∷ FlagsBitOrdinalChanged ∷ []
 
 module _ (verdict : Image → Image → ℕ → ℕ) where
   -- "a verdict is an answer of the verdict call .. with number 0"
@@ -57,9 +66,7 @@ module _ (verdict : Image → Image → ℕ → ℕ) where
     pub fields : counted FieldRemoved a b ≡ counted FieldAdded b a
     pub variants : counted VariantRemoved a b ≡ counted VariantAdded b a
     pub bits : counted FlagsBitRemoved a b ≡ counted FlagsBitAdded b a
-    pub others : All (λ kind. counted kind a b ≡ counted kind b a)
-        (FieldTypeChanged ∷ FieldOrdinalChanged ∷ FieldRenamed ∷ FieldEncodingChanged ∷ VariantOrdinalChanged ∷ DeclarationKindChanged
-        ∷ NamespaceChanged ∷ NonExhaustiveChanged ∷ FlagsBitOrdinalChanged ∷ [])
+    pub others : All (λ kind. counted kind a b ≡ counted kind b a) otherKinds
 
   -- `odd` says of which images the distance to themselves is not 0.
   pub record DistanceRule (odd : Image → Bool) : Type 0 where
@@ -72,7 +79,3 @@ module _ (verdict : Image → Image → ℕ → ℕ) where
     pub self : (a : Image) → Verdict a a → distance a a ≡ cond (odd a) 2 0
     -- "For every two images that get verdicts both ways", the counts change places.
     pub swap : (a b : Image) → Verdict a b → Verdict b a → Swapped a b
-
--- of the types compared in the image, as it is read
-unfoldable pub holdsVectors : Image → Bool
-holdsVectors a = vectorCompared (readImage a)
