@@ -14,3 +14,4 @@ pub mod Texts
 pub mod Weights
 pub mod Held
 pub mod Bound
+pub mod Pinned

@@ -12,3 +12,4 @@ pub mod Answer
 pub mod TurnedBack
 pub mod Distance
 pub mod Edges
+pub mod Pinned
