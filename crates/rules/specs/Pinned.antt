@@ -190,7 +190,7 @@ pub record Pinned : Type 0 where
   -- a chain of four whose first and third are refused by 11
   pub fourSteps : Steps verdictOf alias (nothing ∷ alias ∷ config ∷ [])
   pub fourEnds : Verdict verdictOf alias config
-  pub firstAndThird : verdictOf alias alias 0 ≡ 11
+  pub firstAndThird : selected (checked alias alias) ≡ 11 ∷ 3 ∷ 2 ∷ 1 ∷ []
   pub fourWay : distance verdictOf alias config ≡ 2
   -- a self distance of 2
   pub self : Verdict verdictOf vector vector
