@@ -1,8 +1,7 @@
 -- The report of two accepted images is shorter than 2^62 bytes, so that sums of lengths and of counts fit a u64. Assumes nothing.
-use mathlib.Core.Path.{_≡_, refl, sym, ap, _∙_}
-use mathlib.Core.Bool.{Bool, true, false, cond}
+use mathlib.Core.Path.{_≡_}
 use mathlib.Core.Option.{Option, none, some}
-use mathlib.Core.List.{List, [], _∷_, _++_, flatMap}
+use mathlib.Core.List.{List, [], _∷_}
 use Prim.Native.Nat.{ℕ, zero, suc, _+_, _*_, _^_, _≤_, _<_}
 use native.Mathlib.Omega.{arith}
 use lib.ListN.{length, getD, length-append}
@@ -13,20 +12,20 @@ use Rattle.maps.proofs.Survivors.{all-survivors}
 use Rattle.maps.proofs.Sums.{total-survivors}
 use Rattle.image.specs.Schema.{Decl, Schema}
 use Rattle.image.specs.Words.{bytes}
-use Rattle.image.specs.Parse.{Parsed, ok, no}
+use Rattle.image.specs.Parse.{Parsed, ok}
 use Rattle.image.specs.Image.{readImage}
 use Rattle.image.proofs.Laws.Sure.{Sure, sure-ok, sure-no}
-use Rattle.rules.specs.Survivors.{Registry, nameOf, declOf, resolved, listed, declarations, View, viewOf}
-use Rattle.rules.specs.Types.{Reading, nameIn, sameType}
-use Rattle.rules.specs.Text.{decimal, joined, word}
+use Rattle.rules.specs.Survivors.{Registry, nameOf, declOf, resolved, listed, declarations, viewOf}
+use Rattle.rules.specs.Types.{nameIn, sameType}
+use Rattle.rules.specs.Text.{joined}
 use Rattle.rules.specs.Changes.{Change}
 use Rattle.rules.specs.Clauses.{changes}
 use Rattle.rules.specs.Verdict.{bumpOf, resultOf}
-use Rattle.rules.specs.Report.{bumpWord, resultWord, line, changeLine, lastLine, report}
-use Rattle.rules.specs.Answer.{Outcome, refused, compared, checked, selected, select, verdictOf}
+use Rattle.rules.specs.Report.{bumpWord, resultWord, line, lastLine, report}
+use Rattle.rules.specs.Answer.{Outcome, checked, selected, select, verdictOf}
 use Rattle.rules.proofs.Sizes.{namesSize, declSize}
 use Rattle.rules.proofs.Texts.{decimal-length, word-length, Short}
-use Rattle.rules.proofs.Weights.{lineLength, changes-weight}
+use Rattle.rules.proofs.Weights.{changes-weight}
 use Rattle.rules.proofs.Held.{Small, Held, image-held}
 use Rattle.rules.proofs.Answer.{Case, old-refused, new-refused, pair-refused, verdict, case}
 use Rattle.rules.proofs.Distance.{view-rises}

@@ -1,9 +1,9 @@
 -- The chain rule of three views: what the clauses report from the first to the third is at most the larger of what they report to and from
 -- the second. Over any views whose standing declarations rise by name, and any sound reading of types. Assumes nothing.
 use mathlib.Core.Path.{_≡_, refl, ap, subst}
-use mathlib.Core.Bool.{Bool, true, false, cond, not, Bool·beq}
+use mathlib.Core.Bool.{Bool, true, false, cond, not}
 use mathlib.Core.Option.{Option, some}
-use mathlib.Core.List.{List, [], _∷_, _++_}
+use mathlib.Core.List.{List}
 use Prim.Native.Nat.{ℕ, zero, suc, _≤_, max}
 use native.Mathlib.Omega.{arith}
 use lib.Dec.{eqb, ltb}
@@ -18,7 +18,7 @@ use Rattle.maps.proofs.Names.{byName}
 use Rattle.maps.proofs.Survivors.{rising}
 use Rattle.maps.proofs.Levels.{Chained, chained, chained-small, chained-append, chained-lead, Links, chain-links}
 use Rattle.image.specs.Schema.{Name, Marks, Ty, Field, Variant, Decl}
-use Rattle.rules.specs.Equal.{Sound, sameNames, sameOption}
+use Rattle.rules.specs.Equal.{Sound}
 use Rattle.rules.specs.Survivors.{Registry, nameOf, ordinalOf, fieldMap, variantOrdinal, variantMap, View}
 use Rattle.rules.specs.Types.{Reading, resolve}
 use Rattle.rules.specs.Changes.{Bump, patch, minor, major, level, Change, only}

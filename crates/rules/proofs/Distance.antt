@@ -19,7 +19,7 @@ use Rattle.image.specs.Parse.{Parsed, ok, no}
 use Rattle.image.specs.Image.{readImage}
 use Rattle.rules.specs.Equal.{Sound}
 use Rattle.rules.specs.Survivors.{nameOf, listed, declarations, View, viewOf}
-use Rattle.rules.specs.Types.{Reading, resolve, sameType, holdsVector}
+use Rattle.rules.specs.Types.{Reading, resolve, holdsVector}
 use Rattle.rules.specs.Changes.{kindCount, FieldAdded, FieldRemoved, FieldDeprecated, VariantAdded, VariantRemoved, DeclarationAdded, DeclarationRemoved, FlagsBitAdded, FlagsBitRemoved}
 use Rattle.rules.specs.Clauses.{comparedTypes}
 use Rattle.rules.specs.Verdict.{bumpOf, countOf, any}

@@ -1,12 +1,10 @@
 -- The tests of specs/Equal are sound, and what holds of every sound test. Assumes nothing.
 use mathlib.Core.Path.{_≡_, refl, sym}
-use mathlib.Core.Bool.{Bool, true, false, not, _&&_, Bool·beq, false≢true}
+use mathlib.Core.Bool.{Bool, true, false, _&&_, Bool·beq, false≢true}
 use mathlib.Core.Option.{Option, none, some}
 use mathlib.Core.List.{List, [], _∷_}
-use Prim.Native.Nat.{ℕ}
 use lib.Dec.{eqb}
 use borrow.Author.Tests.{eqb-true, eq-eqb}
-use Rattle.image.specs.Schema.{Name}
 use Rattle.rules.specs.Equal.{sameList, sameOption, sameName, sameNames, Sound, never}
 
 -- ---- both parts of a conjunction

@@ -1,21 +1,21 @@
 -- What an accepted image holds is no larger than the bytes that hold it. Assumes nothing.
-use mathlib.Core.Path.{_≡_, refl, sym, ap, _∙_}
-use mathlib.Core.Bool.{Bool, true, false, cond, _&&_}
+use mathlib.Core.Path.{_≡_, refl, ap}
+use mathlib.Core.Bool.{_&&_}
 use mathlib.Core.Option.{Option, none, some}
 use mathlib.Core.List.{List, [], _∷_}
 use Prim.Native.Nat.{ℕ, zero, suc, _+_, _≤_}
 use native.Mathlib.Omega.{arith}
 use borrow.Author.Tests.{leb-true, eqb-true}
-use lib.Dec.{leb, eqb}
-use lib.ListN.{length, getD, take, drop, length-take, length-drop}
+use lib.Dec.{leb}
+use lib.ListN.{length, getD, drop, length-take, length-drop}
 use Rattle.maps.specs.Lists.{total, All}
-use Rattle.image.specs.Schema.{Name, Encoding, Label, Ty, leaf, one, two, Field, Variant, Decl, Schema}
-use Rattle.image.specs.Parse.{Parsed, ok, no, bind, pick, shift, within, part, byteAt, codeAt, numberAt, many, counted}
+use Rattle.image.specs.Schema.{Name, Encoding, Label, Ty, Decl, Schema}
+use Rattle.image.specs.Parse.{Parsed, ok, shift, within, part, many, counted}
 use Rattle.image.specs.Names.{nameAt, namesAt}
 use Rattle.image.specs.Types.{Follows, code, subByte, identity, size, nothing, bits, unknown, followsTag, innerTypes, afterTag, labelOf, innerAt, typeOf, typeAt}
 use Rattle.image.specs.Fields.{plain, delta, marksAt, encodingOf, encodingAt, limitAt, fieldAt, bareAt, variantAt}
 use Rattle.image.specs.Bodies.{messageAt, enumAt, flagsAt, unionAt, newtypeAt, otherAt, implAt, declAt, bodyOf}
-use Rattle.image.specs.Image.{entryCount, idCount, segmentCount, segmentsAt, idsAt, idsFrom, format, headOf, tablesOf, laid, entryOffset, entryLength, entryOf, entriesOf, readImage}
+use Rattle.image.specs.Image.{entryCount, idCount, segmentCount, segmentsAt, idsAt, idsFrom, headOf, tablesOf, entryOffset, entryLength, entryOf, entriesOf, readImage}
 use Rattle.image.proofs.Laws.Sure.{Sure, sure-ok, sure-no, sure-bind, sure-pick, sure-need, sure-then, byte-sure, code-sure, number-sure, name-sure, names-sure}
 use Rattle.rules.proofs.Equal.{both}
 use Rattle.rules.proofs.Sizes.{namesSize, typeSize, fieldSize, variantSize, declSize}

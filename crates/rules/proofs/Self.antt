@@ -1,12 +1,12 @@
 -- A view against itself: Major if a compared type is odd, and no change but of level Patch otherwise. Over any view whose standing
 -- declarations rise by name, and any sound reading of types. Assumes nothing.
-use mathlib.Core.Path.{_≡_, refl, sym, ap, _∙_}
+use mathlib.Core.Path.{_≡_, refl, ap, _∙_}
 use mathlib.Core.Bool.{Bool, true, false, cond, not, _&&_, _||_}
 use mathlib.Core.Option.{Option, some, none}
-use mathlib.Core.List.{List, [], _∷_, _++_, flatMap}
+use mathlib.Core.List.{List, [], _∷_, _++_}
 use Prim.Native.Nat.{ℕ, zero, suc, max}
 use native.Mathlib.Omega.{arith}
-use lib.Dec.{eqb, ltb}
+use lib.Dec.{ltb}
 use Rattle.maps.specs.Lists.{largest}
 use Rattle.maps.specs.Compare.{Rules, compare}
 use Rattle.maps.specs.Orders.{before}

@@ -1,9 +1,9 @@
 -- Sizes of what an image holds: no more than the bytes that hold it. Assumes nothing.
-use mathlib.Core.List.{List, [], _∷_}
+use mathlib.Core.List.{List}
 use Prim.Native.Nat.{ℕ, _+_}
 use lib.ListN.{length}
 use Rattle.maps.specs.Lists.{total}
-use Rattle.image.specs.Schema.{Name, Label, Ty, leaf, one, two, Field, Variant, Decl}
+use Rattle.image.specs.Schema.{Name, Ty, leaf, one, two, Field, Variant, Decl}
 
 unfoldable pub namesSize : List Name → ℕ
 namesSize ns = total (λ n. 1 + length n) ns

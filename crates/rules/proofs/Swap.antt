@@ -16,7 +16,7 @@ use Rattle.maps.proofs.Lists.{count-append}
 use Rattle.maps.proofs.Orders.{byNumber}
 use Rattle.maps.proofs.Names.{byName}
 use Rattle.maps.proofs.Survivors.{rising}
-use Rattle.maps.proofs.Sums.{Opposite, swap}
+use Rattle.maps.proofs.Sums.{swap}
 use Rattle.image.specs.Schema.{Name, Marks, Ty, Field, Variant, Decl}
 use Rattle.rules.specs.Equal.{Sound}
 use Rattle.rules.specs.Survivors.{Registry, nameOf, ordinalOf, fieldMap, variantOrdinal, variantMap, View}

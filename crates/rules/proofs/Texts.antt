@@ -1,20 +1,20 @@
 -- How long the texts are: linear in the names and types that they show. Assumes nothing.
-use mathlib.Core.Path.{_≡_, refl}
+use mathlib.Core.Path.{_≡_}
 use mathlib.Core.Bool.{Bool, true, false, cond}
 use mathlib.Core.Option.{Option, none, some}
 use mathlib.Core.List.{List, [], _∷_, _++_}
-use Prim.Native.Nat.{ℕ, zero, suc, _+_, _*_, _/_, _%_, _≤_, max}
+use Prim.Native.Nat.{ℕ, zero, suc, _+_, _*_, _/_, _%_, _≤_}
 use Prim.Native.String.{String}
 use native.Mathlib.Omega.{arith}
 use lib.Dec.{eqb, ltb}
-use lib.ListN.{length, getD, length-append}
+use lib.ListN.{length, length-append}
 use Rattle.maps.specs.Lists.{largest, total}
-use Rattle.image.specs.Schema.{Name, Encoding, Label, label, Ty, leaf, one, two, Decl}
+use Rattle.image.specs.Schema.{Name, Encoding, Label, label, Ty, leaf, one, two}
 use Rattle.image.specs.Words.{bytes, kindWord}
 use Rattle.rules.specs.Survivors.{Registry, declOf}
 use Rattle.rules.specs.Types.{nameIn, resolveLabel, resolve}
 use Rattle.rules.specs.Text.{digits, decimal, joined, word, boolWord, primitiveWord, semanticWord, showName, showLeaf, opening, showSize, showType, deltasAround, showEncoding}
-use Rattle.rules.specs.Changes.{Bump, patch, minor, major, level, Change, quoted, numbered, fromTo}
+use Rattle.rules.specs.Changes.{level, Change, quoted, numbered, fromTo}
 use Rattle.rules.proofs.Sizes.{namesSize, typeSize}
 use Rattle.rules.specs.Report.{changeWord, bumpWord, fieldPart, line, changeLine}
 

@@ -1,25 +1,23 @@
 -- When two images get a verdict and when each refusal, exactly as specs/TurnedBack says. Assumes nothing.
 use mathlib.Core.Path.{_≡_, refl, sym, ap, _∙_}
-use mathlib.Core.Logic.{_↔_}
 use mathlib.Core.Bool.{Bool, true, false, cond, _&&_, _||_}
 use mathlib.Core.Option.{Option, none, some}
 use mathlib.Core.List.{List, [], _∷_}
-use Prim.Native.Nat.{ℕ, _+_, _<_}
+use Prim.Native.Nat.{ℕ, _<_}
 use native.Mathlib.Omega.{arith}
-use lib.Dec.{eqb, leb}
-use lib.ListN.{length, getD, List·getD-eq-default}
+use lib.Dec.{leb}
+use lib.ListN.{length, List·getD-eq-default}
 use borrow.Author.Tests.{eqb-true, eq-eqb, leb-false, lt-leb}
 use Rattle.maps.specs.Lists.{All}
 use Rattle.maps.specs.Keyed.{lookup}
 use Rattle.maps.specs.Orders.{before}
-use Rattle.maps.specs.Walk.{Rising}
 use Rattle.maps.proofs.Names.{byName}
 use Rattle.maps.proofs.Orders.{no-both}
 use Rattle.maps.proofs.Survivors.{all-lookup, lookup-key, lookup-own}
 use Rattle.image.specs.Schema.{Name, Decl, Schema}
-use Rattle.image.specs.Parse.{Parsed, ok, no}
+use Rattle.image.specs.Parse.{no}
 use Rattle.image.specs.Image.{readImage}
-use Rattle.rules.specs.Survivors.{nameOf, declarations, View, viewOf}
+use Rattle.rules.specs.Survivors.{nameOf, declarations, viewOf}
 use Rattle.rules.specs.Types.{sameType}
 use Rattle.rules.specs.Changes.{Change}
 use Rattle.rules.specs.Clauses.{changes}

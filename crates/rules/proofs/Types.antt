@@ -1,11 +1,10 @@
 -- Types and encodings: their tests are sound, and a type is odd, different from itself, exactly if it holds a vector, quaternion or matrix
 -- node, also once its named nodes are resolved. Assumes nothing.
-use mathlib.Core.Path.{_≡_, refl, sym, ap, _∙_}
-use mathlib.Core.Bool.{Bool, true, false, cond, not, _&&_, _||_, false≢true}
-use Prim.Native.Nat.{ℕ}
+use mathlib.Core.Path.{_≡_, refl, sym}
+use mathlib.Core.Bool.{Bool, true, false, not, _&&_, _||_, false≢true}
 use lib.Dec.{eqb}
 use borrow.Author.Tests.{eqb-true}
-use Rattle.image.specs.Schema.{Encoding, Label, label, Ty, leaf, one, two}
+use Rattle.image.specs.Schema.{Label, label, Ty, leaf, one, two}
 use Rattle.rules.specs.Equal.{Sound, never}
 use Rattle.rules.specs.Survivors.{Registry}
 use Rattle.rules.specs.Types.{resolveLabel, resolve, vector, sameLabel, equalLabel, sameType, holdsVector}

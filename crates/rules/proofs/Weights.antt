@@ -1,8 +1,8 @@
 -- How long the lines of the clauses are in all: linear in the sizes of what is compared, since each entry is met once. Assumes nothing.
-use mathlib.Core.Path.{_≡_, refl, ap}
-use mathlib.Core.Bool.{Bool, true, false, cond, not, _&&_}
+use mathlib.Core.Path.{_≡_, refl}
+use mathlib.Core.Bool.{Bool, true, false, cond}
 use mathlib.Core.Option.{Option, none, some}
-use mathlib.Core.List.{List, [], _∷_, _++_, flatMap}
+use mathlib.Core.List.{List, [], _∷_, _++_}
 use Prim.Native.Nat.{ℕ, zero, suc, _+_, _*_, _≤_}
 use native.Mathlib.Nat.{le-trans}
 use native.Mathlib.Omega.{arith}
@@ -12,20 +12,19 @@ use lib.ListN.{length, length-append}
 use Rattle.maps.specs.Lists.{total, All}
 use Rattle.maps.specs.Orders.{Strict, before}
 use Rattle.maps.specs.Keyed.{survivors, lookup}
-use Rattle.maps.specs.Compare.{Rules, unmatched, matched, between, compare}
+use Rattle.maps.specs.Compare.{Rules, matched, between, compare}
 use Rattle.maps.specs.Walk.{Rising}
-use Rattle.maps.proofs.Lists.{all, all-map, total-append, flatMap-same}
+use Rattle.maps.proofs.Lists.{all-map, total-append, flatMap-same}
 use Rattle.maps.proofs.Orders.{byNumber}
 use Rattle.maps.proofs.Names.{byName}
 use Rattle.maps.proofs.Survivors.{rising, all-survivors}
 use Rattle.maps.proofs.Sums.{total-survivors, compare-weight}
 use Rattle.image.specs.Schema.{Name, Marks, Ty, leaf, one, two, Field, Variant, Decl}
-use Rattle.image.specs.Words.{bytes, kindWord}
-use Rattle.rules.specs.Equal.{sameNames}
-use Rattle.rules.specs.Survivors.{Registry, nameOf, ordinalOf, fieldMap, variantOrdinal, variantMap, View}
-use Rattle.rules.specs.Types.{Reading, resolve}
-use Rattle.rules.specs.Text.{decimal, joined, boolWord, showType, showEncoding}
-use Rattle.rules.specs.Changes.{Bump, minor, Change, change, only, quoted, numbered, fromTo}
+use Rattle.image.specs.Words.{bytes}
+use Rattle.rules.specs.Survivors.{nameOf, ordinalOf, fieldMap, variantOrdinal, variantMap, View}
+use Rattle.rules.specs.Types.{Reading}
+use Rattle.rules.specs.Text.{joined}
+use Rattle.rules.specs.Changes.{Bump, minor, Change, change, only, quoted, numbered}
 use Rattle.rules.specs.Clauses.{showNamespace, compareNamespaces, Reader, reader, compareTypes, fieldText, compareFieldNames, compareEncodings, compareDeprecated, compareFields, fieldRules, compareFieldSets, compareMessages, variantText, variantGone, variantCame, enumRules, compareNonExhaustive, compareEnums, bitText, flagsRules, compareFlags, variantDecl, unionRules, compareUnions, compareNewtypes, compareKind, kindChanged, compareDecls, declText, declRules, changes}
 use Rattle.rules.specs.Report.{changeLine}
 use Rattle.rules.proofs.Sizes.{namesSize, typeSize, fieldSize, variantSize, declSize}

@@ -1,5 +1,5 @@
 -- Both calls over byte lists, in stages: accept each image; refuse the pair; the changes; what is made of them. Assumes nothing.
-use mathlib.Core.Bool.{Bool, true, false, cond}
+use mathlib.Core.Bool.{cond}
 use mathlib.Core.List.{List, [], _∷_, _++_}
 use Prim.Native.Nat.{ℕ, zero, suc}
 use lib.Dec.{leb}

@@ -4,7 +4,7 @@ use mathlib.Core.Bool.{Bool, false, cond}
 use mathlib.Core.List.{List, [], _∷_}
 use Prim.Native.Nat.{ℕ, _+_, max, _≤_}
 use Rattle.maps.specs.Lists.{All}
-use Rattle.image.specs.Schema.{Schema, Ty}
+use Rattle.image.specs.Schema.{Schema}
 use Rattle.image.specs.Parse.{Parsed, ok, no}
 use Rattle.image.specs.Image.{readImage}
 use Rattle.rules.specs.Survivors.{viewOf}

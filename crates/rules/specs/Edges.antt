@@ -1,11 +1,11 @@
 -- The edges (a) to (l) of document 01, each as the whole report of two small schemas. Assumes nothing.
 use mathlib.Core.Path.{_≡_}
-use mathlib.Core.Bool.{Bool, true, false}
+use mathlib.Core.Bool.{true, false}
 use mathlib.Core.Option.{Option, none, some}
 use mathlib.Core.List.{List, [], _∷_}
 use Prim.Native.Nat.{ℕ}
 use Prim.Native.String.{String}
-use Rattle.image.specs.Schema.{Marks, unmarked, Label, label, Ty, leaf, one, noType, Field, Variant, Decl, decl, Schema}
+use Rattle.image.specs.Schema.{Marks, unmarked, label, Ty, leaf, one, noType, Field, Variant, Decl, decl, Schema}
 use Rattle.image.specs.Words.{bytes}
 use Rattle.rules.specs.Survivors.{viewOf}
 use Rattle.rules.specs.Types.{sameType}

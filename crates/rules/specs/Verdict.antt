@@ -1,8 +1,8 @@
 -- The verdict: bump, result, counts; and refusal 11. Assumes nothing.
-use mathlib.Core.Bool.{Bool, true, false, cond, _&&_, _||_}
+use mathlib.Core.Bool.{Bool, false, cond, _&&_, _||_}
 use mathlib.Core.Option.{Option, none, some}
 use mathlib.Core.List.{List, [], _∷_}
-use Prim.Native.Nat.{ℕ, zero, suc}
+use Prim.Native.Nat.{ℕ}
 use lib.Dec.{eqb}
 use Rattle.maps.specs.Lists.{largest, count}
 use Rattle.maps.specs.Keyed.{lookup}
