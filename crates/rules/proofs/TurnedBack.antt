@@ -98,7 +98,7 @@ number-is : (number side : ℕ) → select (refused number side) 0 ≡ number
 unfolding select selected
 number-is number side = refl
 
-refusal-is : (number side : ℕ) → Refusal (select (refused number side))
+pub refusal-is : (number side : ℕ) → Refusal (select (refused number side))
 unfolding select selected
 refusal-is number side = record { bump = refl; result = refl; rest = λ n h. List·getD-eq-default (number ∷ side ∷ 2 ∷ 1 ∷ []) 0 h }
 

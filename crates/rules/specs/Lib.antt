@@ -1,5 +1,7 @@
 -- What is right, in the order of document 01: Survivors, Types, Text (how types are shown), Changes, Clauses (the eight clauses),
--- Verdict, Report; Answer: both calls over byte lists. Distance: demand 3. Equal: tests of equality.
+-- Verdict, Report; Answer: both calls over byte lists. Equal: tests of equality.
+-- Statements that are proved of them: TurnedBack (when each number is given), Distance (demand 3), Edges (document 01's edges), Pinned (what
+-- the Rust answered).
 pub mod Equal
 pub mod Survivors
 pub mod Types

@@ -1,0 +1,167 @@
+-- "The three `..OrdinalChanged` counts are 0.": the clauses report no such change, whatever they compare. Assumes nothing.
+use mathlib.Core.Path.{_≡_, refl, _∙_}
+use mathlib.Core.Bool.{Bool, true, false, cond, _||_}
+use mathlib.Core.Option.{Option, none, some}
+use mathlib.Core.List.{List, [], _∷_, _++_, flatMap}
+use Prim.Native.Nat.{ℕ, zero, suc, _+_, _<_}
+use native.Mathlib.Omega.{arith}
+use borrow.Author.Tests.{eqb-true}
+use lib.Dec.{eqb, ltb}
+use Rattle.maps.specs.Lists.{total, count, All}
+use Rattle.maps.specs.Orders.{before}
+use Rattle.maps.specs.Keyed.{lookup}
+use Rattle.maps.specs.Compare.{Rules, unmatched, matched, between, compare}
+use Rattle.maps.proofs.Orders.{no-both}
+use Rattle.image.specs.Schema.{Name, Marks, Ty, Field, Variant, Decl}
+use Rattle.rules.specs.Survivors.{nameOf, ordinalOf, fieldMap, variantOrdinal, variantMap, View, viewOf}
+use Rattle.rules.specs.Types.{Reading, sameType}
+use Rattle.rules.specs.Changes.{Bump, Change, only, kindCount, FieldOrdinalChanged, VariantOrdinalChanged, FlagsBitOrdinalChanged}
+use Rattle.rules.specs.Clauses.{compareNamespaces, Reader, reader, compareTypes, compareFieldNames, compareEncodings, compareDeprecated, compareFields, fieldRules, compareFieldSets, compareMessages, variantGone, variantCame, enumRules, compareNonExhaustive, compareEnums, flagsRules, compareFlags, unionRules, compareUnions, compareNewtypes, compareKind, kindChanged, compareDecls, declRules, changes}
+use Rattle.rules.specs.Verdict.{countOf}
+use Rattle.rules.specs.Answer.{Outcome, checked, select, verdictOf}
+use Rattle.rules.specs.Distance.{counted}
+use Rattle.rules.proofs.Answer.{Case, old-refused, new-refused, pair-refused, verdict, case, count-selected}
+use Rattle.rules.proofs.TurnedBack.{refusal-is}
+
+-- ---- what all reported changes have
+
+module _ {C : Type 0} (P : C → Type 0) where
+  all-append : (xs ys : List C) → All P xs → All P ys → All P (xs ++ ys)
+  unfolding All
+  all-append [] ys h k = k
+  all-append (x ∷ xs) ys h k = (h .0, all-append xs ys (h .1) k)
+
+  all-flatMap : {A : Type 0} (f : A → List C) → ((a : A) → All P (f a)) → (l : List A) → All P (flatMap f l)
+  unfolding All flatMap
+  all-flatMap f h [] = tt
+  all-flatMap f h (a ∷ l) = all-append (f a) (flatMap f l) (h a) (all-flatMap f h l)
+
+  module _ {K E : Type 0} (key : E → K) (lt : K → K → Bool) (r : Rules E C)
+      (gone : (e : E) → All P (r .gone e)) (came : (f : E) → All P (r .came f)) (kept : (e f : E) → All P (r .kept e f)) where
+    all-unmatched : (c : E → List C) → ((e : E) → All P (c e)) → (e : E) (o : Option E) → All P (unmatched c (some e) o)
+    unfolding unmatched All
+    all-unmatched c h e none = h e
+    all-unmatched c h e (some f) = tt
+
+    all-matched : (e : E) (o : Option E) → All P (matched (r .kept) (some e) o)
+    unfolding matched All
+    all-matched e none = tt
+    all-matched e (some f) = kept e f
+
+    all-compare : (m n : List E) → All P (compare key lt r m n)
+    unfolding compare between
+    all-compare m n =
+        all-append _ _ (all-flatMap _ (λ e. all-unmatched (r .gone) gone e (lookup key lt (key e) n)) m)
+        (all-append _ _ (all-flatMap _ (λ f. all-unmatched (r .came) came f (lookup key lt (key f) m)) n)
+        (all-flatMap _ (λ e. all-matched e (lookup key lt (key e) n)) m))
+
+-- ---- the clauses
+
+-- the three kinds
+unfoldable ordinalChanged : ℕ → Bool
+ordinalChanged kind = eqb kind FieldOrdinalChanged || (eqb kind VariantOrdinalChanged || eqb kind FlagsBitOrdinalChanged)
+
+abbrev Other : Change → Type 0
+Other c = ordinalChanged (c .kind) ≡ false
+
+only-other : (test : Bool) (c : Change) → Other c → All Other (only test c)
+unfolding only All
+only-other true c h = (h, tt)
+only-other false c h = tt
+
+single-other : (c : Change) → Other c → All Other (c ∷ [])
+unfolding All
+single-other c h = (h, tt)
+
+nothing-other : All Other []
+unfolding All
+nothing-other = tt
+
+deprecated-other : (d : Name) (field : Option Name) (target : List ℕ) (m n : Marks) → All Other (compareDeprecated d field target m n)
+unfolding compareDeprecated ordinalChanged
+deprecated-other d field target m n = only-other _ _ refl
+
+types-other : (r : Reader) (d : Name) (field : Option Name) (what : List ℕ) (t u : Ty) → All Other (compareTypes r d field what t u)
+unfolding compareTypes ordinalChanged
+types-other r d field what t u = only-other _ _ refl
+
+fields-other : (r : Reader) (d : Name) (f g : Field) → All Other (compareFields r d f g)
+unfolding compareFields compareFieldNames compareEncodings ordinalChanged
+fields-other r d f g =
+    all-append Other _ _ (only-other _ _ refl)
+    (all-append Other _ _ (types-other r d _ _ (f .type) (g .type))
+    (all-append Other _ _ (only-other _ _ refl) (deprecated-other d _ _ (f .marks) (g .marks))))
+
+sets-other : (r : Reader) (d : Name) (m n : List Field) → All Other (compareFieldSets r d m n)
+unfolding compareFieldSets fieldRules ordinalChanged
+sets-other r d m n =
+    all-compare Other ordinalOf ltb (fieldRules r d) (λ f. single-other _ refl) (λ f. single-other _ refl) (fields-other r d) (fieldMap m) (fieldMap n)
+
+variants-other : (r : Rules Variant Change) → ((v : Variant) → All Other (r .gone v)) → ((v : Variant) → All Other (r .came v)) → ((v w : Variant) → All Other (r .kept v w))
+    → (m n : List Variant) → All Other (compare variantOrdinal ltb r (variantMap m) (variantMap n))
+variants-other r gone came kept m n = all-compare Other variantOrdinal ltb r gone came kept (variantMap m) (variantMap n)
+
+gone-other : (d : Name) (v : Variant) → All Other (variantGone d v)
+unfolding variantGone ordinalChanged
+gone-other d v = single-other _ refl
+
+came-other : (b : Bump) (d : Name) (v : Variant) → All Other (variantCame b d v)
+unfolding variantCame ordinalChanged
+came-other b d v = single-other _ refl
+
+kinds-other : (k : ℕ) (r : Reader) (x y : Decl) → All Other (compareKind k r x y)
+unfolding compareKind compareMessages compareEnums enumRules compareNonExhaustive compareFlags flagsRules compareUnions unionRules compareNewtypes ordinalChanged
+kinds-other zero r x y = all-append Other _ _ (sets-other r (x .name) (x .fields) (y .fields)) (deprecated-other (x .name) _ _ (x .marks) (y .marks))
+kinds-other (suc zero) r x y =
+    all-append Other _ _ (only-other _ _ refl)
+    (variants-other (enumRules (x .name) (y .marks)) (gone-other (x .name)) (came-other _ (x .name)) (λ v w. nothing-other) (x .variants) (y .variants))
+kinds-other (suc (suc zero)) r x y =
+    variants-other (flagsRules (x .name)) (λ v. single-other _ refl) (λ v. single-other _ refl) (λ v w. nothing-other) (x .variants) (y .variants)
+kinds-other (suc (suc (suc zero))) r x y =
+    variants-other (unionRules r (x .name)) (gone-other (x .name)) (came-other _ (x .name)) (λ v w. sets-other r _ (v .fields) (w .fields)) (x .variants) (y .variants)
+kinds-other (suc (suc (suc (suc zero)))) r x y = types-other r (x .name) none _ (x .inner) (y .inner)
+kinds-other (suc (suc (suc (suc (suc k))))) r x y = nothing-other
+
+decls-other : (r : Reader) (x y : Decl) → All Other (compareDecls r x y)
+unfolding compareDecls kindChanged ordinalChanged
+decls-other r x y = go (eqb (x .kind) (y .kind))
+  where
+    go : (u : Bool) → All Other (cond u (compareKind (x .kind) r x y) (kindChanged x y))
+    go true = kinds-other (x .kind) r x y
+    go false = single-other _ refl
+
+changes-other : (same : Reading) (x y : View) → All Other (changes same x y)
+unfolding changes compareNamespaces declRules ordinalChanged
+changes-other same x y =
+    all-append Other _ _ (only-other _ _ refl)
+    (all-compare Other nameOf before (declRules (reader same (x .registry) (y .registry)))
+    (λ d. single-other _ refl) (λ d. single-other _ refl) (decls-other (reader same (x .registry) (y .registry))) (x .standing) (y .standing))
+
+-- ---- the counts
+
+none-counted : (kind : ℕ) → ordinalChanged kind ≡ true → (cs : List Change) → All Other cs → countOf kind cs ≡ 0
+unfolding countOf count total All
+none-counted kind e [] h = refl
+none-counted kind e (c ∷ cs) h = go (eqb (c .kind) kind) refl (none-counted kind e cs (h .1))
+  where
+    go : (u : Bool) → eqb (c .kind) kind ≡ u → total (λ c. cond (eqb (c .kind) kind) 1 0) cs ≡ 0
+        → cond u 1 0 + total (λ c. cond (eqb (c .kind) kind) 1 0) cs ≡ 0
+    go true p ih = no-both e (rw (eqb-true (c .kind) kind p) at (h .0))
+    go false p ih = omega (arith, ih)
+
+module _ (old new : List ℕ) where
+  none-selected : (kind : ℕ) → kind < kindCount → ordinalChanged kind ≡ true → verdictOf old new (5 + kind) ≡ 0
+  unfolding verdictOf checked
+  none-selected kind l e = go (case viewOf sameType old new)
+    where
+      go : {o : Outcome} → Case viewOf sameType old new o → select o (5 + kind) ≡ 0
+      go (old-refused h p) = refusal-is _ _ .rest (5 + kind) (omega arith)
+      go (new-refused h p q) = refusal-is _ _ .rest (5 + kind) (omega arith)
+      go (pair-refused p q i) = refusal-is _ _ .rest (5 + kind) (omega arith)
+      go (verdict {x = x} {y = y} p q i) =
+          count-selected kind l (changes sameType (viewOf x) (viewOf y)) ∙ none-counted kind e _ (changes-other sameType (viewOf x) (viewOf y))
+
+  pub no-ordinal-changed : All (λ kind. counted verdictOf kind old new ≡ 0) (FieldOrdinalChanged ∷ VariantOrdinalChanged ∷ FlagsBitOrdinalChanged ∷ [])
+  unfolding All counted ordinalChanged
+  no-ordinal-changed =
+      (none-selected FieldOrdinalChanged (omega arith) refl, (none-selected VariantOrdinalChanged (omega arith) refl, (none-selected FlagsBitOrdinalChanged (omega arith) refl, tt)))
