@@ -1,13 +1,15 @@
--- The report of two accepted images is shorter than 2^62 bytes, so that sums of lengths and of counts fit a u64. Assumes nothing.
+-- The report of two accepted images is shorter than 2^62 bytes, and so is every value that the verdict call selects. Assumes nothing.
 use mathlib.Core.Path.{_≡_}
+use mathlib.Core.Bool.{Bool, true, false, cond}
 use mathlib.Core.Option.{Option, none, some}
 use mathlib.Core.List.{List, [], _∷_}
 use Prim.Native.Nat.{ℕ, zero, suc, _+_, _*_, _^_, _≤_, _<_}
 use native.Mathlib.Omega.{arith}
+use lib.Dec.{eqb}
 use lib.ListN.{length, getD, length-append}
-use Rattle.maps.specs.Lists.{largest, total, All}
+use Rattle.maps.specs.Lists.{largest, total, count, All}
 use Rattle.maps.specs.Orders.{before}
-use Rattle.maps.proofs.Lists.{length-flatMap}
+use Rattle.maps.proofs.Lists.{all, total-less, length-flatMap}
 use Rattle.maps.proofs.Survivors.{all-survivors}
 use Rattle.maps.proofs.Sums.{total-survivors}
 use Rattle.image.specs.Schema.{Decl, Schema}
@@ -18,16 +20,17 @@ use Rattle.image.proofs.Laws.Sure.{Sure, sure-ok, sure-no}
 use Rattle.rules.specs.Survivors.{Registry, nameOf, declOf, resolved, listed, declarations, viewOf}
 use Rattle.rules.specs.Types.{nameIn, sameType}
 use Rattle.rules.specs.Text.{joined}
-use Rattle.rules.specs.Changes.{Change}
+use Rattle.rules.specs.Changes.{Change, kindCount}
 use Rattle.rules.specs.Clauses.{changes}
-use Rattle.rules.specs.Verdict.{bumpOf, resultOf}
+use Rattle.rules.specs.Verdict.{bumpOf, resultOf, countOf}
 use Rattle.rules.specs.Report.{bumpWord, resultWord, line, lastLine, report}
-use Rattle.rules.specs.Answer.{Outcome, checked, selected, select, verdictOf}
+use Rattle.rules.specs.Answer.{Outcome, refused, compared, checked, counts, selected, select, verdictOf}
 use Rattle.rules.proofs.Sizes.{namesSize, declSize}
-use Rattle.rules.proofs.Texts.{decimal-length, word-length, Short}
-use Rattle.rules.proofs.Weights.{changes-weight}
+use Rattle.rules.proofs.Texts.{decimal-length, word-length, Short, line-some}
+use Rattle.rules.proofs.Weights.{lineLength, changes-weight}
 use Rattle.rules.proofs.Held.{Small, Held, image-held}
 use Rattle.rules.proofs.Answer.{Case, old-refused, new-refused, pair-refused, verdict, case}
+use Rattle.rules.proofs.Chain.{largest-two}
 use Rattle.rules.proofs.Distance.{view-rises}
 
 -- ---- the standing declarations of what an image holds
@@ -90,19 +93,24 @@ last-length cs = simp length-append (omega (arith, result, bump, decimal-length 
     bump : length (bumpWord (bumpOf cs)) ≤ 5
     bump = word-length _ (bumpOf cs)
 
+-- the lines of the changes, and the last
+report-lines : (cs : List Change) → length (report cs) ≡ total lineLength cs + length (lastLine cs)
+unfolding report
+report-lines cs = simp (length-append, length-flatMap)
+
 held-bound : (x y : Schema) → Held x → Held y → length (report (changes sameType (viewOf x) (viewOf y))) < 2 ^ 62
-unfolding report viewOf
+unfolding viewOf
 held-bound x y h k =
-    simp (length-append, length-flatMap)
-    (omega (
+    omega (
       arith,
+      report-lines (changes sameType (viewOf x) (viewOf y)),
       last-length (changes sameType (viewOf x) (viewOf y)),
       changes-weight sameType (viewOf x) (viewOf y) (held-short x h) (held-short y k) (view-rises x) (view-rises y) (standing-small x h),
       standing-total x h,
       standing-total y k,
       h .segments,
       k .segments,
-    ))
+    )
 
 -- ---- of two accepted images
 
@@ -115,13 +123,53 @@ module _ (old new : List ℕ) where
       → length (report (changes sameType (viewOf x) (viewOf y))) < 2 ^ 62
   report-bound x y m n p q = held-bound x y (held-by x m (image-held old) p) (held-by y n (image-held new) q)
 
-  -- by selector
-  pub length-bound : verdictOf old new 4 < 2 ^ 62
-  unfolding verdictOf checked select selected
-  length-bound = go (case viewOf sameType old new)
-    where
-      go : {o : Outcome} → Case viewOf sameType old new o → select o 4 < 2 ^ 62
-      go (old-refused l p) = omega arith
-      go (new-refused l p q) = omega arith
-      go (pair-refused p q e) = omega arith
-      go (verdict {x = x} {y = y} {m = m} {n = n} p q e) = report-bound x y m n p q
+-- ---- every selector
+
+-- each change has a line, so no count is over the report's length
+count-lines : (kind : ℕ) (cs : List Change) → countOf kind cs ≤ total lineLength cs
+unfolding countOf count
+count-lines kind cs = total-less (λ c. cond (eqb (c .kind) kind) 1 0) lineLength cs (all (λ c. go c (eqb (c .kind) kind)) cs)
+  where
+    go : (c : Change) (u : Bool) → cond u 1 0 ≤ lineLength c
+    go c true = line-some c
+    go c false = omega arith
+
+counts-below : (b n kind : ℕ) (cs : List Change) → total lineLength cs < b → All (λ v. v < b) (counts n kind cs)
+unfolding counts All
+counts-below b zero kind cs h = tt
+counts-below b (suc n) kind cs h = (omega (arith, count-lines kind cs), counts-below b n (suc kind) cs h)
+
+result-one : (cs : List Change) → resultOf cs ≤ 1
+unfolding resultOf
+result-one cs = go (eqb (bumpOf cs) 2)
+  where
+    go : (u : Bool) → cond u 1 0 ≤ 1
+    go true = omega arith
+    go false = omega arith
+
+-- of a list whose elements are below a bound each is, also past its end
+below-at : (b : ℕ) (l : List ℕ) (n : ℕ) → 0 < b → All (λ v. v < b) l → getD l n 0 < b
+unfolding All
+below-at b [] n h k = h
+below-at b (v ∷ l) zero h k = k .0
+below-at b (v ∷ l) (suc n) h k = below-at b l n h (k .1)
+
+refused-below : (number side n : ℕ) → number ≤ 12 → side ≤ 3 → select (refused number side) n < 2 ^ 62
+unfolding select selected All
+refused-below number side n h k = below-at (2 ^ 62) (number ∷ side ∷ 2 ∷ 1 ∷ []) n (omega arith) (omega arith, (omega arith, (omega arith, (omega arith, tt))))
+
+compared-below : (cs : List Change) (n : ℕ) → length (report cs) < 2 ^ 62 → select (compared cs) n < 2 ^ 62
+unfolding select selected bumpOf All
+compared-below cs n h =
+    below-at (2 ^ 62) (selected (compared cs)) n (omega arith)
+    (omega arith, (omega arith, (omega (arith, largest-two cs), (omega (arith, result-one cs), (h, counts-below (2 ^ 62) kindCount 0 cs (omega (arith, report-lines cs)))))))
+
+pub selector-bound : (old new : List ℕ) (n : ℕ) → verdictOf old new n < 2 ^ 62
+unfolding verdictOf checked
+selector-bound old new n = go (case viewOf sameType old new)
+  where
+    go : {o : Outcome} → Case viewOf sameType old new o → select o n < 2 ^ 62
+    go (old-refused l p) = refused-below _ _ n (omega arith) (omega arith)
+    go (new-refused l p q) = refused-below _ _ n (omega arith) (omega arith)
+    go (pair-refused p q e) = refused-below _ _ n (omega arith) (omega arith)
+    go (verdict {x = x} {y = y} {m = m} {n = k} p q e) = compared-below _ n (report-bound old new x y m k p q)

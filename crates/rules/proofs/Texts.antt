@@ -159,3 +159,8 @@ line-length c =
 
     bump : length (bumpWord (level (c .bump))) ≤ 5
     bump = word-length _ (level (c .bump))
+
+-- and it is not empty
+pub line-some : (c : Change) → 1 ≤ length (changeLine c)
+unfolding changeLine line bytes
+line-some c = simp length-append (omega arith)

@@ -24,7 +24,7 @@ use Rattle.image.specs.Words.{bytes}
 use Rattle.rules.specs.Survivors.{nameOf, ordinalOf, fieldMap, variantOrdinal, variantMap, View}
 use Rattle.rules.specs.Types.{Reading}
 use Rattle.rules.specs.Text.{joined}
-use Rattle.rules.specs.Changes.{Bump, minor, Change, change, only, quoted, numbered}
+use Rattle.rules.specs.Changes.{Bump, Change, change, only, quoted, numbered}
 use Rattle.rules.specs.Clauses.{showNamespace, compareNamespaces, Reader, reader, compareTypes, fieldText, compareFieldNames, compareEncodings, compareDeprecated, compareFields, fieldRules, compareFieldSets, compareMessages, variantText, variantGone, variantCame, enumRules, compareNonExhaustive, compareEnums, bitText, flagsRules, compareFlags, variantDecl, unionRules, compareUnions, compareNewtypes, compareKind, kindChanged, compareDecls, declText, declRules, changes}
 use Rattle.rules.specs.Report.{changeLine}
 use Rattle.rules.proofs.Sizes.{namesSize, typeSize, fieldSize, variantSize, declSize}
@@ -252,7 +252,7 @@ module _ (r : Reader) (S : Short (r .old)) (T : Short (r .new)) where
           arith,
           fine-weight variantOrdinal byNumber lineLength (λ v. leb (length (v .name)) 32768) (heavy variantSize) (heavy variantSize)
               (variantMap (x .variants)) (variantMap (y .variants)) (rising variantOrdinal byNumber (x .variants)) (rising variantOrdinal byNumber (y .variants)) variants-short
-              (unionRules r (x .name)) (gone-weight (x .name) name-short) (came-weight (x .name) name-short minor) variant-weight,
+              (unionRules r (x .name)) (gone-weight (x .name) name-short) (came-weight (x .name) name-short _) variant-weight,
           survivors-heavy variantOrdinal ltb variantSize (x .variants),
           survivors-heavy variantOrdinal ltb variantSize (y .variants),
         )
