@@ -26,7 +26,8 @@ module _ (view : Schema → View) (same : Reading) (a b : List ℕ) where
   pub data Case : Outcome → Type 0 where
     old-refused : {k : ℕ} → Single k → readImage a ≡ no k → Case (refused k oldSide)
     new-refused : {x : Schema} {m k : ℕ} → Single k → readImage a ≡ ok x m → readImage b ≡ no k → Case (refused k newSide)
-    pair-refused : {x y : Schema} {m n : ℕ} → readImage a ≡ ok x m → readImage b ≡ ok y n → aliasPair (view x) (view y) ≡ true → Case (refused 11 bothSides)
+    pair-refused : {x y : Schema} {m n : ℕ} → readImage a ≡ ok x m → readImage b ≡ ok y n → aliasPair (view x) (view y) ≡ true
+        → Case (refused 11 bothSides)
     verdict : {x y : Schema} {m n : ℕ} → readImage a ≡ ok x m → readImage b ≡ ok y n → aliasPair (view x) (view y) ≡ false
         → Case (compared (changes same (view x) (view y)))
 

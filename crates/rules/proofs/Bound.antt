@@ -51,7 +51,8 @@ unfolding declOf
 held-short x h = record { short = λ id. small-short (getD (x .registry) id none) (entry-small (x .registry) id (h .entries)) }
 
 module _ (R : Registry) (h : All Small R) where
-  resolved-small : (o : Option Decl) → Small o → (ds : List Decl) → All (λ d. declSize d ≤ 32768) ds → All (λ d. declSize d ≤ 32768) (resolved o ds)
+  resolved-small : (o : Option Decl) → Small o → (ds : List Decl) → All (λ d. declSize d ≤ 32768) ds
+      → All (λ d. declSize d ≤ 32768) (resolved o ds)
   unfolding resolved Small All
   resolved-small none p ds q = q
   resolved-small (some d) p ds q = (p, q)
@@ -79,7 +80,12 @@ module _ (x : Schema) (h : Held x) where
   standing-total : total declSize (declarations x) ≤ 16777216
   unfolding declarations
   standing-total =
-      omega (arith, total-survivors nameOf before declSize (listed (x .registry) (x .ids)), listed-total (x .registry) (h .entries) (x .ids), h .ids)
+      omega (
+        arith,
+        total-survivors nameOf before declSize (listed (x .registry) (x .ids)),
+        listed-total (x .registry) (h .entries) (x .ids),
+        h .ids,
+      )
 
 -- ---- the report
 
@@ -156,7 +162,8 @@ below-at b (v ∷ l) (suc n) h k = below-at b l n h (k .1)
 
 refused-below : (number side n : ℕ) → number ≤ 12 → side ≤ 3 → select (refused number side) n < 2 ^ 62
 unfolding select selected All
-refused-below number side n h k = below-at (2 ^ 62) (number ∷ side ∷ 2 ∷ 1 ∷ []) n (omega arith) (omega arith, (omega arith, (omega arith, (omega arith, tt))))
+refused-below number side n h k =
+    below-at (2 ^ 62) (number ∷ side ∷ 2 ∷ 1 ∷ []) n (omega arith) (omega arith, (omega arith, (omega arith, (omega arith, tt))))
 
 compared-below : (cs : List Change) (n : ℕ) → length (report cs) < 2 ^ 62 → select (compared cs) n < 2 ^ 62
 unfolding select selected bumpOf All

@@ -80,8 +80,10 @@ slight b xs ys false c m = chained-small (omega arith)
 
 module _ {K E : Type 0} (key : E → K) (b : ℕ) (r s t : Rules E Change) where
   links : ((e : E) → 2 ≤ largest levelOf (r .gone e)) → ((f : E) → 2 ≤ largest levelOf (s .gone f))
-      → ((g : E) → largest levelOf (t .came g) ≤ largest levelOf (s .came g)) → ((f g : E) → largest levelOf (t .came g) ≤ max b (largest levelOf (r .came f)))
-      → ((e f g : E) → key e ≡ key f → key f ≡ key g → Chained levelOf b (r .kept e f) (s .kept f g) (t .kept e g)) → Links key levelOf b r s t
+      → ((g : E) → largest levelOf (t .came g) ≤ largest levelOf (s .came g))
+      → ((f g : E) → largest levelOf (t .came g) ≤ max b (largest levelOf (r .came f)))
+      → ((e f g : E) → key e ≡ key f → key f ≡ key g → Chained levelOf b (r .kept e f) (s .kept f g) (t .kept e g))
+      → Links key levelOf b r s t
   links p q u v k = record {
     gone-first = λ e c. omega (arith, p e, bump-bound (c .bump));
     gone-second = λ f c. omega (arith, q f, bump-bound (c .bump));
@@ -100,10 +102,12 @@ names-chained : (b : ℕ) (xs ys : List Change) (d : Name) (f g : Field) → Cha
 unfolding compareFieldNames
 names-chained b xs ys d f g = slight b xs ys _ _ refl
 
-encodings-chained : (b : ℕ) (d₁ d₂ d₃ : Name) (f g h : Field) → Chained levelOf b (compareEncodings d₁ f g) (compareEncodings d₂ g h) (compareEncodings d₃ f h)
+encodings-chained : (b : ℕ) (d₁ d₂ d₃ : Name) (f g h : Field)
+    → Chained levelOf b (compareEncodings d₁ f g) (compareEncodings d₂ g h) (compareEncodings d₃ f h)
 unfolding compareEncodings
 encodings-chained b d₁ d₂ d₃ f g h =
-    test-chained (pairs encodings (options numbers)) b (f .encoding, f .limit) (g .encoding, g .limit) (h .encoding, h .limit) _ _ _ refl refl
+    test-chained (pairs encodings (options numbers)) b (f .encoding, f .limit) (g .encoding, g .limit)
+    (h .encoding, h .limit) _ _ _ refl refl
 
 deprecated-chained : (b : ℕ) (xs ys : List Change) (d : Name) (field : Option Name) (target : List ℕ) (m n : Marks)
     → Chained levelOf b xs ys (compareDeprecated d field target m n)
@@ -111,17 +115,20 @@ unfolding compareDeprecated
 deprecated-chained b xs ys d field target m n = slight b xs ys _ _ refl
 
 variants-chained : (b : ℕ) (r s t : Rules Variant Change) → Links variantOrdinal levelOf b r s t → (l m n : List Variant)
-    → Chained levelOf b (compare variantOrdinal ltb r (variantMap l) (variantMap m)) (compare variantOrdinal ltb s (variantMap m) (variantMap n))
-    (compare variantOrdinal ltb t (variantMap l) (variantMap n))
+    → Chained levelOf b (compare variantOrdinal ltb r (variantMap l) (variantMap m))
+    (compare variantOrdinal ltb s (variantMap m) (variantMap n)) (compare variantOrdinal ltb t (variantMap l) (variantMap n))
 unfolding variantMap
 variants-chained b r s t h l m n =
-    chain-links variantOrdinal byNumber levelOf b r s t h (variantMap l) (variantMap m) (variantMap n) (rising variantOrdinal byNumber l) (rising variantOrdinal byNumber n)
+    chain-links variantOrdinal byNumber levelOf b r s t h (variantMap l) (variantMap m) (variantMap n) (rising variantOrdinal byNumber l)
+    (rising variantOrdinal byNumber n)
 
-flags-chained : (b : ℕ) (d₁ d₂ d₃ : Name) (x y z : Decl) → Chained levelOf b (compareFlags d₁ x y) (compareFlags d₂ y z) (compareFlags d₃ x z)
+flags-chained : (b : ℕ) (d₁ d₂ d₃ : Name) (x y z : Decl)
+    → Chained levelOf b (compareFlags d₁ x y) (compareFlags d₂ y z) (compareFlags d₃ x z)
 unfolding compareFlags flagsRules largest level
 flags-chained b d₁ d₂ d₃ x y z =
     variants-chained b (flagsRules d₁) (flagsRules d₂) (flagsRules d₃)
-    (links variantOrdinal b _ _ _ (λ e. omega arith) (λ f. omega arith) (λ g. omega arith) (λ f g. omega arith) (λ e f g u v. chained-small (omega arith)))
+    (links variantOrdinal b _ _ _ (λ e. omega arith) (λ f. omega arith) (λ g. omega arith) (λ f g. omega arith)
+    (λ e f g u v. chained-small (omega arith)))
     (x .variants) (y .variants) (z .variants)
 
 openness-chained : (b : ℕ) (d₁ d₂ d₃ : Name) (l m n : Marks)
@@ -134,12 +141,14 @@ openness-slack : (d : Name) (m n : Marks) → level (enumBump n) ≤ max (larges
 unfolding compareNonExhaustive enumBump
 openness-slack d m n = test-slack marks (m .nonExhaustive) (n .nonExhaustive) (λ u. cond u minor major) _ refl
 
-enums-chained : (b : ℕ) (d₁ d₂ d₃ : Name) (x y z : Decl) → Chained levelOf b (compareEnums d₁ x y) (compareEnums d₂ y z) (compareEnums d₃ x z)
+enums-chained : (b : ℕ) (d₁ d₂ d₃ : Name) (x y z : Decl)
+    → Chained levelOf b (compareEnums d₁ x y) (compareEnums d₂ y z) (compareEnums d₃ x z)
 unfolding compareEnums enumRules variantGone variantCame largest level
 enums-chained b d₁ d₂ d₃ x y z =
     chained-lead (openness-chained b d₁ d₂ d₃ (x .marks) (y .marks) (z .marks))
     (variants-chained _ (enumRules d₁ (y .marks)) (enumRules d₂ (z .marks)) (enumRules d₃ (z .marks))
-    (links variantOrdinal _ _ _ _ (λ e. omega arith) (λ f. omega arith) (λ g. omega arith) (λ f g. omega (arith, openness-slack d₂ (y .marks) (z .marks))) (λ e f g u v. chained-small (omega arith)))
+    (links variantOrdinal _ _ _ _ (λ e. omega arith) (λ f. omega arith) (λ g. omega arith)
+    (λ f g. omega (arith, openness-slack d₂ (y .marks) (z .marks))) (λ e f g u v. chained-small (omega arith)))
     (x .variants) (y .variants) (z .variants))
 
 -- ---- the clauses, over any sound reading of types
@@ -160,28 +169,35 @@ module _ {same : Reading} {odd : Ty → Bool} (sound : Sound same odd) (P Q R : 
   unfolding compareTypes
   types-chained b d₁ d₂ d₃ n₁ n₂ n₃ w₁ w₂ w₃ t u v = test-chained sound b (resolve P t) (resolve Q u) (resolve R v) _ _ _ refl refl
 
-  fields-chained : (b : ℕ) (d₁ d₂ d₃ : Name) (f g h : Field) → Chained levelOf b (compareFields to d₁ f g) (compareFields from d₂ g h) (compareFields past d₃ f h)
+  fields-chained : (b : ℕ) (d₁ d₂ d₃ : Name) (f g h : Field)
+      → Chained levelOf b (compareFields to d₁ f g) (compareFields from d₂ g h) (compareFields past d₃ f h)
   unfolding compareFields
   fields-chained b d₁ d₂ d₃ f g h =
       chained-append (names-chained b (compareFieldNames d₁ f g) (compareFieldNames d₂ g h) d₃ f h)
-      (chained-append (types-chained b d₁ d₂ d₃ (some (g .name)) (some (h .name)) (some (h .name)) (fieldText g) (fieldText h) (fieldText h) (f .type) (g .type) (h .type))
+      (chained-append (types-chained b d₁ d₂ d₃ (some (g .name)) (some (h .name)) (some (h .name)) (fieldText g) (fieldText h) (fieldText h)
+      (f .type) (g .type) (h .type))
       (chained-append (encodings-chained b d₁ d₂ d₃ f g h)
       (deprecated-chained b _ _ d₃ _ _ (f .marks) (h .marks))))
 
-  sets-chained : (b : ℕ) (d₁ d₂ d₃ : Name) (l m n : List Field) → Chained levelOf b (compareFieldSets to d₁ l m) (compareFieldSets from d₂ m n) (compareFieldSets past d₃ l n)
+  sets-chained : (b : ℕ) (d₁ d₂ d₃ : Name) (l m n : List Field)
+      → Chained levelOf b (compareFieldSets to d₁ l m) (compareFieldSets from d₂ m n) (compareFieldSets past d₃ l n)
   unfolding compareFieldSets fieldRules fieldMap largest level
   sets-chained b d₁ d₂ d₃ l m n =
       chain-links ordinalOf byNumber levelOf b (fieldRules to d₁) (fieldRules from d₂) (fieldRules past d₃)
-      (links ordinalOf b _ _ _ (λ e. omega arith) (λ f. omega arith) (λ g. omega arith) (λ f g. omega arith) (λ f g h u v. fields-chained b d₁ d₂ d₃ f g h))
+      (links ordinalOf b _ _ _ (λ e. omega arith) (λ f. omega arith) (λ g. omega arith) (λ f g. omega arith)
+      (λ f g h u v. fields-chained b d₁ d₂ d₃ f g h))
       (fieldMap l) (fieldMap m) (fieldMap n) (rising ordinalOf byNumber l) (rising ordinalOf byNumber n)
 
   module _ (b : ℕ) (x y z : Decl) where
-    messages-chained : Chained levelOf b (compareMessages to (x .name) x y) (compareMessages from (y .name) y z) (compareMessages past (x .name) x z)
+    messages-chained : Chained levelOf b (compareMessages to (x .name) x y) (compareMessages from (y .name) y z)
+        (compareMessages past (x .name) x z)
     unfolding compareMessages
     messages-chained =
-        chained-append (sets-chained b (x .name) (y .name) (x .name) (x .fields) (y .fields) (z .fields)) (deprecated-chained b _ _ (x .name) _ _ (x .marks) (z .marks))
+        chained-append (sets-chained b (x .name) (y .name) (x .name) (x .fields) (y .fields) (z .fields))
+        (deprecated-chained b _ _ (x .name) _ _ (x .marks) (z .marks))
 
-    unions-chained : Chained levelOf b (compareUnions to (x .name) x y) (compareUnions from (y .name) y z) (compareUnions past (x .name) x z)
+    unions-chained : Chained levelOf b (compareUnions to (x .name) x y) (compareUnions from (y .name) y z)
+        (compareUnions past (x .name) x z)
     unfolding compareUnions unionRules variantGone variantCame largest level
     unions-chained =
         variants-chained b (unionRules to (x .name)) (unionRules from (y .name)) (unionRules past (x .name))
@@ -189,7 +205,8 @@ module _ {same : Reading} {odd : Ty → Bool} (sound : Sound same odd) (P Q R : 
         (λ e f g u v. sets-chained b _ _ _ (e .fields) (f .fields) (g .fields)))
         (x .variants) (y .variants) (z .variants)
 
-    newtypes-chained : Chained levelOf b (compareNewtypes to (x .name) x y) (compareNewtypes from (y .name) y z) (compareNewtypes past (x .name) x z)
+    newtypes-chained : Chained levelOf b (compareNewtypes to (x .name) x y) (compareNewtypes from (y .name) y z)
+        (compareNewtypes past (x .name) x z)
     unfolding compareNewtypes
     newtypes-chained = types-chained b _ _ _ _ _ _ _ _ _ (x .inner) (y .inner) (z .inner)
 
@@ -207,23 +224,27 @@ module _ {same : Reading} {odd : Ty → Bool} (sound : Sound same odd) (P Q R : 
     decls-chained = go (eqb (x .kind) (y .kind)) (eqb (y .kind) (z .kind)) refl refl
       where
         go : (p q : Bool) → eqb (x .kind) (y .kind) ≡ p → eqb (y .kind) (z .kind) ≡ q
-            → Chained levelOf b (cond p (compareKind (x .kind) to x y) (kindChanged x y)) (cond q (compareKind (y .kind) from y z) (kindChanged y z)) (compareDecls past x z)
+            → Chained levelOf b (cond p (compareKind (x .kind) to x y) (kindChanged x y)) (cond q (compareKind (y .kind) from y z) (kindChanged y z))
+            (compareDecls past x z)
         go false q u v = first-major (omega arith)
         go true false u v = second-major (omega arith)
         go true true u v =
             rw (same-trans numbers (x .kind) (y .kind) (z .kind) u v)
-            (subst (λ k. Chained levelOf b (compareKind (x .kind) to x y) (compareKind k from y z) (compareKind (x .kind) past x z)) (eqb-true (x .kind) (y .kind) u)
+            (subst (λ k. Chained levelOf b (compareKind (x .kind) to x y) (compareKind k from y z) (compareKind (x .kind) past x z))
+            (eqb-true (x .kind) (y .kind) u)
             (kinds-chained (x .kind)))
 
 -- ---- all clauses
 
-pub changes-chained : {same : Reading} {odd : Ty → Bool} → Sound same odd → (x y z : View) → Rising nameOf before (x .standing) → Rising nameOf before (z .standing)
+pub changes-chained : {same : Reading} {odd : Ty → Bool} → Sound same odd → (x y z : View) → Rising nameOf before (x .standing)
+    → Rising nameOf before (z .standing)
     → Chained levelOf 0 (changes same x y) (changes same y z) (changes same x z)
 unfolding changes declRules largest level
 changes-chained {same = same} sound x y z r s =
     chained-append (namespaces-chained 0 (x .namespace) (y .namespace) (z .namespace))
     (chain-links nameOf byName levelOf 0
-    (declRules (reader same (x .registry) (y .registry))) (declRules (reader same (y .registry) (z .registry))) (declRules (reader same (x .registry) (z .registry)))
+    (declRules (reader same (x .registry) (y .registry))) (declRules (reader same (y .registry) (z .registry)))
+    (declRules (reader same (x .registry) (z .registry)))
     (links nameOf 0 _ _ _ (λ e. omega arith) (λ f. omega arith) (λ g. omega arith) (λ f g. omega arith)
     (λ d e f u v. decls-chained sound (x .registry) (y .registry) (z .registry) 0 d e f))
     (x .standing) (y .standing) (z .standing) r s)

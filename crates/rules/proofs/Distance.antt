@@ -36,7 +36,8 @@ use Rattle.rules.proofs.Answer.{schemaOf, changesOf, compared-of, count
 unfoldable turned : ℕ → ℕ → Bool
 turned j k = ltb j kindCount && (ltb k kindCount && (not (eqb FieldDeprecated j) && eqb (mirror j) k))
 
-module _ (view : Schema → View) (rise : (s : Schema) → Rising nameOf before (view s .standing)) {same : Reading} {odd : Ty → Bool} (sound : Sound same odd) where
+module _ (view : Schema → View) (rise : (s : Schema) → Rising nameOf before (view s .standing)) {same : Reading} {odd : Ty → Bool}
+    (sound : Sound same odd) where
   -- the verdict call, and what is compared of an image
   abbrev call : Image → Image → ℕ → ℕ
   call a b selector = select (outcome view same a b) selector
@@ -58,14 +59,16 @@ module _ (view : Schema → View) (rise : (s : Schema) → Rising nameOf before 
   unfolding changesOf bumpOf
   triangle a b c = omega (arith, changes-chained sound (viewIn a) (viewIn b) (viewIn c) (rise _) (rise _) .bound)
 
-  reach : (a b : Image) (rest : List Image) → Steps call a (b ∷ rest) → bumpOf (changesOf view same a (last b rest)) ≤ largestStep call a (b ∷ rest)
+  reach : (a b : Image) (rest : List Image) → Steps call a (b ∷ rest)
+      → bumpOf (changesOf view same a (last b rest)) ≤ largestStep call a (b ∷ rest)
   unfolding Steps last largestStep
   reach a b [] s = omega (arith, distance-is a b (s .0))
   reach a b (c ∷ rest) s = omega (arith, distance-is a b (s .0), triangle a b (last c rest), reach b c rest (s .1))
 
   -- ---- swap
 
-  counted-is : (kind : ℕ) → kind < kindCount → (a b : Image) → Verdict call a b → counted call kind a b ≡ countOf kind (changesOf view same a b)
+  counted-is : (kind : ℕ) → kind < kindCount → (a b : Image) → Verdict call a b
+      → counted call kind a b ≡ countOf kind (changesOf view same a b)
   unfolding Verdict counted
   counted-is kind h a b v = ap (λ o. select o (5 + kind)) (compared-of view same a b v) ∙ count-selected kind h (changesOf view same a b)
 
@@ -78,7 +81,8 @@ module _ (view : Schema → View) (rise : (s : Schema) → Rising nameOf before 
         let r = both (not (eqb FieldDeprecated j)) _ (q .1) in
         counted-is j (ltb-true j kindCount (p .0)) a b v
         ∙ (changes-swap sound j (not-true (eqb FieldDeprecated j) (r .0)) (viewIn a) (viewIn b) (rise _) (rise _)
-        ∙ (ap (λ i. countOf i (changesOf view same b a)) (eqb-true (mirror j) k (r .1)) ∙ sym (counted-is k (ltb-true k kindCount (q .0)) b a w)))
+        ∙ (ap (λ i. countOf i (changesOf view same b a)) (eqb-true (mirror j) k (r .1))
+        ∙ sym (counted-is k (ltb-true k kindCount (q .0)) b a w)))
 
     swapped : Swapped call a b
     unfolding turned mirror All
@@ -115,7 +119,8 @@ odd-vectors : (a : Image) → oddIn viewOf view-rises types a ≡ holdsVectors a
 unfolding holdsVectors vectorCompared schemaOf viewOf declarations listed survivors pass comparedTypes flatMap any
 odd-vectors a = go (readImage a)
   where
-    go : (p : Parsed Schema) → any (λ t. holdsVector (resolve (viewOf (schemaOf p) .registry) t)) (comparedTypes (viewOf (schemaOf p))) ≡ vectorCompared p
+    go : (p : Parsed Schema)
+        → any (λ t. holdsVector (resolve (viewOf (schemaOf p) .registry) t)) (comparedTypes (viewOf (schemaOf p))) ≡ vectorCompared p
     go (ok s n) = any-same _ holdsVector (holds-resolved (s .registry)) (comparedTypes (viewOf s))
     go (no k) = refl
 

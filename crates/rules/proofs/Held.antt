@@ -39,7 +39,8 @@ unfolding part
 part-length from count s = simp (length-take, length-drop) (omega arith, omega arith)
 
 name-takes : (short : ℕ) (s : List ℕ) (at : ℕ) → Sure (Takes (λ (x : Name). 1 + length x) at) (nameAt short s at)
-name-takes short s at = sure-then (name-sure short s at) (λ x n q. omega (arith, ap length (q .value), part-length (at + 1) (getD s at 0) s .0, q .next))
+name-takes short s at =
+    sure-then (name-sure short s at) (λ x n q. omega (arith, ap length (q .value), part-length (at + 1) (getD s at 0) s .0, q .next))
 
 module _ {A : Type 0} (p : List ℕ → ℕ → Parsed A) (measure : A → ℕ) (s : List ℕ) (h : (at : ℕ) → Sure (Takes measure at) (p s at)) where
   many-take : (c at : ℕ) → Sure (Takes (total measure) at) (many p c s at)
@@ -61,7 +62,8 @@ after-takes : (tag : ℕ) (f : Follows) (s : List ℕ) (at : ℕ) → Sure (Take
 unfolding afterTag namesSize total
 after-takes tag (code highest) s at = sure-bind _ (code-sure 0 highest s at) (λ a n q. yields _ n (omega (arith, q .byte .next)))
 after-takes tag subByte s at =
-    sure-bind _ (code-sure 0 1 s at) (λ a n q. sure-bind _ (code-sure 1 64 s n) (λ b m r. yields _ m (omega (arith, q .byte .next, r .byte .next))))
+    sure-bind _ (code-sure 0 1 s at)
+    (λ a n q. sure-bind _ (code-sure 1 64 s n) (λ b m r. yields _ m (omega (arith, q .byte .next, r .byte .next))))
 after-takes tag identity s at = sure-bind _ (number-sure 4 s at) (λ a n q. yields _ n (omega (arith, q .next)))
 after-takes tag size s at = sure-bind _ (number-sure 8 s at) (λ a n q. yields _ n (omega (arith, q .next)))
 after-takes tag nothing s at = yields _ at (omega arith)
@@ -71,9 +73,11 @@ after-takes tag unknown s at = sure-no
 
 label-takes : (s : List ℕ) → Sure (λ l n. 1 + namesSize (l .names) ≤ n) (labelOf s)
 unfolding labelOf
-label-takes s = sure-bind _ (byte-sure 8 s 0) (λ tag n q. sure-then (after-takes tag (followsTag tag) s n) (λ l m r. omega (arith, q .next)))
+label-takes s =
+    sure-bind _ (byte-sure 8 s 0) (λ tag n q. sure-then (after-takes tag (followsTag tag) s n) (λ l m r. omega (arith, q .next)))
 
-within-takes : {A : Type 0} (p : List ℕ → Parsed A) (measure : A → ℕ) → ((s : List ℕ) → Sure (λ a n. measure a ≤ n) (p s)) → (s : List ℕ) (at : ℕ) → Sure (Takes measure at) (within p s at)
+within-takes : {A : Type 0} (p : List ℕ → Parsed A) (measure : A → ℕ) → ((s : List ℕ) → Sure (λ a n. measure a ≤ n) (p s))
+    → (s : List ℕ) (at : ℕ) → Sure (Takes measure at) (within p s at)
 unfolding within shift
 within-takes {A = A} p measure h s at = go (h (drop at s))
   where
@@ -106,7 +110,8 @@ marks-take s at = sure-bind _ (code-sure 0 3 s at) (λ b n q. yields _ n (omega 
 
 encoding-takes : (left : ℕ) (s : List ℕ) (at : ℕ) → Sure (Takes (λ (e : Encoding). e .deltas) at) (encodingOf left s at)
 unfolding encodingOf plain delta
-encoding-takes zero s at = sure-bind _ (code-sure 0 3 s at) (λ b n q. sure-pick _ (λ h. sure-no) (λ h. yields _ n (omega (arith, q .byte .next))))
+encoding-takes zero s at =
+    sure-bind _ (code-sure 0 3 s at) (λ b n q. sure-pick _ (λ h. sure-no) (λ h. yields _ n (omega (arith, q .byte .next))))
 encoding-takes (suc left) s at =
     sure-bind _ (code-sure 0 3 s at) (λ b n q.
     sure-pick _
@@ -196,12 +201,14 @@ module _ (s : List ℕ) (l : length s ≤ 32768) where
   unfolding entryOf Small
   entry-small i =
       sure-pick _ (λ h. yields none 0 tt)
-      (λ h. sure-bind _ (body-takes (part (entryOffset s i) (entryLength s i) s)) (λ d n q. yields (some d) n (omega (arith, q, part-length (entryOffset s i) (entryLength s i) s .1))))
+      (λ h. sure-bind _ (body-takes (part (entryOffset s i) (entryLength s i) s))
+      (λ d n q. yields (some d) n (omega (arith, q, part-length (entryOffset s i) (entryLength s i) s .1))))
 
   entries-small : (count i : ℕ) → Sure (λ es n. All Small es) (entriesOf count s i)
   unfolding entriesOf All
   entries-small zero i = yields [] (length s) tt
-  entries-small (suc count) i = sure-bind _ (entry-small i) (λ e n p. sure-bind _ (entries-small count (i + 1)) (λ es m q. yields (e ∷ es) m (p, q)))
+  entries-small (suc count) i =
+      sure-bind _ (entry-small i) (λ e n p. sure-bind _ (entries-small count (i + 1)) (λ es m q. yields (e ∷ es) m (p, q)))
 
 ids-length : (count : ℕ) (s : List ℕ) (at : ℕ) → length (idsFrom count s at) ≡ count
 unfolding idsFrom

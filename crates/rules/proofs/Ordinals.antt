@@ -95,9 +95,11 @@ fields-other r d f g =
 sets-other : (r : Reader) (d : Name) (m n : List Field) → All Other (compareFieldSets r d m n)
 unfolding compareFieldSets fieldRules ordinalChanged
 sets-other r d m n =
-    all-compare Other ordinalOf ltb (fieldRules r d) (λ f. single-other _ refl) (λ f. single-other _ refl) (fields-other r d) (fieldMap m) (fieldMap n)
+    all-compare Other ordinalOf ltb (fieldRules r d) (λ f. single-other _ refl) (λ f. single-other _ refl) (fields-other r d) (fieldMap m)
+    (fieldMap n)
 
-variants-other : (r : Rules Variant Change) → ((v : Variant) → All Other (r .gone v)) → ((v : Variant) → All Other (r .came v)) → ((v w : Variant) → All Other (r .kept v w))
+variants-other : (r : Rules Variant Change) → ((v : Variant) → All Other (r .gone v)) → ((v : Variant) → All Other (r .came v))
+    → ((v w : Variant) → All Other (r .kept v w))
     → (m n : List Variant) → All Other (compare variantOrdinal ltb r (variantMap m) (variantMap n))
 variants-other r gone came kept m n = all-compare Other variantOrdinal ltb r gone came kept (variantMap m) (variantMap n)
 
@@ -111,14 +113,18 @@ came-other b d v = single-other _ refl
 
 kinds-other : (k : ℕ) (r : Reader) (x y : Decl) → All Other (compareKind k r x y)
 unfolding compareKind compareMessages compareEnums enumRules compareNonExhaustive compareFlags flagsRules compareUnions unionRules compareNewtypes ordinalChanged
-kinds-other zero r x y = all-append Other _ _ (sets-other r (x .name) (x .fields) (y .fields)) (deprecated-other (x .name) _ _ (x .marks) (y .marks))
+kinds-other zero r x y =
+    all-append Other _ _ (sets-other r (x .name) (x .fields) (y .fields)) (deprecated-other (x .name) _ _ (x .marks) (y .marks))
 kinds-other (suc zero) r x y =
     all-append Other _ _ (only-other _ _ refl)
-    (variants-other (enumRules (x .name) (y .marks)) (gone-other (x .name)) (came-other _ (x .name)) (λ v w. nothing-other) (x .variants) (y .variants))
+    (variants-other (enumRules (x .name) (y .marks)) (gone-other (x .name)) (came-other _ (x .name)) (λ v w. nothing-other) (x .variants)
+    (y .variants))
 kinds-other (suc (suc zero)) r x y =
-    variants-other (flagsRules (x .name)) (λ v. single-other _ refl) (λ v. single-other _ refl) (λ v w. nothing-other) (x .variants) (y .variants)
+    variants-other (flagsRules (x .name)) (λ v. single-other _ refl) (λ v. single-other _ refl) (λ v w. nothing-other) (x .variants)
+    (y .variants)
 kinds-other (suc (suc (suc zero))) r x y =
-    variants-other (unionRules r (x .name)) (gone-other (x .name)) (came-other _ (x .name)) (λ v w. sets-other r _ (v .fields) (w .fields)) (x .variants) (y .variants)
+    variants-other (unionRules r (x .name)) (gone-other (x .name)) (came-other _ (x .name)) (λ v w. sets-other r _ (v .fields) (w .fields))
+    (x .variants) (y .variants)
 kinds-other (suc (suc (suc (suc zero)))) r x y = types-other r (x .name) none _ (x .inner) (y .inner)
 kinds-other (suc (suc (suc (suc (suc k))))) r x y = nothing-other
 
@@ -135,7 +141,8 @@ unfolding changes compareNamespaces declRules ordinalChanged
 changes-other same x y =
     all-append Other _ _ (only-other _ _ refl)
     (all-compare Other nameOf before (declRules (reader same (x .registry) (y .registry)))
-    (λ d. single-other _ refl) (λ d. single-other _ refl) (decls-other (reader same (x .registry) (y .registry))) (x .standing) (y .standing))
+    (λ d. single-other _ refl) (λ d. single-other _ refl) (decls-other (reader same (x .registry) (y .registry))) (x .standing)
+    (y .standing))
 
 -- ---- the counts
 
@@ -159,9 +166,18 @@ module _ (old new : List ℕ) where
       go (new-refused h p q) = refusal-is _ _ .rest (5 + kind) (omega arith)
       go (pair-refused p q i) = refusal-is _ _ .rest (5 + kind) (omega arith)
       go (verdict {x = x} {y = y} p q i) =
-          count-selected kind l (changes sameType (viewOf x) (viewOf y)) ∙ none-counted kind e _ (changes-other sameType (viewOf x) (viewOf y))
+          count-selected kind l (changes sameType (viewOf x) (viewOf y))
+          ∙ none-counted kind e _ (changes-other sameType (viewOf x) (viewOf y))
 
-  pub no-ordinal-changed : All (λ kind. counted verdictOf kind old new ≡ 0) (FieldOrdinalChanged ∷ VariantOrdinalChanged ∷ FlagsBitOrdinalChanged ∷ [])
+  pub no-ordinal-changed : All (λ kind. counted verdictOf kind old new ≡ 0)
+      (FieldOrdinalChanged ∷ VariantOrdinalChanged ∷ FlagsBitOrdinalChanged ∷ [])
   unfolding All counted ordinalChanged
-  no-ordinal-changed =
-      (none-selected FieldOrdinalChanged (omega arith) refl, (none-selected VariantOrdinalChanged (omega arith) refl, (none-selected FlagsBitOrdinalChanged (omega arith) refl, tt)))
+  no-ordinal-changed = (
+    none-selected FieldOrdinalChanged
+        (omega arith) refl,
+    (
+      none-selected VariantOrdinalChanged
+          (omega arith) refl,
+      (none-selected FlagsBitOrdinalChanged (omega arith) refl, tt),
+    ),
+  )

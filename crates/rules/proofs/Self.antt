@@ -63,7 +63,8 @@ encodings-self : (d : Name) (f : Field) → largest levelOf (compareEncodings d 
 unfolding compareEncodings
 encodings-self d f = test-self (pairs encodings (options numbers)) (f .encoding, f .limit) _
 
-deprecated-self : (d : Name) (field : Option Name) (target : List ℕ) (m : Marks) → largest levelOf (compareDeprecated d field target m m) ≡ 0
+deprecated-self : (d : Name) (field : Option Name) (target : List ℕ) (m : Marks)
+    → largest levelOf (compareDeprecated d field target m m) ≡ 0
 unfolding compareDeprecated only largest
 deprecated-self d field target m = go (m .deprecated) _
   where
@@ -79,11 +80,15 @@ openness-self d m = test-self marks (m .nonExhaustive) _
 variants-self : (r : Rules Variant Change) → ((v w : Variant) → r .kept v w ≡ []) → (vs : List Variant)
     → largest levelOf (compare variantOrdinal ltb r (variantMap vs) (variantMap vs)) ≡ 0
 unfolding variantMap largest
-variants-self r h vs = self-none variantOrdinal byNumber (variantMap vs) (rising variantOrdinal byNumber vs) r levelOf (all (λ v. ap (largest levelOf) (h v v)) (variantMap vs))
+variants-self r h vs =
+    self-none variantOrdinal byNumber (variantMap vs) (rising variantOrdinal byNumber vs) r levelOf
+    (all (λ v. ap (largest levelOf) (h v v)) (variantMap vs))
 
 enums-self : (d : Name) (x : Decl) → largest levelOf (compareEnums d x x) ≡ 0
 unfolding compareEnums enumRules
-enums-self d x = nothing-then (compareNonExhaustive d (x .marks) (x .marks)) _ (openness-self d (x .marks)) (variants-self (enumRules d (x .marks)) (λ v w. refl) (x .variants))
+enums-self d x =
+    nothing-then (compareNonExhaustive d (x .marks) (x .marks)) _ (openness-self d (x .marks))
+    (variants-self (enumRules d (x .marks)) (λ v w. refl) (x .variants))
 
 flags-self : (d : Name) (x : Decl) → largest levelOf (compareFlags d x x) ≡ 0
 unfolding compareFlags flagsRules
@@ -99,7 +104,8 @@ module _ {same : Reading} {odd : Ty → Bool} (sound : Sound same odd) (R : Regi
   score : Ty → ℕ
   score t = cond (odd (resolve R t)) 2 0
 
-  types-self : (d : Name) (field : Option Name) (what : List ℕ) (t : Ty) → largest levelOf (compareTypes own d field what t t) ≡ largest score (t ∷ [])
+  types-self : (d : Name) (field : Option Name) (what : List ℕ) (t : Ty)
+      → largest levelOf (compareTypes own d field what t t) ≡ largest score (t ∷ [])
   unfolding compareTypes score largest level
   types-self d field what t = test-self sound (resolve R t) _ ∙ alone (score t)
 
@@ -107,23 +113,28 @@ module _ {same : Reading} {odd : Ty → Bool} (sound : Sound same odd) (R : Regi
   unfolding compareFields
   fields-self d f =
       nothing-then (compareFieldNames d f f) _ (names-self d f)
-      (then-nothing (compareTypes own d (some (f .name)) (fieldText f) (f .type) (f .type)) _ (types-self d (some (f .name)) (fieldText f) (f .type))
+      (then-nothing (compareTypes own d (some (f .name)) (fieldText f) (f .type) (f .type)) _
+      (types-self d (some (f .name)) (fieldText f) (f .type))
       (nothing-then (compareEncodings d f f) _ (encodings-self d f) (deprecated-self d _ _ (f .marks))))
 
   sets-self : (d : Name) (fs : List Field) → largest levelOf (compareFieldSets own d fs fs) ≡ largest score (fieldTypes fs)
   unfolding compareFieldSets fieldRules fieldTypes fieldMap
   sets-self d fs =
-      self-flatMap ordinalOf byNumber (fieldMap fs) (rising ordinalOf byNumber fs) (fieldRules own d) levelOf score (λ f. f .type ∷ []) (all (fields-self d) (fieldMap fs))
+      self-flatMap ordinalOf byNumber (fieldMap fs) (rising ordinalOf byNumber fs) (fieldRules own d) levelOf score (λ f. f .type ∷ [])
+      (all (fields-self d) (fieldMap fs))
 
   module _ (x : Decl) where
     messages-self : largest levelOf (compareMessages own (x .name) x x) ≡ largest score (fieldTypes (x .fields))
     unfolding compareMessages
-    messages-self = then-nothing (compareFieldSets own (x .name) (x .fields) (x .fields)) _ (sets-self (x .name) (x .fields)) (deprecated-self (x .name) _ _ (x .marks))
+    messages-self =
+        then-nothing (compareFieldSets own (x .name) (x .fields) (x .fields)) _ (sets-self (x .name) (x .fields))
+        (deprecated-self (x .name) _ _ (x .marks))
 
     unions-self : largest levelOf (compareUnions own (x .name) x x) ≡ largest score (variantTypes (x .variants))
     unfolding compareUnions unionRules variantTypes variantMap
     unions-self =
-        self-flatMap variantOrdinal byNumber (variantMap (x .variants)) (rising variantOrdinal byNumber (x .variants)) (unionRules own (x .name)) levelOf score
+        self-flatMap variantOrdinal byNumber (variantMap (x .variants)) (rising variantOrdinal byNumber (x .variants))
+        (unionRules own (x .name)) levelOf score
         (λ v. fieldTypes (v .fields)) (all (λ v. sets-self _ (v .fields)) (variantMap (x .variants)))
 
     kinds-self : (k : ℕ) → largest levelOf (compareKind k own x x) ≡ largest score (typesOf k x)
@@ -147,7 +158,8 @@ unfolding largest any
 largest-any p [] = refl
 largest-any p (a ∷ l) = go (p a) (any p l) (largest-any p l)
   where
-    go : (u v : Bool) → largest (λ a. cond (p a) 2 0) l ≡ cond v 2 0 → max (cond u 2 0) (largest (λ a. cond (p a) 2 0) l) ≡ cond (u || v) 2 0
+    go : (u v : Bool) → largest (λ a. cond (p a) 2 0) l ≡ cond v 2 0
+        → max (cond u 2 0) (largest (λ a. cond (p a) 2 0) l) ≡ cond (u || v) 2 0
     go true true ih = omega arith
     go true false ih = omega arith
     go false v ih = omega (arith, ih)

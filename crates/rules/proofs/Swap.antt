@@ -87,7 +87,8 @@ module _ (j : ℕ) where
 
   append-swap : (xs xs′ ys ys′ : List Change) → Opposed xs ys → Opposed xs′ ys′ → Opposed (xs ++ xs′) (ys ++ ys′)
   unfolding countOf
-  append-swap xs xs′ ys ys′ p q = omega (arith, count-append (λ c. eqb (c .kind) j) xs xs′, count-append (λ c. eqb (c .kind) (mirror j)) ys ys′)
+  append-swap xs xs′ ys ys′ p q =
+      omega (arith, count-append (λ c. eqb (c .kind) j) xs xs′, count-append (λ c. eqb (c .kind) (mirror j)) ys ys′)
 
   nothing-swap : Opposed [] []
   unfolding countOf count total
@@ -108,7 +109,8 @@ module _ (j : ℕ) where
       go false = single-swap c d m
 
   maps-swap : {K E : Type 0} {lt : K → K → Bool} (key : E → K) → Strict K lt → (r s : Rules E Change)
-      → ((e : E) → Opposed (r .gone e) (s .came e)) → ((e : E) → Opposed (r .came e) (s .gone e)) → ((e f : E) → key e ≡ key f → Opposed (r .kept e f) (s .kept f e))
+      → ((e : E) → Opposed (r .gone e) (s .came e)) → ((e : E) → Opposed (r .came e) (s .gone e))
+      → ((e f : E) → key e ≡ key f → Opposed (r .kept e f) (s .kept f e))
       → (m n : List E) → Rising key lt m → Rising key lt n → Opposed (compare key lt r m n) (compare key lt s n m)
   unfolding countOf
   maps-swap key S r s p q k = swap S (record { gone-came = p; came-gone = q; kept-kept = k })
@@ -131,23 +133,28 @@ module _ (j : ℕ) where
   unfolding compareNonExhaustive mirror exchange
   openness-swap d e m n = test-swap marks (m .nonExhaustive) (n .nonExhaustive) _ _ refl
 
-  variants-swap : (r s : Rules Variant Change) → ((v : Variant) → Opposed (r .gone v) (s .came v)) → ((v : Variant) → Opposed (r .came v) (s .gone v))
+  variants-swap : (r s : Rules Variant Change) → ((v : Variant) → Opposed (r .gone v) (s .came v))
+      → ((v : Variant) → Opposed (r .came v) (s .gone v))
       → ((v w : Variant) → Opposed (r .kept v w) (s .kept w v)) → (m n : List Variant)
       → Opposed (compare variantOrdinal ltb r (variantMap m) (variantMap n)) (compare variantOrdinal ltb s (variantMap n) (variantMap m))
   unfolding variantMap
   variants-swap r s p q k m n =
-      maps-swap variantOrdinal byNumber r s p q (λ v w e. k v w) (variantMap m) (variantMap n) (rising variantOrdinal byNumber m) (rising variantOrdinal byNumber n)
+      maps-swap variantOrdinal byNumber r s p q (λ v w e. k v w) (variantMap m) (variantMap n) (rising variantOrdinal byNumber m)
+      (rising variantOrdinal byNumber n)
 
   flags-swap : (d e : Name) (x y : Decl) → Opposed (compareFlags d x y) (compareFlags e y x)
   unfolding compareFlags flagsRules mirror exchange
   flags-swap d e x y =
-      variants-swap (flagsRules d) (flagsRules e) (λ v. single-swap _ _ refl) (λ v. single-swap _ _ refl) (λ v w. nothing-swap) (x .variants) (y .variants)
+      variants-swap (flagsRules d) (flagsRules e) (λ v. single-swap _ _ refl) (λ v. single-swap _ _ refl) (λ v w. nothing-swap)
+      (x .variants) (y .variants)
 
   enums-swap : (d e : Name) (x y : Decl) → Opposed (compareEnums d x y) (compareEnums e y x)
   unfolding compareEnums enumRules variantGone variantCame mirror exchange
   enums-swap d e x y =
-      append-swap (compareNonExhaustive d (x .marks) (y .marks)) _ (compareNonExhaustive e (y .marks) (x .marks)) _ (openness-swap d e (x .marks) (y .marks))
-      (variants-swap (enumRules d (y .marks)) (enumRules e (x .marks)) (λ v. single-swap _ _ refl) (λ v. single-swap _ _ refl) (λ v w. nothing-swap) (x .variants) (y .variants))
+      append-swap (compareNonExhaustive d (x .marks) (y .marks)) _ (compareNonExhaustive e (y .marks) (x .marks)) _
+      (openness-swap d e (x .marks) (y .marks))
+      (variants-swap (enumRules d (y .marks)) (enumRules e (x .marks)) (λ v. single-swap _ _ refl) (λ v. single-swap _ _ refl)
+      (λ v w. nothing-swap) (x .variants) (y .variants))
 
   -- ---- deprecations are counted under neither
 
@@ -157,7 +164,8 @@ module _ (j : ℕ) where
     none-of i true c h = rw h
     none-of i false c h = refl
 
-    deprecated-swap : (d e : Name) (n o : Option Name) (t u : List ℕ) (l m : Marks) → Opposed (compareDeprecated d n t l m) (compareDeprecated e o u m l)
+    deprecated-swap : (d e : Name) (n o : Option Name) (t u : List ℕ) (l m : Marks)
+        → Opposed (compareDeprecated d n t l m) (compareDeprecated e o u m l)
     unfolding compareDeprecated mirror exchange
     deprecated-swap d e n o t u l m = none-of j _ _ other ∙ sym (none-of (mirror j) _ _ (sym (mirror-test FieldDeprecated j) ∙ other))
 
@@ -171,7 +179,8 @@ module _ (j : ℕ) where
       abbrev back : Reader
       back = reader same Q P
 
-      types-swap : (d e : Name) (n o : Option Name) (v w : List ℕ) (t u : Ty) → Opposed (compareTypes there d n v t u) (compareTypes back e o w u t)
+      types-swap : (d e : Name) (n o : Option Name) (v w : List ℕ) (t u : Ty)
+          → Opposed (compareTypes there d n v t u) (compareTypes back e o w u t)
       unfolding compareTypes mirror exchange
       types-swap d e n o v w t u = test-swap sound (resolve P t) (resolve Q u) _ _ refl
 
@@ -179,7 +188,8 @@ module _ (j : ℕ) where
       unfolding compareFields
       fields-swap d e f g =
           append-swap (compareFieldNames d f g) _ (compareFieldNames e g f) _ (names-swap d e f g)
-          (append-swap (compareTypes there d (some (g .name)) (fieldText g) (f .type) (g .type)) _ (compareTypes back e (some (f .name)) (fieldText f) (g .type) (f .type)) _
+          (append-swap (compareTypes there d (some (g .name)) (fieldText g) (f .type) (g .type)) _
+          (compareTypes back e (some (f .name)) (fieldText f) (g .type) (f .type)) _
           (types-swap d e (some (g .name)) (some (f .name)) (fieldText g) (fieldText f) (f .type) (g .type))
           (append-swap (compareEncodings d f g) _ (compareEncodings e g f) _ (encodings-swap d e f g)
           (deprecated-swap d e _ _ _ _ (f .marks) (g .marks))))
@@ -187,14 +197,16 @@ module _ (j : ℕ) where
       sets-swap : (d e : Name) (m n : List Field) → Opposed (compareFieldSets there d m n) (compareFieldSets back e n m)
       unfolding compareFieldSets fieldRules fieldMap mirror exchange
       sets-swap d e m n =
-          maps-swap ordinalOf byNumber (fieldRules there d) (fieldRules back e) (λ f. single-swap _ _ refl) (λ f. single-swap _ _ refl) (λ f g p. fields-swap d e f g)
+          maps-swap ordinalOf byNumber (fieldRules there d) (fieldRules back e) (λ f. single-swap _ _ refl) (λ f. single-swap _ _ refl)
+          (λ f g p. fields-swap d e f g)
           (fieldMap m) (fieldMap n) (rising ordinalOf byNumber m) (rising ordinalOf byNumber n)
 
       module _ (x y : Decl) where
         messages-swap : Opposed (compareMessages there (x .name) x y) (compareMessages back (y .name) y x)
         unfolding compareMessages
         messages-swap =
-            append-swap (compareFieldSets there (x .name) (x .fields) (y .fields)) _ (compareFieldSets back (y .name) (y .fields) (x .fields)) _
+            append-swap (compareFieldSets there (x .name) (x .fields) (y .fields)) _
+            (compareFieldSets back (y .name) (y .fields) (x .fields)) _
             (sets-swap (x .name) (y .name) (x .fields) (y .fields)) (deprecated-swap (x .name) (y .name) _ _ _ _ (x .marks) (y .marks))
 
         unions-swap : Opposed (compareUnions there (x .name) x y) (compareUnions back (y .name) y x)
@@ -217,17 +229,20 @@ module _ (j : ℕ) where
         decls-swap = rw (same-sym numbers (y .kind) (x .kind)) (go (eqb (x .kind) (y .kind)) refl)
           where
             go : (u : Bool) → eqb (x .kind) (y .kind) ≡ u
-                → Opposed (cond u (compareKind (x .kind) there x y) (kindChanged x y)) (cond u (compareKind (y .kind) back y x) (kindChanged y x))
+                → Opposed (cond u (compareKind (x .kind) there x y) (kindChanged x y))
+                (cond u (compareKind (y .kind) back y x) (kindChanged y x))
             go true p = kinds-swap (x .kind) ∙ ap (λ k. countOf (mirror j) (compareKind k back y x)) (eqb-true (x .kind) (y .kind) p)
             go false p = single-swap _ _ refl
 
 -- ---- all clauses
 
 pub changes-swap : {same : Reading} {odd : Ty → Bool} → Sound same odd → (j : ℕ) → eqb FieldDeprecated j ≡ false → (x y : View)
-    → Rising nameOf before (x .standing) → Rising nameOf before (y .standing) → countOf j (changes same x y) ≡ countOf (mirror j) (changes same y x)
+    → Rising nameOf before (x .standing) → Rising nameOf before (y .standing)
+    → countOf j (changes same x y) ≡ countOf (mirror j) (changes same y x)
 unfolding changes declRules mirror exchange
 changes-swap {same = same} sound j other x y r s =
-    append-swap j (compareNamespaces (x .namespace) (y .namespace)) _ (compareNamespaces (y .namespace) (x .namespace)) _ (namespaces-swap j (x .namespace) (y .namespace))
+    append-swap j (compareNamespaces (x .namespace) (y .namespace)) _ (compareNamespaces (y .namespace) (x .namespace)) _
+    (namespaces-swap j (x .namespace) (y .namespace))
     (maps-swap j nameOf byName (declRules (reader same (x .registry) (y .registry))) (declRules (reader same (y .registry) (x .registry)))
     (λ d. single-swap j _ _ refl) (λ d. single-swap j _ _ refl) (λ d e p. decls-swap j other sound (x .registry) (y .registry) d e)
     (x .standing) (y .standing) r s)

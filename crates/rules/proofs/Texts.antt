@@ -66,7 +66,12 @@ deltas-length (suc n) text = simp length-append (omega (arith, deltas-length n t
 pub encoding-length : (e : Encoding) → length (showEncoding e) ≤ 7 + 7 * e .deltas
 unfolding showEncoding largest bytes
 encoding-length e =
-    omega (arith, deltas-length (e .deltas) (word ("default" ∷ "varint" ∷ "zigzag" ∷ []) (e .base)), word-length ("default" ∷ "varint" ∷ "zigzag" ∷ []) (e .base))
+    omega (
+      arith,
+      deltas-length (e .deltas) (word ("default" ∷ "varint" ∷ "zigzag" ∷ []) (e .base)),
+      word-length
+          ("default" ∷ "varint" ∷ "zigzag" ∷ []) (e .base),
+    )
 
 -- one text or another
 either-length : (u : Bool) (b : ℕ) (x y : List ℕ) → length x ≤ b → length y ≤ b → length (cond u x y) ≤ b
@@ -88,13 +93,13 @@ leaf-length l =
     (simp length-append (omega (arith, joined-length (bytes ", ") (omega arith) (l .names)))))))
   where
     primitive : length (primitiveWord (l .first)) ≤ 7
-    primitive = word-length ("bool" ∷ "u8" ∷ "u16" ∷ "u32" ∷ "u64" ∷ "i8" ∷ "i16" ∷ "i32" ∷ "i64" ∷ "f32" ∷ "f64" ∷ "fixed32" ∷ "fixed64" ∷ "void" ∷ []) (l .first)
+    primitive = word-length _ (l .first)
 
     sign : length (word ("u" ∷ "i" ∷ []) (l .first)) ≤ 1
-    sign = word-length ("u" ∷ "i" ∷ []) (l .first)
+    sign = word-length _ (l .first)
 
     semantic : length (semanticWord (l .first)) ≤ 9
-    semantic = word-length ("string" ∷ "bytes" ∷ "rgb" ∷ "uuid" ∷ "timestamp" ∷ "hash" ∷ []) (l .first)
+    semantic = word-length _ (l .first)
 
 -- the names of a registry are no longer than an image
 pub record Short (R : Registry) : Type 0 where
@@ -121,7 +126,8 @@ module _ (R : Registry) (S : Short R) where
   pub type-length : (t : Ty) → length (showType (resolve R t)) ≤ 66000 * typeSize t
   unfolding showType resolve typeSize bytes
   type-length (leaf l) = omega (arith, leaf-length (resolveLabel R l), resolved-size l)
-  type-length (one l t) = simp length-append (omega (arith, opening-length (resolveLabel R l .tag), type-length t, size-length (resolveLabel R l)))
+  type-length (one l t) =
+      simp length-append (omega (arith, opening-length (resolveLabel R l .tag), type-length t, size-length (resolveLabel R l)))
   type-length (two l t u) = simp length-append (omega (arith, opening-length (resolveLabel R l .tag), type-length t, type-length u))
 
 -- ---- the parts of details, and lines

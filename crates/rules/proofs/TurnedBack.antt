@@ -46,16 +46,19 @@ unfolding any All
 any-false p [] e = tt
 any-false p (a ∷ l) e = go (p a) refl e (any-false p l)
   where
-    go : (u : Bool) → p a ≡ u → (u || any p l) ≡ false → (any p l ≡ false → All (λ a. p a ≡ false) l) → (p a ≡ false) × All (λ a. p a ≡ false) l
+    go : (u : Bool) → p a ≡ u → (u || any p l) ≡ false → (any p l ≡ false → All (λ a. p a ≡ false) l)
+        → (p a ≡ false) × All (λ a. p a ≡ false) l
     go true q e ih = no-both refl e
     go false q e ih = (q, ih e)
 
 -- what is found is an alias
-found-alias : (n : Name) (l : List Decl) → isAlias (lookup nameOf before n l) ≡ true → (d : Decl) × (lookup nameOf before n l ≡ some d) × (d .kind ≡ 6)
+found-alias : (n : Name) (l : List Decl) → isAlias (lookup nameOf before n l) ≡ true
+    → (d : Decl) × (lookup nameOf before n l ≡ some d) × (d .kind ≡ 6)
 unfolding isAlias alias
 found-alias n l = go (lookup nameOf before n l) refl
   where
-    go : (o : Option Decl) → lookup nameOf before n l ≡ o → isAlias o ≡ true → (d : Decl) × (lookup nameOf before n l ≡ some d) × (d .kind ≡ 6)
+    go : (o : Option Decl) → lookup nameOf before n l ≡ o → isAlias o ≡ true
+        → (d : Decl) × (lookup nameOf before n l ≡ some d) × (d .kind ≡ 6)
     go none p e = no-both refl (sym e)
     go (some d) p e = (d, p, eqb-true (d .kind) 6 e)
 
@@ -63,7 +66,8 @@ module _ (x y : Schema) where
   pair-found : aliasPair (viewOf x) (viewOf y) ≡ true → AliasPair x y
   unfolding aliasPair viewOf alias
   pair-found e =
-      let t = any-true (λ d. alias d && isAlias (lookup nameOf before (d .name) (declarations y))) _ (declarations x) (lookup-own nameOf byName (declarations x) (view-rises x)) e in
+      let own = lookup-own nameOf byName (declarations x) (view-rises x) in
+      let t = any-true (λ d. alias d && isAlias (lookup nameOf before (d .name) (declarations y))) _ (declarations x) own e in
       let b = both (alias (t .0)) (isAlias (lookup nameOf before (t .0 .name) (declarations y))) (t .2) in
       let f = found-alias (t .0 .name) (declarations y) (b .1) in
       record {
@@ -84,12 +88,19 @@ module _ (x y : Schema) where
 
       passes : test (old .survivor) ≡ true
       passes =
-          rw (eq-eqb (old .survivor .kind) 6 (old .generic), lookup-key nameOf byName (a .name) (declarations x) (old .survivor) (old .stands), a .inNew .stands)
+          rw (
+            eq-eqb (old .survivor .kind) 6 (old .generic),
+            lookup-key nameOf byName (a .name) (declarations x) (old .survivor)
+                (old .stands),
+            a .inNew .stands,
+          )
           (eq-eqb (a .inNew .survivor .kind) 6 (a .inNew .generic))
 
       go : (u : Bool) → aliasPair (viewOf x) (viewOf y) ≡ u → u ≡ true
       go true e = refl
-      go false e = no-both passes (all-lookup nameOf before (λ d. test d ≡ false) (a .name) (declarations x) (old .survivor) (any-false test (declarations x) e) (old .stands))
+      go false e =
+          no-both passes (all-lookup nameOf before (λ d. test d ≡ false) (a .name) (declarations x) (old .survivor)
+          (any-false test (declarations x) e) (old .stands))
 
 -- ---- the verdict call
 
@@ -200,7 +211,8 @@ turned-back old new = record {
 
 module _ (room : ℕ) where
   -- of changes
-  fit-full : (cs : List Change) → select (fit room (compared cs)) 0 ≡ 12 → (fit room (compared cs) ≡ refused 12 bothSides) × (room < length (report cs))
+  fit-full : (cs : List Change) → select (fit room (compared cs)) 0 ≡ 12
+      → (fit room (compared cs) ≡ refused 12 bothSides) × (room < length (report cs))
   unfolding fit select selected
   fit-full cs = go (leb (length (report cs)) room) refl
     where
@@ -215,7 +227,8 @@ module _ (room : ℕ) where
   fit-else (refused number side) h n = refl
   fit-else (compared cs) h n = go (leb (length (report cs)) room) h
     where
-      go : (u : Bool) → (select (cond u (compared cs) (refused 12 bothSides)) 0 ≡ 12 → ⊥) → select (cond u (compared cs) (refused 12 bothSides)) n ≡ select (compared cs) n
+      go : (u : Bool) → (select (cond u (compared cs) (refused 12 bothSides)) 0 ≡ 12 → ⊥)
+          → select (cond u (compared cs) (refused 12 bothSides)) n ≡ select (compared cs) n
       go true h = refl
       go false h = absurd (h (number-is 12 bothSides))
 

@@ -82,7 +82,9 @@ type-self : (t : Ty) → sameType t t ≡ not (holdsVector t)
 unfolding sameType holdsVector
 type-self (leaf l) = equal-self l
 type-self (one l t) = neither (vector (l .tag)) (holdsVector t) (equal-self l) (type-self t)
-type-self (two l t u) = neither (vector (l .tag)) (holdsVector t || holdsVector u) (equal-self l) (neither (holdsVector t) (holdsVector u) (type-self t) (type-self u))
+type-self (two l t u) =
+    neither (vector (l .tag)) (holdsVector t || holdsVector u) (equal-self l)
+    (neither (holdsVector t) (holdsVector u) (type-self t) (type-self u))
 
 pub types : Sound sameType holdsVector
 types = record { equal = type-equal; self = type-self }

@@ -39,14 +39,17 @@ module _ {K E C : Type 0} {lt : K → K → Bool} (key : E → K) (S : Strict K 
 
   same-guarded : (r : Rules E C) (m n : List E) → All (λ e. fine e ≡ true) m → compare key lt r m n ≡ compare key lt (guarded r) m n
   unfolding compare between matched guarded
-  same-guarded r m n h = rw (flatMap-same _ (λ e. matched (guarded r .kept) (some e) (lookup key lt (key e) n)) m (all-map (λ e p. go e p (lookup key lt (key e) n)) m h))
+  same-guarded r m n h =
+      rw (flatMap-same _ (λ e. matched (guarded r .kept) (some e) (lookup key lt (key e) n)) m
+      (all-map (λ e p. go e p (lookup key lt (key e) n)) m h))
     where
       go : (e : E) → fine e ≡ true → (o : Option E) → matched (r .kept) (some e) o ≡ matched (guarded r .kept) (some e) o
       go e p none = refl
       go e p (some f) = rw p
 
   pub fine-weight : (a b : E → ℕ) (m n : List E) → Rising key lt m → Rising key lt n → All (λ e. fine e ≡ true) m → (r : Rules E C)
-      → ((e : E) → total w (r .gone e) ≤ a e) → ((f : E) → total w (r .came f) ≤ b f) → ((e f : E) → fine e ≡ true → total w (r .kept e f) ≤ a e + b f)
+      → ((e : E) → total w (r .gone e) ≤ a e) → ((f : E) → total w (r .came f) ≤ b f)
+      → ((e f : E) → fine e ≡ true → total w (r .kept e f) ≤ a e + b f)
       → total w (compare key lt r m n) ≤ total a m + total b n
   unfolding guarded total
   fine-weight a b m n R Q h r p q k =
@@ -72,7 +75,8 @@ total-each w [] = tt
 total-each w (a ∷ l) = (omega arith, all-map (λ b h. omega (arith, h)) l (total-each w l))
 
 -- what stands weighs no more than what is listed
-survivors-heavy : {K E : Type 0} (key : E → K) (lt : K → K → Bool) (size : E → ℕ) (l : List E) → total (heavy size) (survivors key lt l) ≤ 200000 * total size l
+survivors-heavy : {K E : Type 0} (key : E → K) (lt : K → K → Bool) (size : E → ℕ) (l : List E)
+    → total (heavy size) (survivors key lt l) ≤ 200000 * total size l
 survivors-heavy key lt size l = omega (arith, total-heavy size (survivors key lt l), total-survivors key lt size l)
 
 type-one : (t : Ty) → 1 ≤ typeSize t
@@ -90,7 +94,8 @@ single-weight : (c : Change) → total lineLength (c ∷ []) ≤ 40 + (length (c
 unfolding total
 single-weight c = omega (arith, line-length c)
 
-only-weight : (test : Bool) (c : Change) → total lineLength (only test c) ≤ 40 + (length (c .declaration) + (optionLength (c .field) + length (c .detail)))
+only-weight : (test : Bool) (c : Change)
+    → total lineLength (only test c) ≤ 40 + (length (c .declaration) + (optionLength (c .field) + length (c .detail)))
 unfolding only total
 only-weight true c = single-weight c
 only-weight false c = omega arith
@@ -106,7 +111,8 @@ unfolding compareNamespaces bytes optionLength
 namespaces-weight m n =
     le-trans (only-weight _ _) (simp fromTo-length (omega (arith, namespace-length m, namespace-length n)))
 
-names-weight : (d : Name) (f g : Field) → total lineLength (compareFieldNames d f g) ≤ 100 + (length d + (length (f .name) + 2 * length (g .name)))
+names-weight : (d : Name) (f g : Field)
+    → total lineLength (compareFieldNames d f g) ≤ 100 + (length d + (length (f .name) + 2 * length (g .name)))
 unfolding compareFieldNames bytes optionLength
 names-weight d f g =
     le-trans (only-weight _ _) (simp (length-append, fromTo-length, quoted-length) (omega (arith, decimal-length (g .ordinal))))
@@ -116,7 +122,8 @@ unfolding fieldText bytes
 field-length f = omega (arith, numbered-length (bytes "field") (f .name) (f .ordinal))
 
 encodings-weight : (d : Name) (f g : Field)
-    → total lineLength (compareEncodings d f g) ≤ 150 + (length d + (2 * length (g .name) + 7 * (f .encoding .deltas + g .encoding .deltas)))
+    → total lineLength (compareEncodings d f g)
+    ≤ 150 + (length d + (2 * length (g .name) + 7 * (f .encoding .deltas + g .encoding .deltas)))
 unfolding compareEncodings bytes optionLength
 encodings-weight d f g =
     le-trans (only-weight _ _)
@@ -134,7 +141,8 @@ openness-weight d m n =
 
 -- an item that is gone or came
 item-weight : (kind : ℕ) (bump : Bump) (d : Name) (what : List ℕ) (n : Name) (o : ℕ) (text : List ℕ)
-    → total lineLength (change kind bump d (some n) (numbered what n o ++ text) ∷ []) ≤ 65 + (length d + (2 * length n + (length what + length text)))
+    → total lineLength (change kind bump d (some n) (numbered what n o ++ text) ∷ [])
+    ≤ 65 + (length d + (2 * length n + (length what + length text)))
 unfolding optionLength
 item-weight kind bump d what n o text = le-trans (single-weight _) (simp length-append (omega (arith, numbered-length what n o)))
 
@@ -163,7 +171,8 @@ module _ (d : Name) (h : length d ≤ 32768) where
         survivors-heavy variantOrdinal ltb variantSize m,
       )
 
-  flags-weight : (x y : Decl) → total lineLength (compareFlags d x y) ≤ 200000 * (total variantSize (x .variants) + total variantSize (y .variants))
+  flags-weight : (x y : Decl)
+      → total lineLength (compareFlags d x y) ≤ 200000 * (total variantSize (x .variants) + total variantSize (y .variants))
   unfolding compareFlags flagsRules bitText bytes heavy variantSize
   flags-weight x y =
       variants-weight (flagsRules d)
@@ -171,22 +180,30 @@ module _ (d : Name) (h : length d ≤ 32768) where
       (λ v. le-trans (item-weight _ _ d (bytes "bit") (v .name) (v .ordinal) (bytes " was added")) (omega arith))
       (λ v w. refl) (x .variants) (y .variants)
 
-  enums-weight : (x y : Decl) → total lineLength (compareEnums d x y) ≤ 33000 + 200000 * (total variantSize (x .variants) + total variantSize (y .variants))
+  enums-weight : (x y : Decl)
+      → total lineLength (compareEnums d x y) ≤ 33000 + 200000 * (total variantSize (x .variants) + total variantSize (y .variants))
   unfolding compareEnums enumRules
   enums-weight x y =
       simp (total-append lineLength)
-      (omega (arith, openness-weight d (x .marks) (y .marks), variants-weight (enumRules d (y .marks)) gone-weight (came-weight _) (λ v w. refl) (x .variants) (y .variants)))
+      (omega (
+        arith,
+        openness-weight d (x .marks) (y .marks),
+        variants-weight (enumRules d (y .marks)) gone-weight (came-weight _)
+            (λ v w. refl) (x .variants) (y .variants),
+      ))
 
 -- ---- clauses that show types
 
 module _ (r : Reader) (S : Short (r .old)) (T : Short (r .new)) where
   types-weight : (d : Name) (field : Option Name) (what : List ℕ) (t u : Ty)
-      → total lineLength (compareTypes r d field what t u) ≤ 100 + (length d + (optionLength field + (length what + 66000 * (typeSize t + typeSize u))))
+      → total lineLength (compareTypes r d field what t u)
+      ≤ 100 + (length d + (optionLength field + (length what + 66000 * (typeSize t + typeSize u))))
   unfolding compareTypes bytes
   types-weight d field what t u =
       le-trans (only-weight _ _) (simp (length-append, fromTo-length) (omega (arith, type-length (r .old) S t, type-length (r .new) T u)))
 
-  fields-weight : (d : Name) → length d ≤ 65538 → (f g : Field) → total lineLength (compareFields r d f g) ≤ heavy fieldSize f + heavy fieldSize g
+  fields-weight : (d : Name) → length d ≤ 65538 → (f g : Field)
+      → total lineLength (compareFields r d f g) ≤ heavy fieldSize f + heavy fieldSize g
   unfolding compareFields bytes optionLength heavy fieldSize
   fields-weight d h f g =
       simp (total-append lineLength)
@@ -211,8 +228,10 @@ module _ (r : Reader) (S : Short (r .old)) (T : Short (r .new)) where
         arith,
         compare-weight ordinalOf byNumber lineLength (heavy fieldSize) (heavy fieldSize) (fieldMap l) (fieldMap m)
             (rising ordinalOf byNumber l) (rising ordinalOf byNumber m) (fieldRules r d)
-            (λ f. le-trans (item-weight _ _ d (bytes "field") (f .name) (f .ordinal) (bytes " was removed")) (omega (arith, type-one (f .type))))
-            (λ f. le-trans (item-weight _ _ d (bytes "field") (f .name) (f .ordinal) (bytes " was added")) (omega (arith, type-one (f .type))))
+            (λ f. le-trans (item-weight _ _ d (bytes "field") (f .name) (f .ordinal) (bytes " was removed"))
+            (omega (arith, type-one (f .type))))
+            (λ f. le-trans (item-weight _ _ d (bytes "field") (f .name) (f .ordinal) (bytes " was added"))
+            (omega (arith, type-one (f .type))))
             (λ f g e. fields-weight d h f g),
         survivors-heavy ordinalOf ltb fieldSize l,
         survivors-heavy ordinalOf ltb fieldSize m,
@@ -228,30 +247,41 @@ module _ (r : Reader) (S : Short (r .old)) (T : Short (r .new)) where
     unfolding compareMessages bytes optionLength heavy declSize
     messages-weight =
         simp (total-append lineLength)
-        (omega (arith, sets-weight (x .name) (omega (arith, name-short)) (x .fields) (y .fields), deprecated-weight (x .name) none (bytes "declaration") (x .marks) (y .marks), name-short, type-one (x .inner)))
+        (omega (
+          arith,
+          sets-weight (x .name) (omega (arith, name-short)) (x .fields) (y .fields),
+          deprecated-weight (x .name) none
+              (bytes "declaration") (x .marks) (y .marks),
+          name-short,
+          type-one (x .inner),
+        ))
 
     variants-short : All (λ v. leb (length (v .name)) 32768 ≡ true) (variantMap (x .variants))
     unfolding variantMap declSize variantSize
     variants-short =
         all-survivors variantOrdinal ltb _ (x .variants)
-        (all-map {P = λ v. variantSize v ≤ total variantSize (x .variants)} (λ v p. le-leb (length (v .name)) 32768 (omega (arith, p))) (x .variants) (total-each variantSize (x .variants)))
+        (all-map {P = λ v. variantSize v ≤ total variantSize (x .variants)} (λ v p. le-leb (length (v .name)) 32768 (omega (arith, p)))
+        (x .variants) (total-each variantSize (x .variants)))
 
     variant-short : (v : Variant) → leb (length (v .name)) 32768 ≡ true → length (variantDecl (x .name) v) ≤ 65538
     unfolding variantDecl bytes
     variant-short v p = simp length-append (omega (arith, name-short, leb-true (length (v .name)) 32768 p))
 
     variant-weight : (v w : Variant) → leb (length (v .name)) 32768 ≡ true
-        → total lineLength (compareFieldSets r (variantDecl (x .name) v) (v .fields) (w .fields)) ≤ heavy variantSize v + heavy variantSize w
+        → total lineLength (compareFieldSets r (variantDecl (x .name) v) (v .fields) (w .fields))
+        ≤ heavy variantSize v + heavy variantSize w
     unfolding heavy variantSize
     variant-weight v w p = omega (arith, sets-weight (variantDecl (x .name) v) (variant-short v p) (v .fields) (w .fields))
 
-    unions-weight : total lineLength (compareUnions r (x .name) x y) ≤ 200000 * (total variantSize (x .variants) + total variantSize (y .variants))
+    unions-weight : total lineLength (compareUnions r (x .name) x y)
+        ≤ 200000 * (total variantSize (x .variants) + total variantSize (y .variants))
     unfolding compareUnions unionRules variantMap
     unions-weight =
         omega (
           arith,
           fine-weight variantOrdinal byNumber lineLength (λ v. leb (length (v .name)) 32768) (heavy variantSize) (heavy variantSize)
-              (variantMap (x .variants)) (variantMap (y .variants)) (rising variantOrdinal byNumber (x .variants)) (rising variantOrdinal byNumber (y .variants)) variants-short
+              (variantMap (x .variants)) (variantMap (y .variants)) (rising variantOrdinal byNumber (x .variants))
+              (rising variantOrdinal byNumber (y .variants)) variants-short
               (unionRules r (x .name)) (gone-weight (x .name) name-short) (came-weight (x .name) name-short _) variant-weight,
           survivors-heavy variantOrdinal ltb variantSize (x .variants),
           survivors-heavy variantOrdinal ltb variantSize (y .variants),
@@ -282,7 +312,8 @@ module _ (r : Reader) (S : Short (r .old)) (T : Short (r .new)) where
     unfolding kindChanged bytes optionLength heavy declSize
     changed-weight =
         le-trans (single-weight _)
-        (simp (length-append, fromTo-length, quoted-length) (omega (arith, kind-length (x .kind), kind-length (y .kind), name-short, type-one (x .inner))))
+        (simp (length-append, fromTo-length, quoted-length)
+        (omega (arith, kind-length (x .kind), kind-length (y .kind), name-short, type-one (x .inner))))
 
     decls-weight : total lineLength (compareDecls r x y) ≤ heavy declSize x + heavy declSize y
     unfolding compareDecls
@@ -296,7 +327,8 @@ module _ (r : Reader) (S : Short (r .old)) (T : Short (r .new)) where
 
 -- of views whose declarations an image can hold
 module _ (same : Reading) (x y : View) (S : Short (x .registry)) (T : Short (y .registry))
-    (R : Rising nameOf before (x .standing)) (Q : Rising nameOf before (y .standing)) (h : All (λ d. declSize d ≤ 32768) (x .standing)) where
+    (R : Rising nameOf before (x .standing)) (Q : Rising nameOf before (y .standing))
+    (h : All (λ d. declSize d ≤ 32768) (x .standing)) where
   abbrev between-views : Reader
   between-views = reader same (x .registry) (y .registry)
 
@@ -308,7 +340,8 @@ module _ (same : Reading) (x y : View) (S : Short (x .registry)) (T : Short (y .
       le-trans (single-weight _) (simp (length-append, quoted-length) (omega (arith, kind-length (d .kind), type-one (d .inner))))
 
   pub changes-weight : total lineLength (changes same x y)
-      ≤ 100 + (2 * namesSize (x .namespace) + 2 * namesSize (y .namespace)) + 200000 * (total declSize (x .standing) + total declSize (y .standing))
+      ≤ 100 + (2 * namesSize (x .namespace) + 2 * namesSize (y .namespace)) + 200000 * (total declSize (x .standing) + total declSize
+      (y .standing))
   unfolding changes declRules bytes
   changes-weight =
       simp (total-append lineLength)

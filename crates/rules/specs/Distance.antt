@@ -33,8 +33,8 @@ last a (b ∷ rest) = last b rest
 -- the kinds that are neither removals nor additions nor deprecations
 abbrev pub otherKinds : List ℕ
 otherKinds =
-    FieldTypeChanged ∷ FieldOrdinalChanged ∷ FieldRenamed ∷ FieldEncodingChanged ∷ VariantOrdinalChanged ∷ DeclarationKindChanged ∷ NamespaceChanged
-    ∷ NonExhaustiveChanged ∷ FlagsBitOrdinalChanged ∷ []
+    FieldTypeChanged ∷ FieldOrdinalChanged ∷ FieldRenamed ∷ FieldEncodingChanged ∷ VariantOrdinalChanged ∷ DeclarationKindChanged
+    ∷ NamespaceChanged ∷ NonExhaustiveChanged ∷ FlagsBitOrdinalChanged ∷ []
 
 module _ (verdict : Image → Image → ℕ → ℕ) where
   -- "a verdict is an answer of the verdict call .. with number 0"

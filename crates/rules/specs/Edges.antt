@@ -80,7 +80,8 @@ silent = bytes "Compatible;Patch;0\n"
 
 pub record Edges : Type 0 where
   -- "(a) primitive u8 and sub-byte u8 differ, both shown `u8`"
-  pub a : told (newtype u8 []) (newtype (subByte 0 8) []) ≡ bytes "FieldTypeChanged;Major;A;-;newtype 'A' inner type changed from u8 to u8\nBreaking;Major;1\n"
+  pub a : told (newtype u8 []) (newtype (subByte 0 8) [])
+      ≡ bytes "FieldTypeChanged;Major;A;-;newtype 'A' inner type changed from u8 to u8\nBreaking;Major;1\n"
   -- "(b) `optional<vec3<f32>>` differs from itself"
   pub b : told (newtype (around 4 (around 11 f32)) []) (newtype (around 4 (around 11 f32)) [])
       ≡ bytes "FieldTypeChanged;Major;A;-;newtype 'A' inner type changed from optional<vec3<f32>> to optional<vec3<f32>>\nBreaking;Major;1\n"
@@ -99,7 +100,8 @@ pub record Edges : Type 0 where
   pub g : told (enum nonExhaustive []) (enum nonExhaustive (variant 0 "x" ∷ []))
       ≡ bytes "VariantAdded;Minor;A;+x;variant 'x' @0 was added\nCompatible;Minor;1\n"
   -- "(h) closed: Major"
-  pub h : told (enum unmarked []) (enum unmarked (variant 0 "x" ∷ [])) ≡ bytes "VariantAdded;Major;A;+x;variant 'x' @0 was added\nBreaking;Major;1\n"
+  pub h : told (enum unmarked []) (enum unmarked (variant 0 "x" ∷ []))
+      ≡ bytes "VariantAdded;Major;A;+x;variant 'x' @0 was added\nBreaking;Major;1\n"
   -- "(i) closed to open with a variant added: Major and Minor"
   pub i : told (enum unmarked []) (enum nonExhaustive (variant 0 "x" ∷ []))
       ≡ bytes "NonExhaustiveChanged;Major;A;-;@non_exhaustive changed from false to true\nVariantAdded;Minor;A;+x;variant 'x' @0 was added\nBreaking;Major;2\n"

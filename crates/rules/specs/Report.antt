@@ -12,7 +12,12 @@ use Rattle.rules.specs.Verdict.{bumpOf, resultOf}
 -- the names of `ChangeKind`, `BumpKind` and `CompatResult`
 unfoldable pub changeWord : ℕ → List ℕ
 changeWord kind =
-    word ("FieldAdded" ∷ "FieldRemoved" ∷ "FieldTypeChanged" ∷ "FieldOrdinalChanged" ∷ "FieldRenamed" ∷ "FieldDeprecated" ∷ "FieldEncodingChanged" ∷ "VariantAdded" ∷ "VariantRemoved" ∷ "VariantOrdinalChanged" ∷ "DeclarationAdded" ∷ "DeclarationRemoved" ∷ "DeclarationKindChanged" ∷ "NamespaceChanged" ∷ "NonExhaustiveChanged" ∷ "FlagsBitAdded" ∷ "FlagsBitRemoved" ∷ "FlagsBitOrdinalChanged" ∷ []) kind
+    word
+    ("FieldAdded" ∷ "FieldRemoved" ∷ "FieldTypeChanged" ∷ "FieldOrdinalChanged" ∷ "FieldRenamed" ∷ "FieldDeprecated"
+    ∷ "FieldEncodingChanged" ∷ "VariantAdded" ∷ "VariantRemoved" ∷ "VariantOrdinalChanged" ∷ "DeclarationAdded" ∷ "DeclarationRemoved"
+    ∷ "DeclarationKindChanged" ∷ "NamespaceChanged" ∷ "NonExhaustiveChanged" ∷ "FlagsBitAdded" ∷ "FlagsBitRemoved"
+    ∷ "FlagsBitOrdinalChanged" ∷ [])
+    kind
 
 unfoldable pub bumpWord : ℕ → List ℕ
 bumpWord bump = word ("Patch" ∷ "Minor" ∷ "Major" ∷ []) bump

@@ -54,7 +54,10 @@ showLeaf l =
 -- what stands before the inner types, by the tag
 unfoldable pub opening : ℕ → List ℕ
 opening tag =
-    word ("" ∷ "" ∷ "" ∷ "" ∷ "optional<" ∷ "array<" ∷ "array<" ∷ "set<" ∷ "map<" ∷ "result<" ∷ "vec2<" ∷ "vec3<" ∷ "vec4<" ∷ "quat<" ∷ "mat3<" ∷ "mat4<" ∷ []) tag
+    word
+    ("" ∷ "" ∷ "" ∷ "" ∷ "optional<" ∷ "array<" ∷ "array<" ∷ "set<" ∷ "map<" ∷ "result<" ∷ "vec2<" ∷ "vec3<" ∷ "vec4<" ∷ "quat<" ∷ "mat3<"
+    ∷ "mat4<" ∷ [])
+    tag
 
 -- "`array<T, 4>`": a fixed array shows its size
 unfoldable pub showSize : Label → List ℕ
