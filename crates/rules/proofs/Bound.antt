@@ -26,7 +26,8 @@ use Rattle.rules.specs.Verdict.{bumpOf, resultOf, countOf}
 use Rattle.rules.specs.Report.{bumpWord, resultWord, line, lastLine, report}
 use Rattle.rules.specs.Answer.{Outcome, refused, compared, checked, counts, selected, select, verdictOf}
 use Rattle.rules.proofs.Sizes.{namesSize, declSize}
-use Rattle.rules.proofs.Texts.{decimal-length, word-length, Short, line-some}
+use Rattle.text.proofs.Numbers.{decimal-length}
+use Rattle.rules.proofs.Texts.{word-length, Short, line-some}
 use Rattle.rules.proofs.Weights.{lineLength, changes-weight}
 use Rattle.rules.proofs.Held.{Small, Held, image-held}
 use Rattle.rules.proofs.Answer.{Case, old-refused, new-refused, pair-refused, verdict, case}

@@ -9,7 +9,8 @@ use Rattle.image.specs.Words.{bytes, kindWord}
 use Rattle.rules.specs.Equal.{sameList, sameOption, sameName, sameNames}
 use Rattle.rules.specs.Survivors.{declOf, resolved, listed, declarations, fieldMap, variantMap, viewOf}
 use Rattle.rules.specs.Types.{nameIn, resolveLabel, resolve, vector, sameLabel, equalLabel, sameType}
-use Rattle.rules.specs.Text.{digits, decimal, joined, word, boolWord, primitiveWord, semanticWord, showName, showLeaf, opening, showSize, showType, deltasAround, showEncoding}
+use Rattle.text.specs.Decimal.{digits, decimal}
+use Rattle.rules.specs.Text.{joined, word, boolWord, primitiveWord, semanticWord, showName, showLeaf, opening, showSize, showType, deltasAround, showEncoding}
 use Rattle.rules.specs.Changes.{level, only, quoted, numbered, fromTo}
 use Rattle.rules.specs.Clauses.{showNamespace, compareNamespaces, compareTypes, fieldText, compareFieldNames, sameEncoding, compareEncodings, compareDeprecated, compareFields, fieldRules, compareFieldSets, compareMessages, variantText, variantGone, variantCame, enumBump, enumRules, compareNonExhaustive, compareEnums, bitText, flagsRules, compareFlags, variantDecl, unionRules, compareUnions, compareNewtypes, compareKind, kindChanged, compareDecls, declText, declRules, changes}
 use Rattle.rules.specs.Verdict.{bumpOf, resultOf}

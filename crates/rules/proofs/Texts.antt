@@ -13,25 +13,13 @@ use Rattle.image.specs.Schema.{Name, Encoding, Label, label, Ty, leaf, one, two
 use Rattle.image.specs.Words.{bytes, kindWord}
 use Rattle.rules.specs.Survivors.{Registry, declOf}
 use Rattle.rules.specs.Types.{nameIn, resolveLabel, resolve}
-use Rattle.rules.specs.Text.{digits, decimal, joined, word, boolWord, primitiveWord, semanticWord, showName, showLeaf, opening, showSize, showType, deltasAround, showEncoding}
+use Rattle.text.proofs.Numbers.{decimal-length}
+use Rattle.rules.specs.Text.{joined, word, boolWord, primitiveWord, semanticWord, showName, showLeaf, opening, showSize, showType, deltasAround, showEncoding}
 use Rattle.rules.specs.Changes.{level, Change, quoted, numbered, fromTo}
 use Rattle.rules.proofs.Sizes.{namesSize, typeSize}
 use Rattle.rules.specs.Report.{changeWord, bumpWord, fieldPart, line, changeLine}
 
 -- ---- numbers and words
-
-digits-length : (d n : ℕ) → length (digits d n) ≤ d
-unfolding digits
-digits-length zero n = omega arith
-digits-length (suc d) n = go (ltb n 10) (digits-length d (n / 10))
-  where
-    go : (u : Bool) → length (digits d (n / 10)) ≤ d → length (cond u ((48 + n) ∷ []) (digits d (n / 10) ++ ((48 + n % 10) ∷ []))) ≤ suc d
-    go true h = omega arith
-    go false h = simp length-append (omega arith)
-
-pub decimal-length : (n : ℕ) → length (decimal n) ≤ 20
-unfolding decimal
-decimal-length n = digits-length 20 n
 
 -- a word of a table
 pub word-length : (ws : List String) (i : ℕ) → length (word ws i) ≤ largest (λ w. length (bytes w)) ws

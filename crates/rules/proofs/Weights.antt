@@ -28,7 +28,8 @@ use Rattle.rules.specs.Changes.{Bump, Change, change, only, quoted, numb
 use Rattle.rules.specs.Clauses.{showNamespace, compareNamespaces, Reader, reader, compareTypes, fieldText, compareFieldNames, compareEncodings, compareDeprecated, compareFields, fieldRules, compareFieldSets, compareMessages, variantText, variantGone, variantCame, enumRules, compareNonExhaustive, compareEnums, bitText, flagsRules, compareFlags, variantDecl, unionRules, compareUnions, compareNewtypes, compareKind, kindChanged, compareDecls, declText, declRules, changes}
 use Rattle.rules.specs.Report.{changeLine}
 use Rattle.rules.proofs.Sizes.{namesSize, typeSize, fieldSize, variantSize, declSize}
-use Rattle.rules.proofs.Texts.{decimal-length, kind-length, bool-length, joined-length, encoding-length, Short, type-length, quoted-length, numbered-length, fromTo-length, optionLength, line-length}
+use Rattle.text.proofs.Numbers.{decimal-length}
+use Rattle.rules.proofs.Texts.{kind-length, bool-length, joined-length, encoding-length, Short, type-length, quoted-length, numbered-length, fromTo-length, optionLength, line-length}
 
 -- ---- sums over maps, of which only the entries of the first that are fine count
 

@@ -5,7 +5,7 @@ use mathlib.Core.List.{List, [], _∷_, _++_}
 use Prim.Native.Nat.{ℕ}
 use Rattle.image.specs.Schema.{Name}
 use Rattle.image.specs.Words.{bytes}
-use Rattle.rules.specs.Text.{decimal}
+use Rattle.text.specs.Decimal.{decimal}
 
 pub data Bump : Type 0 where
   patch minor major : Bump

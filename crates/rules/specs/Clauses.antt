@@ -12,7 +12,8 @@ use Rattle.image.specs.Words.{bytes, kindWord}
 use Rattle.rules.specs.Equal.{sameOption, sameName, sameNames}
 use Rattle.rules.specs.Survivors.{Registry, nameOf, ordinalOf, fieldMap, variantOrdinal, variantMap, View}
 use Rattle.rules.specs.Types.{Reading, resolve}
-use Rattle.rules.specs.Text.{decimal, joined, boolWord, showType, showEncoding}
+use Rattle.text.specs.Decimal.{decimal}
+use Rattle.rules.specs.Text.{joined, boolWord, showType, showEncoding}
 use Rattle.rules.specs.Changes.{Bump, patch, minor, major, Change, change, only, quoted, numbered, fromTo, FieldAdded, FieldRemoved, FieldTypeChanged, FieldRenamed, FieldDeprecated, FieldEncodingChanged, VariantAdded, VariantRemoved, DeclarationAdded, DeclarationRemoved, DeclarationKindChanged, NamespaceChanged, NonExhaustiveChanged, FlagsBitAdded, FlagsBitRemoved}
 
 -- ---- 1. `NamespaceChanged` Major: segment lists differ.

@@ -5,7 +5,8 @@ use Prim.Native.Nat.{ℕ}
 use lib.ListN.{length}
 use Rattle.image.specs.Schema.{Name}
 use Rattle.image.specs.Words.{bytes}
-use Rattle.rules.specs.Text.{decimal, joined, word}
+use Rattle.text.specs.Decimal.{decimal}
+use Rattle.rules.specs.Text.{joined, word}
 use Rattle.rules.specs.Changes.{level, Change}
 use Rattle.rules.specs.Verdict.{bumpOf, resultOf}
 

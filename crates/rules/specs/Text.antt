@@ -1,21 +1,13 @@
 -- How names, numbers, types and encodings are shown: document 01, "Types", and the words of compat.rs. Assumes nothing.
 use mathlib.Core.Bool.{Bool, true, false, cond}
 use mathlib.Core.List.{List, [], _∷_, _++_}
-use Prim.Native.Nat.{ℕ, zero, suc, _+_, _/_, _%_}
+use Prim.Native.Nat.{ℕ, zero, suc}
 use Prim.Native.String.{String}
-use lib.Dec.{eqb, ltb}
+use lib.Dec.{eqb}
 use lib.ListN.{getD}
 use Rattle.image.specs.Schema.{Name, Encoding, Label, Ty, leaf, one, two}
 use Rattle.image.specs.Words.{bytes}
-
--- a number in decimal, of at most so many digits
-unfoldable pub digits : ℕ → ℕ → List ℕ
-digits zero n = []
-digits (suc d) n = cond (ltb n 10) ((48 + n) ∷ []) (digits d (n / 10) ++ ((48 + n % 10) ∷ []))
-
--- a u64 has at most 20
-unfoldable pub decimal : ℕ → List ℕ
-decimal n = digits 20 n
+use Rattle.text.specs.Decimal.{decimal}
 
 -- texts with another between each two
 unfoldable pub joined : List ℕ → List (List ℕ) → List ℕ
