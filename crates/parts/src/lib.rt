@@ -1,0 +1,34 @@
+// The parts of an accepted image: the entry of an id, and what stands in its declaration, down to the names and the types. Each accessor
+// takes the image and a place in it, which the promise (specs/Promise.antt, proofs/Promise.antt) shows to be well formed, and reads no
+// more than it must: nothing is validated again.
+ghost use mathlib.Core.Path.{_≡_};
+
+// What an id stands for: a declaration whose body starts at a place, or nothing.
+pub enum Entry {
+    Body(usize),
+    Unresolvable,
+}
+
+// The shape of an item: a field; a variant of an enum or a bit of flags; a variant of a union. Each starts with its ordinal and its name.
+pub enum Shape {
+    Field,
+    Bare,
+    Variant,
+}
+
+// So many items, or names, one after the other.
+pub struct Items {
+    pub start: usize,
+    pub count: usize,
+}
+
+// Deltas around a code: 0 default, 1 varint, 2 zigzag.
+pub struct Encoding {
+    pub deltas: usize,
+    pub base: u8,
+}
+
+pub enum Limit {
+    Most(u64),
+    Unlimited,
+}
