@@ -5,7 +5,7 @@ use mathlib.Core.Path.{_≡_}
 use mathlib.Core.Bool.{cond}
 use mathlib.Core.Option.{Option, none, some}
 use mathlib.Core.List.{List, [], _∷_}
-use Prim.Native.Nat.{ℕ, zero, suc, _+_, _≤_}
+use Prim.Native.Nat.{ℕ, zero, suc, _+_, _≤_, _<_}
 use lib.Dec.{leb}
 use lib.ListN.{getD, drop}
 use Rattle.image.specs.Schema.{Name, Marks, unmarked, Label, label, Ty, noType, Field, Variant, Decl, decl, Schema}
@@ -64,6 +64,13 @@ LabelHere s at = Good (labelOf (drop at s))
 
 unfoldable pub labelIn : List ℕ → ℕ → Label
 labelIn s at = valueOr (label 0 0 0 []) (labelOf (drop at s))
+
+-- what its tag has not is 0 or empty
+pub record Defaults (l : Label) : Type 0 where
+  pub most : l .tag ≤ 16
+  pub first : 3 < l .tag → (l .tag ≡ 6 → ⊥) → l .first ≡ 0
+  pub second : (l .tag ≡ 1 → ⊥) → l .second ≡ 0
+  pub names : (l .tag ≡ 16 → ⊥) → l .names ≡ []
 
 -- where the first inner type starts, if there is one
 unfoldable pub labelEnd : List ℕ → ℕ → ℕ

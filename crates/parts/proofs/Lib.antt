@@ -1,0 +1,2 @@
+-- Promise: the laws that the crates above may cite. Laws: what they and the accessors' proofs rest on.
+pub mod Laws
