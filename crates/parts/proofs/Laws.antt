@@ -5,3 +5,4 @@ pub mod Steps
 pub mod Places
 pub mod Labels
 pub mod Trees
+pub mod Items

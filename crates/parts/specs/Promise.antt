@@ -33,6 +33,19 @@ Accepted s = Good (readImage s)
 unfoldable pub schemaOf : List ℕ → Schema
 schemaOf s = valueOr (record { registry = []; ids = []; namespace = [] }) (readImage s)
 
+-- of places where none stands
+abbrev pub noLabel : Label
+noLabel = label 0 0 0 []
+
+abbrev pub noField : Field
+noField = record { ordinal = 0; name = []; marks = unmarked; encoding = plain 0; limit = none; type = noType }
+
+abbrev pub noVariant : Variant
+noVariant = record { ordinal = 0; name = []; fields = [] }
+
+abbrev pub noDecl : Decl
+noDecl = decl 8 [] unmarked [] [] noType
+
 -- Names.
 unfoldable pub NameHere : List ℕ → ℕ → Type 0
 NameHere s at = Good (nameAt 8 s at)
@@ -63,7 +76,7 @@ unfoldable pub LabelHere : List ℕ → ℕ → Type 0
 LabelHere s at = Good (labelOf (drop at s))
 
 unfoldable pub labelIn : List ℕ → ℕ → Label
-labelIn s at = valueOr (label 0 0 0 []) (labelOf (drop at s))
+labelIn s at = valueOr noLabel (labelOf (drop at s))
 
 -- what its tag has not is 0 or empty
 pub record Defaults (l : Label) : Type 0 where
@@ -119,10 +132,10 @@ unfoldable pub itemsAt : List ℕ → ℕ → Items
 itemsAt s at = record { start = at + 2; count = littleEndian 2 (drop at s) }
 
 unfoldable pub bareIn : List ℕ → ℕ → Variant
-bareIn s at = valueOr (record { ordinal = 0; name = []; fields = [] }) (bareAt s at)
+bareIn s at = valueOr noVariant (bareAt s at)
 
 unfoldable pub variantIn : List ℕ → ℕ → Variant
-variantIn s at = valueOr (record { ordinal = 0; name = []; fields = [] }) (variantAt s at)
+variantIn s at = valueOr noVariant (variantAt s at)
 
 -- the fields of a union's variant
 unfoldable pub variantItems : List ℕ → ℕ → Items
@@ -137,8 +150,7 @@ itemName s at = bareIn s at .name
 
 -- Fields.
 unfoldable pub fieldIn : List ℕ → ℕ → Field
-fieldIn s at =
-    valueOr (record { ordinal = 0; name = []; marks = unmarked; encoding = plain 0; limit = none; type = noType }) (fieldAt s at)
+fieldIn s at = valueOr noField (fieldAt s at)
 
 -- its parts after the name
 unfoldable pub marksPlace : List ℕ → ℕ → ℕ
@@ -169,7 +181,7 @@ unfoldable pub DeclHere : List ℕ → ℕ → Type 0
 DeclHere s at = Good (bodyAt s at)
 
 unfoldable pub declIn : List ℕ → ℕ → Decl
-declIn s at = valueOr (decl 8 [] unmarked [] [] noType) (bodyAt s at)
+declIn s at = valueOr noDecl (bodyAt s at)
 
 -- the items of a message, an enum, flags or a union: only the first two have marks before the count
 unfoldable pub itemsIn : List ℕ → ℕ → Items

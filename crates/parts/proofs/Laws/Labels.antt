@@ -17,7 +17,7 @@ use Rattle.image.specs.WellFormed.{labelIn as firstLabel}
 use Rattle.image.proofs.Laws.Good.{good-first}
 use Rattle.image.proofs.Laws.Trees.{label-tag}
 use Rattle.image.proofs.Laws.Types.{follows-nothing, follows-unknown}
-use Rattle.parts.specs.Promise.{NamesHere, namesEnd, nameEnd, nameIn, namePlaces, LabelHere, labelIn, labelEnd, bitsIn, Defaults}
+use Rattle.parts.specs.Promise.{noLabel, NamesHere, namesEnd, nameEnd, nameIn, namePlaces, LabelHere, labelIn, labelEnd, bitsIn, Defaults}
 use Rattle.parts.proofs.Laws.Kept.{Kept, kept-good, kept-value, kept-end, Part, part-from, byte-kept, after-kept, kept-bind}
 use Rattle.parts.proofs.Laws.Steps.{good-is, then-is, then-good, byte-is, code-is, number-is}
 use Rattle.parts.proofs.Laws.Places.{many-places}
@@ -84,9 +84,6 @@ after bits tag s n g =
     (then-is _ (h .0) ∙ then-is _ (good-is [] _ k), h .1, k)
 after unknown tag s n g = g
 
-noLabel : Label
-noLabel = label 0 0 0 []
-
 -- the same label, read at its place in the whole list
 labelAt : List ℕ → ℕ → Parsed Label
 labelAt s at = bind (byteAt 8 s at) (λ tag n. afterTag tag (followsTag tag) s n)
@@ -113,7 +110,7 @@ module _ (s : List ℕ) (at : ℕ) (g : LabelHere s at) where
   tag-at = then-is _ (byte-is s at 8 (good-first 0 (byteAt 8 s at) _ first) .0)
 
   label-value : labelIn s at ≡ valueOr noLabel (labelAt s at)
-  unfolding LabelHere labelIn noLabel
+  unfolding LabelHere labelIn
   label-value = sym (kept-value noLabel moved g)
 
   label-end : labelEnd s at ≡ endOf (labelAt s at)

@@ -5,6 +5,7 @@ use mathlib.Core.List.{List, [], _∷_, map}
 use Prim.Native.Nat.{ℕ, zero, suc, _+_, _-_, _≤_, _<_}
 use native.Mathlib.Omega.{arith}
 use native.Mathlib.Numerals.{sub-one}
+use borrow.Author.Tests.{le-leb}
 use lib.ListN.{length, getD, drop}
 use Rattle.image.specs.Schema.{Marks}
 use Rattle.image.specs.Parse.{Parsed, ok, no, bind, pick, littleEndian, byteAt, codeAt, numberAt, many}
@@ -57,6 +58,10 @@ module _ (s : List ℕ) (at : ℕ) where
   number-is w g =
       let h = sure-good 0 (number-sure w s at) g in
       (good-is 0 _ g ∙ ap₂ ok (h .value) (h .next), (let i = h .inside in let j = h .next in omega arith))
+
+  pub number-there : (w : ℕ) → at + w ≤ length s → numberAt w s at ≡ ok (littleEndian w (drop at s)) (at + w)
+  unfolding numberAt pick
+  number-there w l = rw (le-leb (at + w) (length s) l)
 
   pub marks-is : Good (marksAt s at) → (marksAt s at ≡ ok (marksOf (getD s at 0)) (at + 1)) × (at < length s)
   unfolding marksAt

@@ -1,0 +1,249 @@
+-- Items at places of the image: ordinal and name, and what each shape has after them. Assumes nothing.
+use mathlib.Core.Path.{_≡_, refl, sym, ap, ap₂, _∙_}
+use mathlib.Core.Bool.{Bool, true, false}
+use mathlib.Core.Option.{Option, none, some}
+use mathlib.Core.List.{List, [], _∷_, map}
+use Prim.Native.Nat.{ℕ, zero, suc, _+_, _-_, _≤_, _<_}
+use native.Mathlib.Omega.{arith}
+use native.Mathlib.Numerals.{sub-one}
+use lib.ListN.{length, getD, drop}
+use Rattle.image.specs.Schema.{Name, Marks, Encoding, Ty, noType, Field, Variant}
+use Rattle.image.specs.Parse.{Parsed, ok, no, bind, littleEndian, numberAt, many, counted}
+use Rattle.image.specs.Names.{nameAt}
+use Rattle.image.specs.Types.{typeOf, typeAt}
+use Rattle.image.specs.Fields.{marksOf, marksAt, plain, encodingAt, limitAt, fieldAt, bareAt, variantAt}
+use Rattle.image.specs.WellFormed.{Good, valueOr, endOf}
+use Rattle.image.proofs.Laws.Good.{good-first, within-good, within-value, within-end, many-first, many-rest}
+use Rattle.parts.specs.Promise.{noField, noVariant, NameHere, nameIn, nameEnd, TypeHere, treeIn, typeEnd, ItemOf, itemAt, ItemHere, itemEnd, ItemsHere, placesFrom, itemsAt, bareIn, ordinalIn, itemName, variantIn, variantItems, fieldIn, marksPlace, encodingPlace, limitPlace, typePlace}
+use Rattle.parts.specs.declared.Shape.{Shape}
+use Rattle.parts.specs.declared.Shape.the-variants as shape
+use Rattle.parts.proofs.Laws.Steps.{good-is, then-is, then-good, number-is, number-there, marks-is, name-is}
+use Rattle.parts.proofs.Laws.Places.{many-places}
+
+-- a type at a place
+module _ (s : List ℕ) (at : ℕ) (g : Good (typeAt s at)) where
+  pub type-here : TypeHere 32 s at
+  unfolding typeAt
+  type-here = record { few = omega arith; good = within-good noType (typeOf 32) s at g }
+
+  pub type-at-is : typeAt s at ≡ ok (treeIn s at) (typeEnd s at)
+  unfolding typeAt treeIn typeEnd
+  type-at-is = good-is noType (typeAt s at) g ∙ ap₂ ok (within-value noType (typeOf 32) s at) (within-end noType (typeOf 32) s at g)
+
+-- an ordinal and a name, and what follows them
+module _ {A : Type 0} (s : List ℕ) (at : ℕ) (f : ℕ → Name → ℕ → Parsed A) where
+  keyed : Parsed A
+  keyed = bind (numberAt 4 s at) (λ o n. bind (nameAt 8 s n) (λ x m. f o x m))
+
+  module _ (g : Good keyed) where
+    key-inside : at + 4 ≤ length s
+    unfolding keyed
+    key-inside = number-is s at 4 (good-first 0 (numberAt 4 s at) _ g) .1
+
+    key-name : NameHere s (at + 4)
+    unfolding keyed NameHere
+    key-name = good-first [] (nameAt 8 s (at + 4)) _ (then-good _ (number-is s at 4 (good-first 0 (numberAt 4 s at) _ g) .0) g)
+
+    key-is : keyed ≡ f (littleEndian 4 (drop at s)) (nameIn s (at + 4)) (nameEnd s (at + 4))
+    unfolding keyed
+    key-is = then-is _ (number-is s at 4 (good-first 0 (numberAt 4 s at) _ g) .0) ∙ then-is _ (name-is s (at + 4) key-name)
+
+-- the parts of a field
+pub record FieldParts (s : List ℕ) (at : ℕ) : Type 0 where
+  pub inside : at + 4 ≤ length s
+  pub name : NameHere s (at + 4)
+  pub marks : marksPlace s at < length s
+  pub encoding : Good (encodingAt s (encodingPlace s at))
+  pub limit : Good (limitAt s (limitPlace s at))
+  pub type : TypeHere 32 s (typePlace s at)
+  pub is : fieldAt s at ≡ ok (record {
+      ordinal = littleEndian 4 (drop at s);
+      name = nameIn s (at + 4);
+      marks = marksOf (getD s (marksPlace s at) 0);
+      encoding = valueOr (plain 0) (encodingAt s (encodingPlace s at));
+      limit = valueOr none (limitAt s (limitPlace s at));
+      type = treeIn s (typePlace s at)
+    }) (typeEnd s (typePlace s at))
+
+afterName : List ℕ → ℕ → Name → ℕ → Parsed Field
+afterName s o x n₂ =
+    bind (marksAt s n₂) (λ m n₃.
+    bind (encodingAt s n₃) (λ e n₄.
+    bind (limitAt s n₄) (λ l n₅.
+    bind (typeAt s n₅) (λ t n₆.
+    ok (record { ordinal = o; name = x; marks = m; encoding = e; limit = l; type = t }) n₆))))
+
+pub field-parts : (s : List ℕ) (at : ℕ) → Good (fieldAt s at) → FieldParts s at
+unfolding fieldAt keyed afterName marksPlace encodingPlace limitPlace typePlace
+field-parts s at g =
+    let k = key-is s at (afterName s) g in
+    let g₂ : Good (afterName s (littleEndian 4 (drop at s)) (nameIn s (at + 4)) (nameEnd s (at + 4))) = rw k at g in
+    let m = marks-is s (marksPlace s at) (good-first (marksOf 0) (marksAt s (marksPlace s at)) _ g₂) in
+    let g₃ = then-good _ (m .0) g₂ in
+    let e = good-first (plain 0) (encodingAt s (encodingPlace s at)) _ g₃ in
+    let g₄ = then-good _ (good-is (plain 0) _ e) g₃ in
+    let l = good-first none (limitAt s (limitPlace s at)) _ g₄ in
+    let g₅ = then-good _ (good-is none _ l) g₄ in
+    let t = good-first noType (typeAt s (typePlace s at)) _ g₅ in
+    record {
+      inside = key-inside s at (afterName s) g;
+      name = key-name s at (afterName s) g;
+      marks = m .1;
+      encoding = e;
+      limit = l;
+      type = type-here s (typePlace s at) t;
+      is = k ∙ then-is _ (m .0) ∙ then-is _ (good-is (plain 0) _ e) ∙ then-is _ (good-is none _ l) ∙ then-is _ (type-at-is s (typePlace s at) t);
+    }
+
+-- a count, and as many
+module _ {A : Type 0} (p : List ℕ → ℕ → Parsed A) (s : List ℕ) (at : ℕ) (g : Good (counted p s at)) where
+  number : (numberAt 2 s at ≡ ok (littleEndian 2 (drop at s)) (at + 2)) × (at + 2 ≤ length s)
+  unfolding counted
+  number = number-is s at 2 (good-first 0 (numberAt 2 s at) _ g)
+
+  pub count-inside : at + 2 ≤ length s
+  count-inside = number .1
+
+  pub counted-is : counted p s at ≡ many p (itemsAt s at .count) s (itemsAt s at .start)
+  unfolding counted itemsAt
+  counted-is = then-is _ (number .0)
+
+  pub counted-good : Good (many p (itemsAt s at .count) s (itemsAt s at .start))
+  counted-good = rw counted-is at g
+
+-- a bare item
+pub record BareParts (s : List ℕ) (at : ℕ) : Type 0 where
+  pub inside : at + 4 ≤ length s
+  pub name : NameHere s (at + 4)
+  pub is : bareAt s at ≡ ok (record { ordinal = littleEndian 4 (drop at s); name = nameIn s (at + 4); fields = [] }) (nameEnd s (at + 4))
+
+pub bare-parts : (s : List ℕ) (at : ℕ) → Good (bareAt s at) → BareParts s at
+unfolding bareAt keyed
+bare-parts s at g = record { inside = key-inside s at _ g; name = key-name s at _ g; is = key-is s at _ g }
+
+-- an ordinal and a name are all that it needs
+bare-there : (s : List ℕ) (at : ℕ) → at + 4 ≤ length s → NameHere s (at + 4)
+    → bareAt s at ≡ ok (record { ordinal = littleEndian 4 (drop at s); name = nameIn s (at + 4); fields = [] }) (nameEnd s (at + 4))
+unfolding bareAt
+bare-there s at l n = then-is _ (number-there s at 4 l) ∙ then-is _ (name-is s (at + 4) n)
+
+pub bare-good : (s : List ℕ) (at : ℕ) → at + 4 ≤ length s → NameHere s (at + 4) → Good (bareAt s at)
+unfolding Good
+bare-good s at l n = rw (bare-there s at l n) tt
+
+-- a variant of a union
+pub record VariantParts (s : List ℕ) (at : ℕ) : Type 0 where
+  pub inside : at + 4 ≤ length s
+  pub name : NameHere s (at + 4)
+  pub count : nameEnd s (at + 4) + 2 ≤ length s
+  pub items : Good (many fieldAt (variantItems s at .count) s (variantItems s at .start))
+  pub is : variantAt s at ≡ ok (record {
+      ordinal = littleEndian 4 (drop at s);
+      name = nameIn s (at + 4);
+      fields = valueOr [] (many fieldAt (variantItems s at .count) s (variantItems s at .start))
+    }) (endOf (many fieldAt (variantItems s at .count) s (variantItems s at .start)))
+
+pub variant-parts : (s : List ℕ) (at : ℕ) → Good (variantAt s at) → VariantParts s at
+unfolding variantAt keyed variantItems
+variant-parts s at g =
+    let c = nameEnd s (at + 4) in
+    let k = key-is s at (λ o x n. bind (counted fieldAt s n) (λ fs m. ok (record { ordinal = o; name = x; fields = fs }) m)) g in
+    let b = good-first [] (counted fieldAt s c) _ (rw k at g) in
+    let e = counted-is fieldAt s c b ∙ good-is [] _ (counted-good fieldAt s c b) in
+    record {
+      inside = key-inside s at _ g;
+      name = key-name s at _ g;
+      count = count-inside fieldAt s c b;
+      items = counted-good fieldAt s c b;
+      is = k ∙ then-is _ e;
+    }
+
+-- the key of every item is a bare one's
+module _ (s : List ℕ) (at : ℕ) where
+  pub bare-key : ItemHere shape.Bare s at → (ordinalIn s at ≡ littleEndian 4 (drop at s)) × (itemName s at ≡ nameIn s (at + 4))
+  unfolding ItemHere itemAt bareIn valueOr
+  bare-key g = let e = ap (valueOr noVariant) (bare-parts s at g .is) in (ap (λ (v : Variant). v .ordinal) e, ap (λ (v : Variant). v .name) e)
+
+  pub item-bare : (h : Shape) → ItemHere h s at → ItemHere shape.Bare s at
+  unfolding ItemHere itemAt
+  item-bare shape.Field g = let p = field-parts s at g in bare-good s at (p .inside) (p .name)
+  item-bare shape.Bare g = g
+  item-bare shape.Variant g = let p = variant-parts s at g in bare-good s at (p .inside) (p .name)
+
+  -- the values of a field's parts
+  module _ (g : ItemHere shape.Field s at) where
+    pub parts-of-field : FieldParts s at
+    unfolding ItemHere itemAt
+    parts-of-field = field-parts s at g
+
+    pub field-ordinal : fieldIn s at .ordinal ≡ ordinalIn s at
+    unfolding fieldIn valueOr
+    field-ordinal = ap (λ (p : Parsed Field). valueOr noField p .ordinal) (parts-of-field .is) ∙ sym (bare-key (item-bare shape.Field g) .0)
+
+    pub field-name : fieldIn s at .name ≡ itemName s at
+    unfolding fieldIn valueOr
+    field-name = ap (λ (p : Parsed Field). valueOr noField p .name) (parts-of-field .is) ∙ sym (bare-key (item-bare shape.Field g) .1)
+
+    pub field-marks : fieldIn s at .marks ≡ marksOf (getD s (marksPlace s at) 0)
+    unfolding fieldIn valueOr
+    field-marks = ap (λ (p : Parsed Field). valueOr noField p .marks) (parts-of-field .is)
+
+    pub field-encoding : fieldIn s at .encoding ≡ valueOr (plain 0) (encodingAt s (encodingPlace s at))
+    unfolding fieldIn valueOr
+    field-encoding = ap (λ (p : Parsed Field). valueOr noField p .encoding) (parts-of-field .is)
+
+    pub field-limit : fieldIn s at .limit ≡ valueOr none (limitAt s (limitPlace s at))
+    unfolding fieldIn valueOr
+    field-limit = ap (λ (p : Parsed Field). valueOr noField p .limit) (parts-of-field .is)
+
+    pub field-type : fieldIn s at .type ≡ treeIn s (typePlace s at)
+    unfolding fieldIn valueOr
+    field-type = ap (λ (p : Parsed Field). valueOr noField p .type) (parts-of-field .is)
+
+    pub field-type-here : TypeHere 32 s (typePlace s at)
+    field-type-here = parts-of-field .type
+
+    pub field-end : itemEnd shape.Field s at ≡ typeEnd s (typePlace s at)
+    unfolding itemEnd itemAt endOf
+    field-end = ap endOf (parts-of-field .is)
+
+  -- the values of a variant's parts
+  module _ (g : ItemHere shape.Variant s at) where
+    pub parts-of-variant : VariantParts s at
+    unfolding ItemHere itemAt
+    parts-of-variant = variant-parts s at g
+
+    pub variant-ordinal : variantIn s at .ordinal ≡ ordinalIn s at
+    unfolding variantIn valueOr
+    variant-ordinal = ap (λ (p : Parsed Variant). valueOr noVariant p .ordinal) (parts-of-variant .is) ∙ sym (bare-key (item-bare shape.Variant g) .0)
+
+    pub variant-name : variantIn s at .name ≡ itemName s at
+    unfolding variantIn valueOr
+    variant-name = ap (λ (p : Parsed Variant). valueOr noVariant p .name) (parts-of-variant .is) ∙ sym (bare-key (item-bare shape.Variant g) .1)
+
+    pub variant-items : ItemsHere shape.Field s (variantItems s at .count) (variantItems s at .start)
+    unfolding ItemsHere itemAt
+    variant-items = parts-of-variant .items
+
+    pub variant-fields : variantIn s at .fields ≡ map (fieldIn s) (placesFrom shape.Field s (variantItems s at .count) (variantItems s at .start))
+    unfolding variantIn valueOr fieldIn placesFrom itemEnd itemAt
+    variant-fields = ap (λ (p : Parsed Variant). valueOr noVariant p .fields) (parts-of-variant .is) ∙ many-places noField fieldAt s _ _ (parts-of-variant .items)
+
+    pub variant-end : itemEnd shape.Variant s at ≡ endOf (many fieldAt (variantItems s at .count) s (variantItems s at .start))
+    unfolding itemEnd itemAt endOf
+    variant-end = ap endOf (parts-of-variant .is)
+
+noItem : (h : Shape) → ItemOf h
+noItem shape.Field = noField
+noItem shape.Bare = noVariant
+noItem shape.Variant = noVariant
+
+-- so many items: the first, and the rest
+module _ (h : Shape) (s : List ℕ) (c at : ℕ) (l : 0 < c) (g : ItemsHere h s c at) where
+  pub items-first : ItemHere h s at
+  unfolding ItemHere ItemsHere
+  items-first = many-first (noItem h) (itemAt h) c s at l g
+
+  pub items-rest : ItemsHere h s (c - 1) (itemEnd h s at)
+  unfolding ItemsHere itemEnd
+  items-rest = many-rest (noItem h) (itemAt h) c s at l g
