@@ -6,3 +6,5 @@ pub mod Places
 pub mod Labels
 pub mod Trees
 pub mod Items
+pub mod Fields
+pub mod Decls

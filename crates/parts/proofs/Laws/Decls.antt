@@ -1,0 +1,273 @@
+-- Declarations at places of the image. Assumes nothing.
+use mathlib.Core.Path.{_≡_, refl, sym, ap, ap₂, _∙_}
+use mathlib.Core.Bool.{Bool, true, false, cond}
+use mathlib.Core.List.{List, [], _∷_, map}
+use Prim.Native.Nat.{ℕ, zero, suc, _+_, _≤_, _<_}
+use native.Mathlib.Omega.{arith}
+use borrow.Author.Tests.{le-leb, lt-leb}
+use lib.Dec.{leb}
+use lib.ListN.{length, getD, drop}
+use Rattle.image.specs.Schema.{Name, Marks, unmarked, Ty, noType, Field, Variant, Decl, decl}
+use Rattle.image.specs.Parse.{Parsed, ok, no, bind, byteAt, many, counted}
+use Rattle.image.specs.Names.{nameAt}
+use Rattle.image.specs.Types.{typeAt}
+use Rattle.image.specs.Fields.{marksOf, marksAt, fieldAt, bareAt, variantAt}
+use Rattle.image.specs.Bodies.{messageAt, enumAt, flagsAt, unionAt, newtypeAt, otherAt, implAt, declAt}
+use Rattle.image.specs.WellFormed.{Good, valueOr, endOf}
+use Rattle.image.proofs.Laws.Sure.{Sure, sure-ok, sure-no, sure-bind, sure-then, code-sure}
+use Rattle.image.proofs.Laws.Good.{sure-good, good-first}
+use Rattle.parts.specs.Promise.{noField, noVariant, noDecl, NameHere, nameIn, nameEnd, TypeHere, treeIn, ItemOf, itemAt, itemEnd, ItemsHere, placesFrom, itemsAt, bareIn, variantIn, fieldIn, bodyAt, DeclHere, declIn, itemsIn, innerPlace}
+use Rattle.parts.specs.declared.Shape.{Shape}
+use Rattle.parts.specs.declared.Shape.the-variants as shape
+use Rattle.parts.specs.declared.Items.{Items}
+use Rattle.parts.proofs.Laws.Steps.{good-is, then-is, then-good, byte-is, marks-is, name-is}
+use Rattle.parts.proofs.Laws.Places.{many-places}
+use Rattle.parts.proofs.Laws.Items.{type-here, type-at-is, count-inside, counted-is, counted-good}
+
+-- the head of a declaration: its kind, and by the kind a name and marks, from `at` on
+pub record Headed (kind : ℕ) (s : List ℕ) (at : ℕ) (d : Decl) : Type 0 where
+  pub is : d .kind ≡ kind
+  pub most : kind ≤ 8
+  pub nameless : kind ≡ 8 → d .name ≡ []
+  pub named : (kind ≡ 8 → ⊥) → NameHere s at × (d .name ≡ nameIn s at)
+  pub marked : kind ≤ 1 → (nameEnd s at < length s) × (d .marks ≡ marksOf (getD s (nameEnd s at) 0))
+  pub plain : 1 < kind → d .marks ≡ unmarked
+
+-- what is known of every answer
+itself : {A : Type 0} (d : A) (p : Parsed A) → Sure (λ a n. Good p × (a ≡ valueOr d p) × (n ≡ endOf p)) p
+unfolding Good valueOr endOf
+itself d (ok a n) = sure-ok (tt, refl, refl)
+itself d (no k) = sure-no
+
+marks-sure-here : (s : List ℕ) (at : ℕ) → Sure (λ m n. (at < length s) × (m ≡ marksOf (getD s at 0))) (marksAt s at)
+unfolding marksAt
+marks-sure-here s at =
+    sure-bind _ (code-sure 0 3 s at) (λ b n q. sure-ok ((let i = q .byte .inside in let j = q .byte .next in omega arith), ap marksOf (q .byte .value)))
+
+module _ (s : List ℕ) (at : ℕ) where
+  abbrev Name-at : Name → ℕ → Type 0
+  Name-at x n = NameHere s at × (x ≡ nameIn s at) × (n ≡ nameEnd s at)
+
+  name-sure-here : Sure Name-at (nameAt 8 s at)
+  unfolding NameHere nameIn nameEnd
+  name-sure-here = itself [] (nameAt 8 s at)
+
+  with-marks : (kind : ℕ) → kind ≤ 1 → {x : Name} {n : ℕ} → Name-at x n → {m : Marks} → (n < length s) × (m ≡ marksOf (getD s n 0))
+      → (fs : List Field) (vs : List Variant) → Headed kind s at (decl kind x m fs vs noType)
+  with-marks kind l (h, e, q) (i, r) fs vs = record {
+    is = refl;
+    most = omega arith;
+    nameless = λ z. absurd (omega arith);
+    named = λ _. (h, e);
+    marked = λ _. (rw q at i, r ∙ ap (λ (k : ℕ). marksOf (getD s k 0)) q);
+    plain = λ z. absurd (omega arith);
+  }
+
+  without : (kind : ℕ) → 1 < kind → kind < 8 → {x : Name} {n : ℕ} → Name-at x n → (fs : List Field) (vs : List Variant) (t : Ty)
+      → Headed kind s at (decl kind x unmarked fs vs t)
+  without kind l m (h, e, q) fs vs t = record {
+    is = refl;
+    most = omega arith;
+    nameless = λ z. absurd (omega arith);
+    named = λ _. (h, e);
+    marked = λ z. absurd (omega arith);
+    plain = λ _. refl;
+  }
+
+  head-sure : (kind : ℕ) → Sure (λ d n. Headed kind s at d) (declAt kind s at)
+  unfolding declAt messageAt enumAt flagsAt unionAt newtypeAt otherAt implAt
+  head-sure zero =
+      sure-bind _ name-sure-here (λ x n q. sure-bind _ (marks-sure-here s n) (λ m k r. sure-bind _ (itself [] (counted fieldAt s k)) (λ fs i _. sure-ok (with-marks 0 (omega arith) q r fs []))))
+  head-sure (suc zero) =
+      sure-bind _ name-sure-here (λ x n q. sure-bind _ (marks-sure-here s n) (λ m k r. sure-bind _ (itself [] (counted bareAt s k)) (λ vs i _. sure-ok (with-marks 1 (omega arith) q r [] vs))))
+  head-sure (suc (suc zero)) =
+      sure-bind _ name-sure-here (λ x n q. sure-bind _ (itself [] (counted bareAt s n)) (λ vs i _. sure-ok (without 2 (omega arith) (omega arith) q [] vs noType)))
+  head-sure (suc (suc (suc zero))) =
+      sure-bind _ name-sure-here (λ x n q. sure-bind _ (itself [] (counted variantAt s n)) (λ vs i _. sure-ok (without 3 (omega arith) (omega arith) q [] vs noType)))
+  head-sure (suc (suc (suc (suc zero)))) =
+      sure-bind _ name-sure-here (λ x n q. sure-bind _ (itself noType (typeAt s n)) (λ t i _. sure-ok (without 4 (omega arith) (omega arith) q [] [] t)))
+  head-sure (suc (suc (suc (suc (suc zero))))) = sure-bind _ name-sure-here (λ x n q. sure-ok (without 5 (omega arith) (omega arith) q [] [] noType))
+  head-sure (suc (suc (suc (suc (suc (suc zero)))))) = sure-bind _ name-sure-here (λ x n q. sure-ok (without 6 (omega arith) (omega arith) q [] [] noType))
+  head-sure (suc (suc (suc (suc (suc (suc (suc zero))))))) = sure-bind _ name-sure-here (λ x n q. sure-ok (without 7 (omega arith) (omega arith) q [] [] noType))
+  head-sure (suc (suc (suc (suc (suc (suc (suc (suc zero)))))))) =
+      sure-ok (record { is = refl; most = omega arith; nameless = λ _. refl; named = λ f. absurd (f refl); marked = λ z. absurd (omega arith); plain = λ _. refl })
+  head-sure (suc (suc (suc (suc (suc (suc (suc (suc (suc k))))))))) = sure-no
+
+-- a declaration is its kind, and what follows it
+module _ (s : List ℕ) (at : ℕ) (g : DeclHere s at) where
+  kind-byte : (byteAt 8 s at ≡ ok (getD s at 0) (at + 1)) × (at < length s)
+  unfolding DeclHere bodyAt
+  kind-byte = byte-is s at 8 (good-first 0 (byteAt 8 s at) _ g)
+
+  pub kind-there : at < length s
+  kind-there = kind-byte .1
+
+  body-is : bodyAt s at ≡ declAt (getD s at 0) s (at + 1)
+  unfolding bodyAt
+  body-is = then-is _ (kind-byte .0)
+
+  pub decl-head : Headed (getD s at 0) s (at + 1) (declIn s at)
+  unfolding DeclHere declIn
+  decl-head = rw body-is (sure-good noDecl (head-sure s (at + 1) (getD s at 0)) (rw body-is at g))
+
+  pub decl-kind : declIn s at .kind ≡ getD s at 0
+  decl-kind = decl-head .is
+
+  module _ (k : ℕ) (e : declIn s at .kind ≡ k) where
+    of-kind : bodyAt s at ≡ declAt k s (at + 1)
+    of-kind = body-is ∙ ap (λ (n : ℕ). declAt n s (at + 1)) (sym decl-kind ∙ e)
+
+    pub kind-good : Good (declAt k s (at + 1))
+    unfolding DeclHere
+    kind-good = rw of-kind at g
+
+    pub kind-value : declIn s at ≡ valueOr noDecl (declAt k s (at + 1))
+    unfolding declIn
+    kind-value = ap (valueOr noDecl) of-kind
+
+-- a list of items stands at its place, and is this
+pub record Listed {A : Type 0} (p : List ℕ → ℕ → Parsed A) (s : List ℕ) (n : Items) (xs : List A) : Type 0 where
+  pub inside : n .start ≤ length s
+  pub good : Good (many p (n .count) s (n .start))
+  pub are : xs ≡ valueOr [] (many p (n .count) s (n .start))
+
+module _ {A : Type 0} (p : List ℕ → ℕ → Parsed A) (s : List ℕ) (at : ℕ) (list : Decl → List A) where
+  counted-listed : (d : Decl) (n : ℕ) (b : Good (counted p s n)) → list d ≡ valueOr [] (many p (itemsAt s n .count) s (itemsAt s n .start))
+      → Listed p s (itemsAt s n) (list d)
+  unfolding itemsAt
+  counted-listed d n b e = record { inside = count-inside p s n b; good = counted-good p s n b; are = e }
+
+  -- name, marks and a count
+  module _ (k : Name → Marks → List A → Decl) (l : (x : Name) (m : Marks) (xs : List A) → list (k x m xs) ≡ xs) where
+    marked-list : Parsed Decl
+    marked-list = bind (nameAt 8 s at) (λ x n₁. bind (marksAt s n₁) (λ m n₂. bind (counted p s n₂) (λ xs n₃. ok (k x m xs) n₃)))
+
+    marked-listed : Good marked-list → Listed p s (itemsAt s (nameEnd s at + 1)) (list (valueOr noDecl marked-list))
+    unfolding marked-list NameHere valueOr
+    marked-listed g =
+        let n = name-is s at (good-first [] (nameAt 8 s at) _ g) in
+        let g₂ = then-good _ n g in
+        let m = marks-is s (nameEnd s at) (good-first unmarked (marksAt s (nameEnd s at)) _ g₂) .0 in
+        let b = good-first [] (counted p s (nameEnd s at + 1)) _ (then-good _ m g₂) in
+        let e = counted-is p s _ b ∙ good-is [] _ (counted-good p s (nameEnd s at + 1) b) in
+        counted-listed _ (nameEnd s at + 1) b (ap (λ (q : Parsed Decl). list (valueOr noDecl q)) (then-is _ n ∙ then-is _ m ∙ then-is _ e) ∙ l _ _ _)
+
+  -- name and a count
+  module _ (k : Name → List A → Decl) (l : (x : Name) (xs : List A) → list (k x xs) ≡ xs) where
+    plain-list : Parsed Decl
+    plain-list = bind (nameAt 8 s at) (λ x n₁. bind (counted p s n₁) (λ xs n₂. ok (k x xs) n₂))
+
+    plain-listed : Good plain-list → Listed p s (itemsAt s (nameEnd s at)) (list (valueOr noDecl plain-list))
+    unfolding plain-list NameHere valueOr
+    plain-listed g =
+        let n = name-is s at (good-first [] (nameAt 8 s at) _ g) in
+        let b = good-first [] (counted p s (nameEnd s at)) _ (then-good _ n g) in
+        let e = counted-is p s _ b ∙ good-is [] _ (counted-good p s (nameEnd s at) b) in
+        counted-listed _ (nameEnd s at) b (ap (λ (q : Parsed Decl). list (valueOr noDecl q)) (then-is _ n ∙ then-is _ e) ∙ l _ _)
+
+-- where a declaration's count stands, by its kind
+pub items-marked : (s : List ℕ) (at : ℕ) → declIn s at .kind ≤ 1 → itemsIn s at ≡ itemsAt s (nameEnd s (at + 1) + 1)
+unfolding itemsIn
+items-marked s at l = rw (le-leb (declIn s at .kind) 1 l)
+
+pub items-plain : (s : List ℕ) (at : ℕ) → 1 < declIn s at .kind → itemsIn s at ≡ itemsAt s (nameEnd s (at + 1))
+unfolding itemsIn
+items-plain s at l =
+    let z : nameEnd s (at + 1) + 0 ≡ nameEnd s (at + 1) = omega arith in
+    rw (lt-leb (declIn s at .kind) 1 l, z)
+
+-- the items of each kind
+module _ (s : List ℕ) (at : ℕ) (g : DeclHere s at) where
+  message-listed : declIn s at .kind ≡ 0 → Listed fieldAt s (itemsIn s at) (declIn s at .fields)
+  unfolding declAt messageAt marked-list
+  message-listed e =
+      rw (items-marked s at (omega arith), kind-value s at g 0 e)
+      (marked-listed fieldAt s (at + 1) (λ d. d .fields) (λ x m fs. decl 0 x m fs [] noType) (λ x m fs. refl) (kind-good s at g 0 e))
+
+  enum-listed : declIn s at .kind ≡ 1 → Listed bareAt s (itemsIn s at) (declIn s at .variants)
+  unfolding declAt enumAt marked-list
+  enum-listed e =
+      rw (items-marked s at (omega arith), kind-value s at g 1 e)
+      (marked-listed bareAt s (at + 1) (λ d. d .variants) (λ x m vs. decl 1 x m [] vs noType) (λ x m vs. refl) (kind-good s at g 1 e))
+
+  flags-listed : declIn s at .kind ≡ 2 → Listed bareAt s (itemsIn s at) (declIn s at .variants)
+  unfolding declAt flagsAt plain-list
+  flags-listed e =
+      rw (items-plain s at (omega arith), kind-value s at g 2 e)
+      (plain-listed bareAt s (at + 1) (λ d. d .variants) (λ x vs. decl 2 x unmarked [] vs noType) (λ x vs. refl) (kind-good s at g 2 e))
+
+  union-listed : declIn s at .kind ≡ 3 → Listed variantAt s (itemsIn s at) (declIn s at .variants)
+  unfolding declAt unionAt plain-list
+  union-listed e =
+      rw (items-plain s at (omega arith), kind-value s at g 3 e)
+      (plain-listed variantAt s (at + 1) (λ d. d .variants) (λ x vs. decl 3 x unmarked [] vs noType) (λ x vs. refl) (kind-good s at g 3 e))
+
+  pub items-inside : declIn s at .kind ≤ 3 → itemsIn s at .start ≤ length s
+  items-inside l = go (declIn s at .kind) refl l
+    where
+      go : (k : ℕ) → declIn s at .kind ≡ k → k ≤ 3 → itemsIn s at .start ≤ length s
+      go zero e l = message-listed e .inside
+      go (suc zero) e l = enum-listed e .inside
+      go (suc (suc zero)) e l = flags-listed e .inside
+      go (suc (suc (suc zero))) e l = union-listed e .inside
+      go (suc (suc (suc (suc k)))) e l = absurd (omega arith)
+
+-- the same, said of the shapes
+module _ (s : List ℕ) (n : Items) where
+  abbrev Are : (h : Shape) → (ℕ → ItemOf h) → List (ItemOf h) → Type 0
+  Are h item xs = ItemsHere h s (n .count) (n .start) × (xs ≡ map item (placesFrom h s (n .count) (n .start)))
+
+  fields-are : {xs : List Field} → Listed fieldAt s n xs → Are shape.Field (fieldIn s) xs
+  unfolding ItemsHere itemAt itemEnd placesFrom fieldIn
+  fields-are l = (l .good, l .are ∙ many-places noField fieldAt s _ _ (l .good))
+
+  bares-are : {xs : List Variant} → Listed bareAt s n xs → Are shape.Bare (bareIn s) xs
+  unfolding ItemsHere itemAt itemEnd placesFrom bareIn
+  bares-are l = (l .good, l .are ∙ many-places noVariant bareAt s _ _ (l .good))
+
+  variants-are : {xs : List Variant} → Listed variantAt s n xs → Are shape.Variant (variantIn s) xs
+  unfolding ItemsHere itemAt itemEnd placesFrom variantIn
+  variants-are l = (l .good, l .are ∙ many-places noVariant variantAt s _ _ (l .good))
+
+module _ (s : List ℕ) (at : ℕ) (g : DeclHere s at) where
+  pub message-items : declIn s at .kind ≡ 0 → ItemsHere shape.Field s (itemsIn s at .count) (itemsIn s at .start)
+  message-items e = fields-are s (itemsIn s at) (message-listed s at g e) .0
+
+  pub message-fields : declIn s at .kind ≡ 0 → declIn s at .fields ≡ map (fieldIn s) (placesFrom shape.Field s (itemsIn s at .count) (itemsIn s at .start))
+  message-fields e = fields-are s (itemsIn s at) (message-listed s at g e) .1
+
+  pub enum-items : declIn s at .kind ≡ 1 → ItemsHere shape.Bare s (itemsIn s at .count) (itemsIn s at .start)
+  enum-items e = bares-are s (itemsIn s at) (enum-listed s at g e) .0
+
+  pub enum-variants : declIn s at .kind ≡ 1 → declIn s at .variants ≡ map (bareIn s) (placesFrom shape.Bare s (itemsIn s at .count) (itemsIn s at .start))
+  enum-variants e = bares-are s (itemsIn s at) (enum-listed s at g e) .1
+
+  pub flags-items : declIn s at .kind ≡ 2 → ItemsHere shape.Bare s (itemsIn s at .count) (itemsIn s at .start)
+  flags-items e = bares-are s (itemsIn s at) (flags-listed s at g e) .0
+
+  pub flags-bits : declIn s at .kind ≡ 2 → declIn s at .variants ≡ map (bareIn s) (placesFrom shape.Bare s (itemsIn s at .count) (itemsIn s at .start))
+  flags-bits e = bares-are s (itemsIn s at) (flags-listed s at g e) .1
+
+  pub union-items : declIn s at .kind ≡ 3 → ItemsHere shape.Variant s (itemsIn s at .count) (itemsIn s at .start)
+  union-items e = variants-are s (itemsIn s at) (union-listed s at g e) .0
+
+  pub union-variants : declIn s at .kind ≡ 3 → declIn s at .variants ≡ map (variantIn s) (placesFrom shape.Variant s (itemsIn s at .count) (itemsIn s at .start))
+  union-variants e = variants-are s (itemsIn s at) (union-listed s at g e) .1
+
+  -- a newtype's type
+  module _ (e : declIn s at .kind ≡ 4) where
+    newtype : (Good (typeAt s (innerPlace s at))) × (newtypeAt s (at + 1) ≡ bind (typeAt s (innerPlace s at)) (λ t n. ok (decl 4 (nameIn s (at + 1)) unmarked [] [] t) n))
+    unfolding declAt newtypeAt NameHere innerPlace
+    newtype =
+        let b = kind-good s at g 4 e in
+        let n = name-is s (at + 1) (good-first [] (nameAt 8 s (at + 1)) _ b) in
+        (good-first noType (typeAt s (nameEnd s (at + 1))) _ (then-good _ n b), then-is _ n)
+
+    pub inner-here : TypeHere 32 s (innerPlace s at)
+    inner-here = type-here s (innerPlace s at) (newtype .0)
+
+    pub inner-tree : declIn s at .inner ≡ treeIn s (innerPlace s at)
+    unfolding declAt valueOr
+    inner-tree =
+        ap (λ (d : Decl). d .inner) (kind-value s at g 4 e)
+        ∙ ap (λ (q : Parsed Decl). valueOr noDecl q .inner) (newtype .1 ∙ then-is _ (type-at-is s (innerPlace s at) (newtype .0)))
