@@ -8,3 +8,4 @@ pub mod Trees
 pub mod Items
 pub mod Fields
 pub mod Decls
+pub mod Contents
