@@ -9,3 +9,4 @@ pub mod Items
 pub mod Fields
 pub mod Decls
 pub mod Contents
+pub mod Skips

@@ -157,7 +157,7 @@ module _ {by : ℕ} {t s : List ℕ} (h : Part by t s) where
       kept-need _ _ _ _ (λ b. ap nameBytes (sym q) ∙ b) (λ _. kept-as (sym q) (omega arith))))
 
 -- so many of a kind
-many-kept : {A : Type 0} {by : ℕ} {t s : List ℕ} (p q : List ℕ → ℕ → Parsed A) → ((at : ℕ) → Kept by (p t at) (q s (by + at)))
+pub many-kept : {A : Type 0} {by : ℕ} {t s : List ℕ} (p q : List ℕ → ℕ → Parsed A) → ((at : ℕ) → Kept by (p t at) (q s (by + at)))
     → (c at : ℕ) → Kept by (many p c t at) (many q c s (by + at))
 unfolding many
 many-kept p q h zero at = kept-ok refl
@@ -169,7 +169,7 @@ unfolding shift
 shift-kept by at (kept-ok {n = n} {m = m} e) = let z : by + at + m ≡ by + (at + n) = omega arith in kept-ok z
 shift-kept by at kept-no = kept-no
 
-within-kept : {A : Type 0} {by : ℕ} {t s : List ℕ} (p q : List ℕ → Parsed A) → ((u v : List ℕ) → Part 0 u v → Kept 0 (p u) (q v)) → Part by t s
+pub within-kept : {A : Type 0} {by : ℕ} {t s : List ℕ} (p q : List ℕ → Parsed A) → ((u v : List ℕ) → Part 0 u v → Kept 0 (p u) (q v)) → Part by t s
     → (at : ℕ) → Kept by (within p t at) (within q s (by + at))
 unfolding within
 within-kept {by = by} p q f h at = shift-kept by at (f _ _ (part-drop _ _ _ at h))

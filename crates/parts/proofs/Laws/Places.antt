@@ -41,7 +41,7 @@ module _ {A : Type 0} (d : A) (p : List ℕ → ℕ → Parsed A) (s : List ℕ)
       ∙ ap (λ (l : List A). valueOr d (p s at) ∷ l) (rw sub-one (many-places c (endOf (p s at)) (rw sub-one at (many-rest d p (suc c) s at h g))))
 
   -- a good one before others
-  many-make : (c at : ℕ) → Good (p s at) → Good (many p c s (endOf (p s at)))
+  pub many-make : (c at : ℕ) → Good (p s at) → Good (many p c s (endOf (p s at)))
       → Good (many p (suc c) s at) × (endOf (many p (suc c) s at) ≡ endOf (many p c s (endOf (p s at))))
   unfolding many
   many-make c at b g =
