@@ -21,7 +21,7 @@ use Rattle.parts.specs.declared.Entry.{Entry}
 use Rattle.parts.specs.declared.Entry.the-variants.{Body, Unresolvable}
 use Rattle.parts.specs.declared.Shape.{Shape}
 use Rattle.parts.specs.declared.Shape.the-variants as shape
-use Rattle.parts.specs.declared.Items.{Items}
+use Rattle.parts.specs.declared.Run.{Run}
 use Rattle.parts.specs.declared.Encoding.{Encoding}
 use Rattle.parts.specs.declared.Limit.{Limit}
 use Rattle.parts.specs.declared.Limit.the-variants.{Most, Unlimited}
@@ -90,7 +90,7 @@ unfoldable pub labelEnd : List ℕ → ℕ → ℕ
 labelEnd s at = at + endOf (labelOf (drop at s))
 
 -- the names of bits
-unfoldable pub bitsIn : List ℕ → ℕ → Items
+unfoldable pub bitsIn : List ℕ → ℕ → Run
 bitsIn s at = record { start = at + 2; count = getD s (at + 1) 0 }
 
 -- a type of at most `left` nodes on a path; at most 32 stand anywhere
@@ -124,11 +124,15 @@ itemEnd h s at = endOf (itemAt h s at)
 unfoldable pub ItemsHere : Shape → List ℕ → ℕ → ℕ → Type 0
 ItemsHere h s count at = Good (many (itemAt h) count s at)
 
+-- the place after so many items
+unfoldable pub itemsEnd : Shape → List ℕ → ℕ → ℕ → ℕ
+itemsEnd h s count at = endOf (many (itemAt h) count s at)
+
 unfoldable pub placesFrom : Shape → List ℕ → ℕ → ℕ → List ℕ
 placesFrom h s count at = placesBy (itemEnd h s) count at
 
 -- a u16 count, and as many items
-unfoldable pub itemsAt : List ℕ → ℕ → Items
+unfoldable pub itemsAt : List ℕ → ℕ → Run
 itemsAt s at = record { start = at + 2; count = littleEndian 2 (drop at s) }
 
 unfoldable pub bareIn : List ℕ → ℕ → Variant
@@ -138,7 +142,7 @@ unfoldable pub variantIn : List ℕ → ℕ → Variant
 variantIn s at = valueOr noVariant (variantAt s at)
 
 -- the fields of a union's variant
-unfoldable pub variantItems : List ℕ → ℕ → Items
+unfoldable pub variantItems : List ℕ → ℕ → Run
 variantItems s at = itemsAt s (nameEnd s (at + 4))
 
 -- Every item starts with its ordinal and its name, as a bare one does.
@@ -158,6 +162,9 @@ marksPlace s at = nameEnd s (at + 4)
 
 unfoldable pub encodingPlace : List ℕ → ℕ → ℕ
 encodingPlace s at = marksPlace s at + 1
+
+unfoldable pub encodingIn : List ℕ → ℕ → Coding
+encodingIn s at = valueOr (plain 0) (encodingAt s at)
 
 unfoldable pub limitPlace : List ℕ → ℕ → ℕ
 limitPlace s at = endOf (encodingAt s (encodingPlace s at))
@@ -184,7 +191,7 @@ unfoldable pub declIn : List ℕ → ℕ → Decl
 declIn s at = valueOr noDecl (bodyAt s at)
 
 -- the items of a message, an enum, flags or a union: only the first two have marks before the count
-unfoldable pub itemsIn : List ℕ → ℕ → Items
+unfoldable pub itemsIn : List ℕ → ℕ → Run
 itemsIn s at = itemsAt s (nameEnd s (at + 1) + cond (leb (declIn s at .kind) 1) 1 0)
 
 -- the type of a newtype
@@ -205,5 +212,5 @@ pub record Resolved (s : List ℕ) (id : ℕ) (r : Entry) : Type 0 where
   pub here : EntryHere s r
 
 -- the namespace's segments
-unfoldable pub segmentsIn : List ℕ → Items
+unfoldable pub segmentsIn : List ℕ → Run
 segmentsIn s = record { start = segmentsAt s; count = segmentCount s }

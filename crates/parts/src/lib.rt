@@ -1,7 +1,9 @@
 // The parts of an accepted image: the entry of an id, and what stands in its declaration, down to the names and the types. Each accessor
 // takes the image and a place in it, which the promise (specs/Promise.antt, proofs/Promise.antt) shows to be well formed, and reads no
 // more than it must: nothing is validated again.
-ghost use mathlib.Core.Path.{_≡_};
+
+pub mod names;
+pub mod types;
 
 // What an id stands for: a declaration whose body starts at a place, or nothing.
 pub enum Entry {
@@ -17,7 +19,7 @@ pub enum Shape {
 }
 
 // So many items, or names, one after the other.
-pub struct Items {
+pub struct Run {
     pub start: usize,
     pub count: usize,
 }

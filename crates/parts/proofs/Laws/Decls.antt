@@ -19,7 +19,7 @@ use Rattle.image.proofs.Laws.Good.{sure-good, good-first}
 use Rattle.parts.specs.Promise.{noField, noVariant, noDecl, NameHere, nameIn, nameEnd, TypeHere, treeIn, ItemOf, itemAt, itemEnd, ItemsHere, placesFrom, itemsAt, bareIn, variantIn, fieldIn, bodyAt, DeclHere, declIn, itemsIn, innerPlace}
 use Rattle.parts.specs.declared.Shape.{Shape}
 use Rattle.parts.specs.declared.Shape.the-variants as shape
-use Rattle.parts.specs.declared.Items.{Items}
+use Rattle.parts.specs.declared.Run.{Run}
 use Rattle.parts.proofs.Laws.Steps.{good-is, then-is, then-good, byte-is, marks-is, name-is}
 use Rattle.parts.proofs.Laws.Places.{many-places}
 use Rattle.parts.proofs.Laws.Items.{type-here, type-at-is, count-inside, counted-is, counted-good}
@@ -126,7 +126,7 @@ module _ (s : List ℕ) (at : ℕ) (g : DeclHere s at) where
     kind-value = ap (valueOr noDecl) of-kind
 
 -- a list of items stands at its place, and is this
-pub record Listed {A : Type 0} (p : List ℕ → ℕ → Parsed A) (s : List ℕ) (n : Items) (xs : List A) : Type 0 where
+pub record Listed {A : Type 0} (p : List ℕ → ℕ → Parsed A) (s : List ℕ) (n : Run) (xs : List A) : Type 0 where
   pub inside : n .start ≤ length s
   pub good : Good (many p (n .count) s (n .start))
   pub are : xs ≡ valueOr [] (many p (n .count) s (n .start))
@@ -212,8 +212,28 @@ module _ (s : List ℕ) (at : ℕ) (g : DeclHere s at) where
       go (suc (suc (suc zero))) e l = union-listed e .inside
       go (suc (suc (suc (suc k)))) e l = absurd (omega arith)
 
+  -- where the code reads the count, after a name that ends at e
+  module _ (l : declIn s at .kind ≤ 3) {e : ℕ} (q : e ≡ nameEnd s (at + 1)) where
+    pub items-after : 1 < getD s at 0 → (e + 2 ≤ length s) × (itemsAt s e ≡ itemsIn s at)
+    unfolding itemsAt
+    items-after k =
+        let z = items-plain s at (let d = decl-kind s at g in omega arith) in
+        let y : itemsAt s e ≡ itemsIn s at = ap (itemsAt s) q ∙ sym z in
+        let x = ap (λ (n : Run). n .start) y in
+        let w = items-inside l in
+        (omega arith, y)
+
+    pub items-after-marks : getD s at 0 ≤ 1 → (e + 1 + 2 ≤ length s) × (itemsAt s (e + 1) ≡ itemsIn s at)
+    unfolding itemsAt
+    items-after-marks k =
+        let z = items-marked s at (let d = decl-kind s at g in omega arith) in
+        let y : itemsAt s (e + 1) ≡ itemsIn s at = ap (λ (n : ℕ). itemsAt s (n + 1)) q ∙ sym z in
+        let x = ap (λ (n : Run). n .start) y in
+        let w = items-inside l in
+        (omega arith, y)
+
 -- the same, said of the shapes
-module _ (s : List ℕ) (n : Items) where
+module _ (s : List ℕ) (n : Run) where
   abbrev Are : (h : Shape) → (ℕ → ItemOf h) → List (ItemOf h) → Type 0
   Are h item xs = ItemsHere h s (n .count) (n .start) × (xs ≡ map item (placesFrom h s (n .count) (n .start)))
 

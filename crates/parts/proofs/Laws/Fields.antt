@@ -13,8 +13,13 @@ use Rattle.image.specs.Fields.{plain, delta, encodingOf, encodingAt, limitAt}
 use Rattle.image.specs.WellFormed.{Good, valueOr, endOf}
 use Rattle.image.proofs.Laws.Sure.{Sure, sure-ok, sure-no, sure-bind, sure-pick, Byte, code-sure}
 use Rattle.image.proofs.Laws.Good.{sure-good, good-first}
-use Rattle.parts.specs.Promise.{encodingPlace, limitPlace, typePlace}
+use Rattle.parts.specs.Promise.{nameEnd, ItemHere, fieldIn, marksPlace, encodingPlace, encodingIn, limitPlace, typePlace}
+use Rattle.parts.specs.Promise.{encodingOf as codingOf}
+use Rattle.parts.specs.declared.Shape.the-variants as shape
+use Rattle.parts.specs.declared.Limit.the-variants.{Most, Unlimited}
+use Rattle.parts.specs.Promise.{limitOf}
 use Rattle.parts.proofs.Laws.Steps.{then-is, then-good, code-is, number-is}
+use Rattle.parts.proofs.Laws.Items.{parts-of-field, field-encoding, field-limit}
 
 -- an encoding is as many bytes 3 as it has deltas, and the base
 pub record Encoded (s : List ℕ) (at : ℕ) (e : Encoding) (n : ℕ) : Type 0 where
@@ -66,8 +71,8 @@ module _ (s : List ℕ) where
       (λ h. sure-bind _ (encoding-of-sure left n) (λ e m r. sure-ok (one-more at b n m e (q .byte) (eqb-true b 3 h) r)))
       (λ h. sure-ok (base-only at b n (q .byte) (eqb-false b 3 h))))
 
-  pub encoding-stands : (at : ℕ) → Good (encodingAt s at) → Encoded s at (valueOr (plain 0) (encodingAt s at)) (endOf (encodingAt s at))
-  unfolding encodingAt
+  pub encoding-stands : (at : ℕ) → Good (encodingAt s at) → Encoded s at (encodingIn s at) (endOf (encodingAt s at))
+  unfolding encodingIn encodingAt
   encoding-stands at g = sure-good (plain 0) (encoding-of-sure 8 at) g
 
 -- a limit is a byte 0, or another and a number
@@ -92,3 +97,83 @@ module _ (s : List ℕ) (at : ℕ) (g : Good (limitAt s at)) where
       let e = limit-some f in
       let h = number-is s (at + 1) 8 (good-first 0 (numberAt 8 s (at + 1)) _ (rw e at g)) in
       (e ∙ then-is _ (h .0), h .1)
+
+coding : ℕ → ℕ → Encoding
+coding n b = record { deltas = n; base = b }
+
+-- counting the deltas
+module _ (s : List ℕ) (at : ℕ) (g : Good (encodingAt s at)) (n : ℕ) (l : n ≤ encodingIn s at .deltas) where
+  pub delta-there : at + n < length s
+  delta-there = let h = encoding-stands s at g in let i = h .inside in let j = h .next in omega arith
+
+  pub delta-more : getD s (at + n) 0 ≡ 3 → n < encodingIn s at .deltas
+  delta-more e =
+      let h = encoding-stands s at g in
+      let f : n ≡ encodingIn s at .deltas → ⊥ = λ q. h .other (h .base ∙ ap (λ (k : ℕ). getD s (at + k) 0) (sym q) ∙ e) in
+      omega arith
+
+  pub delta-done : (getD s (at + n) 0 ≡ 3 → ⊥) → n ≡ encodingIn s at .deltas
+  delta-done f =
+      let h = encoding-stands s at g in
+      let k : n < encodingIn s at .deltas → ⊥ = λ q. f (h .deltas n q) in
+      omega arith
+
+-- the places and the values of a field's parts after the name, which ends at e
+module _ (s : List ℕ) (at : ℕ) (g : ItemHere shape.Field s at) where
+  module _ {e : ℕ} (q : e ≡ nameEnd s (at + 4)) where
+    pub encoding-good : Good (encodingAt s (e + 1))
+    unfolding encodingPlace marksPlace
+    encoding-good = rw q (parts-of-field s at g .encoding)
+
+    pub marks-there : e < length s
+    unfolding marksPlace
+    marks-there = rw q (parts-of-field s at g .marks)
+
+    module _ {n : ℕ} (d : n ≡ encodingIn s (e + 1) .deltas) where
+      pub base-there : e + 1 + n < length s
+      base-there = delta-there s (e + 1) encoding-good n (omega arith)
+
+      pub limit-at : e + 1 + n + 1 ≡ limitPlace s at
+      unfolding limitPlace encodingPlace marksPlace
+      limit-at =
+          let h = encoding-stands s (e + 1) encoding-good .next in
+          ap (λ (k : ℕ). e + 1 + k + 1) d ∙ sym h ∙ ap (λ (k : ℕ). endOf (encodingAt s (k + 1))) q
+
+      pub coded : codingOf (record { deltas = n; base = getD s (e + 1 + n) 0 }) ≡ fieldIn s at .encoding
+      unfolding coding codingOf encodingIn encodingPlace marksPlace
+      coded =
+          let h = encoding-stands s (e + 1) encoding-good .base in
+          ap₂ coding d (ap (λ (k : ℕ). getD s (e + 1 + k) 0) d ∙ sym h) ∙ ap (λ (k : ℕ). encodingIn s (k + 1)) q ∙ sym (field-encoding s at g)
+
+  pub limit-good : Good (limitAt s (limitPlace s at))
+  limit-good = parts-of-field s at g .limit
+
+  module _ {p : ℕ} (q : p ≡ limitPlace s at) where
+    good : Good (limitAt s p)
+    good = rw q limit-good
+
+    pub place-there : p < length s
+    place-there = limit-there s p good
+
+    value : fieldIn s at .limit ≡ valueOr none (limitAt s p)
+    value = field-limit s at g ∙ ap (λ (k : ℕ). valueOr none (limitAt s k)) (sym q)
+
+    type-at : typePlace s at ≡ endOf (limitAt s p)
+    unfolding typePlace
+    type-at = ap (λ (k : ℕ). endOf (limitAt s k)) (sym q)
+
+    pub unlimited : getD s p 0 ≡ 0 → (limitOf Unlimited ≡ fieldIn s at .limit) × (p + 1 ≡ typePlace s at)
+    unfolding limitOf valueOr endOf
+    unlimited e = let r = limit-none s p good e in (sym (value ∙ ap (valueOr none) r), sym (type-at ∙ ap endOf r))
+
+    module _ (f : getD s p 0 ≡ 0 → ⊥) where
+      pub number-there : p + 1 + 8 ≤ length s
+      number-there = limit-number s p good f .1
+
+      pub limited : {v : ℕ} → v ≡ littleEndian 8 (drop (p + 1) s) → limitOf (Most v) ≡ fieldIn s at .limit
+      unfolding limitOf valueOr
+      limited e = sym (value ∙ ap (valueOr none) (limit-number s p good f .0) ∙ ap some (sym e))
+
+      pub type-after : p + 9 ≡ typePlace s at
+      unfolding endOf
+      type-after = let r = ap endOf (limit-number s p good f .0) in let t = type-at in omega arith

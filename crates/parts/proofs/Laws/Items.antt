@@ -14,11 +14,11 @@ use Rattle.image.specs.Types.{typeOf, typeAt}
 use Rattle.image.specs.Fields.{marksOf, marksAt, plain, encodingAt, limitAt, fieldAt, bareAt, variantAt}
 use Rattle.image.specs.WellFormed.{Good, valueOr, endOf}
 use Rattle.image.proofs.Laws.Good.{good-first, within-good, within-value, within-end, many-first, many-rest}
-use Rattle.parts.specs.Promise.{noField, noVariant, NameHere, nameIn, nameEnd, TypeHere, treeIn, typeEnd, ItemOf, itemAt, ItemHere, itemEnd, ItemsHere, placesFrom, itemsAt, bareIn, ordinalIn, itemName, variantIn, variantItems, fieldIn, marksPlace, encodingPlace, limitPlace, typePlace}
+use Rattle.parts.specs.Promise.{noField, noVariant, NameHere, nameIn, nameEnd, TypeHere, treeIn, typeEnd, ItemOf, itemAt, ItemHere, itemEnd, ItemsHere, itemsEnd, placesFrom, itemsAt, bareIn, ordinalIn, itemName, variantIn, variantItems, fieldIn, marksPlace, encodingPlace, limitPlace, typePlace}
 use Rattle.parts.specs.declared.Shape.{Shape}
 use Rattle.parts.specs.declared.Shape.the-variants as shape
 use Rattle.parts.proofs.Laws.Steps.{good-is, then-is, then-good, number-is, number-there, marks-is, name-is}
-use Rattle.parts.proofs.Laws.Places.{many-places}
+use Rattle.parts.proofs.Laws.Places.{many-places, many-turn, many-done}
 
 -- a type at a place
 module _ (s : List ℕ) (at : ℕ) (g : Good (typeAt s at)) where
@@ -164,6 +164,14 @@ module _ (s : List ℕ) (at : ℕ) where
   unfolding ItemHere itemAt bareIn valueOr
   bare-key g = let e = ap (valueOr noVariant) (bare-parts s at g .is) in (ap (λ (v : Variant). v .ordinal) e, ap (λ (v : Variant). v .name) e)
 
+  pub parts-of-bare : ItemHere shape.Bare s at → BareParts s at
+  unfolding ItemHere itemAt
+  parts-of-bare g = bare-parts s at g
+
+  pub bare-end : ItemHere shape.Bare s at → itemEnd shape.Bare s at ≡ nameEnd s (at + 4)
+  unfolding itemEnd itemAt endOf
+  bare-end g = ap endOf (parts-of-bare g .is)
+
   pub item-bare : (h : Shape) → ItemHere h s at → ItemHere shape.Bare s at
   unfolding ItemHere itemAt
   item-bare shape.Field g = let p = field-parts s at g in bare-good s at (p .inside) (p .name)
@@ -229,8 +237,8 @@ module _ (s : List ℕ) (at : ℕ) where
     unfolding variantIn valueOr fieldIn placesFrom itemEnd itemAt
     variant-fields = ap (λ (p : Parsed Variant). valueOr noVariant p .fields) (parts-of-variant .is) ∙ many-places noField fieldAt s _ _ (parts-of-variant .items)
 
-    pub variant-end : itemEnd shape.Variant s at ≡ endOf (many fieldAt (variantItems s at .count) s (variantItems s at .start))
-    unfolding itemEnd itemAt endOf
+    pub variant-end : itemEnd shape.Variant s at ≡ itemsEnd shape.Field s (variantItems s at .count) (variantItems s at .start)
+    unfolding itemEnd itemsEnd itemAt endOf
     variant-end = ap endOf (parts-of-variant .is)
 
 noItem : (h : Shape) → ItemOf h
@@ -247,3 +255,11 @@ module _ (h : Shape) (s : List ℕ) (c at : ℕ) (l : 0 < c) (g : ItemsHere h s 
   pub items-rest : ItemsHere h s (c - 1) (itemEnd h s at)
   unfolding ItemsHere itemEnd
   items-rest = many-rest (noItem h) (itemAt h) c s at l g
+
+  pub items-turn : (n : ℕ) → n ≡ itemEnd h s at → ItemsHere h s (c - 1) n × (itemsEnd h s (c - 1) n ≡ itemsEnd h s c at)
+  unfolding ItemsHere itemEnd itemsEnd
+  items-turn n e = many-turn (noItem h) (itemAt h) s c at n l g e
+
+pub items-done : (h : Shape) (s : List ℕ) (c at : ℕ) → c ≤ 0 → itemsEnd h s c at ≡ at
+unfolding itemsEnd
+items-done h s c at l = many-done (noItem h) (itemAt h) s c at l

@@ -212,3 +212,40 @@ module _ (s : List ℕ) (at : ℕ) (g : LabelHere s at) where
       let z : at + 1 + 1 ≡ at + 2 = omega arith in
       ap (λ (x : Label). x .names) (value 16 bits e refl (p .0)) ∙ many-places [] (nameAt 8) s _ _ (p .2)
       ∙ ap (λ (n : ℕ). map (nameIn s) (namePlaces s (getD s (at + 1) 0) n)) z
+
+-- where a label ends, by what follows its tag
+abbrev pub Ended : Follows → List ℕ → ℕ → Type 0
+Ended (code most) s at = (labelEnd s at ≡ at + 2) × (at + 2 ≤ length s)
+Ended subByte s at = (labelEnd s at ≡ at + 3) × (at + 3 ≤ length s)
+Ended identity s at = (labelEnd s at ≡ at + 5) × (at + 5 ≤ length s)
+Ended size s at = (labelEnd s at ≡ at + 9) × (at + 9 ≤ length s)
+Ended nothing s at = (labelEnd s at ≡ at + 1) × (at + 1 ≤ length s)
+Ended bits s at = (labelEnd s at ≡ namesEnd s (getD s (at + 1) 0) (at + 2)) × (at + 1 < length s) × NamesHere s (getD s (at + 1) 0) (at + 2)
+Ended unknown s at = ⊥
+
+module _ (s : List ℕ) (at : ℕ) (g : LabelHere s at) where
+  ends : (f : Follows) → followsTag (getD s at 0) ≡ f → {l : Label} {n : ℕ} → afterTag (getD s at 0) f s (at + 1) ≡ ok l n → labelEnd s at ≡ n
+  ends f q {l} {n} r = label-is s at g f q l n r .1
+
+  by-follows : (f : Follows) → followsTag (getD s at 0) ≡ f → Ended f s at
+  unfolding NamesHere namesEnd
+  by-follows (code most) q = let p = label-after s at g (code most) q in let e = ends (code most) q (p .0) in let i = p .1 in (omega arith, omega arith)
+  by-follows subByte q = let p = label-after s at g subByte q in let e = ends subByte q (p .0) in let i = p .1 in (omega arith, omega arith)
+  by-follows identity q = let p = label-after s at g identity q in let e = ends identity q (p .0) in let i = p .1 in (omega arith, omega arith)
+  by-follows size q = let p = label-after s at g size q in let e = ends size q (p .0) in let i = p .1 in (omega arith, omega arith)
+  by-follows nothing q = let p = label-after s at g nothing q in let e = ends nothing q (p .0) in let i = label-there s at g in (e, omega arith)
+  by-follows bits q =
+      let p = label-after s at g bits q in
+      let z : at + 1 + 1 ≡ at + 2 = omega arith in
+      (ends bits q (p .0) ∙ ap (λ (n : ℕ). endOf (namesAt 8 (getD s (at + 1) 0) s n)) z, p .1, rw z at (p .2))
+  by-follows unknown q = label-after s at g unknown q
+
+  pub ended : (t : ℕ) (f : Follows) → getD s at 0 ≡ t → followsTag t ≡ f → Ended f s at
+  ended t f e q = by-follows f (ap followsTag e ∙ q)
+
+  pub ended-bare : (getD s at 0 ≡ 0 → ⊥) → (getD s at 0 ≡ 1 → ⊥) → (getD s at 0 ≡ 2 → ⊥) → (getD s at 0 ≡ 3 → ⊥) → (getD s at 0 ≡ 6 → ⊥) → (getD s at 0 ≡ 16 → ⊥) → Ended nothing s at
+  ended-bare a b c d e f =
+      let m = defaults s at g .most in
+      let t = label-tag-is s at g in
+      let z : getD s at 0 < 16 = omega arith in
+      by-follows nothing (follows-nothing (getD s at 0) a b c d e f (omega arith))

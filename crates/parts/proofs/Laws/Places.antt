@@ -64,3 +64,13 @@ module _ {A : Type 0} (d : A) (p : List ℕ → ℕ → Parsed A) (s : List ℕ)
       let q = many-append i c (endOf (p s at)) (rw sub-one at (many-rest d p (suc i) s at l g)) (rw e at h) in
       let r = many-make (i + c) at (many-first d p (suc i) s at l g) (q .0) in
       rw (z, e) (r .0, r .1 ∙ q .1)
+
+  -- a loop passes one of them
+  pub many-turn : (c at n : ℕ) → 0 < c → Good (many p c s at) → n ≡ endOf (p s at) → Good (many p (c - 1) s n) × (endOf (many p (c - 1) s n) ≡ endOf (many p c s at))
+  many-turn c at n l g e = rw e (many-rest d p c s at l g, sym (many-end d p c s at l g))
+
+  pub many-done : (c at : ℕ) → c ≤ 0 → endOf (many p c s at) ≡ at
+  unfolding endOf
+  many-done c at l =
+      let z : c ≡ 0 = omega arith in
+      rw (z, many-none at)

@@ -21,16 +21,16 @@ use Rattle.image.proofs.Laws.Trees.{type-deeper, label-tag}
 use Rattle.parts.specs.Promise.{noLabel, NameHere, nameEnd, NamesHere, namesEnd, LabelHere, labelIn, labelEnd, TypeHere, typeEnd}
 use Rattle.parts.proofs.Laws.Kept.{Kept, kept-good, kept-end, Part, part-from, many-kept, within-kept, type-kept}
 use Rattle.parts.proofs.Laws.Steps.{good-is, then-is}
-use Rattle.parts.proofs.Laws.Places.{many-none, many-make, many-append}
-use Rattle.parts.proofs.Laws.Labels.{label-there}
+use Rattle.parts.proofs.Laws.Places.{many-none, many-make, many-append, many-turn, many-done}
+use Rattle.parts.proofs.Laws.Labels.{label-there, label-tag-is}
 use Rattle.parts.proofs.Laws.Trees.{type-label}
 use Rattle.parts.proofs.Laws.Items.{type-here, type-at-is}
 
--- so many names: the first, and the rest
+-- so many names
 module _ (s : List ℕ) (c at : ℕ) where
-  pub names-end-none : c ≡ 0 → namesEnd s c at ≡ at
-  unfolding namesEnd namesAt endOf
-  names-end-none e = rw (e, many-none [] (nameAt 8) s at)
+  pub names-done : c ≤ 0 → namesEnd s c at ≡ at
+  unfolding namesEnd namesAt
+  names-done l = many-done [] (nameAt 8) s c at l
 
   module _ (l : 0 < c) (g : NamesHere s c at) where
     pub names-first : NameHere s at
@@ -41,9 +41,9 @@ module _ (s : List ℕ) (c at : ℕ) where
     unfolding NamesHere nameEnd namesAt
     names-rest = many-rest [] (nameAt 8) c s at l g
 
-    pub names-end-more : namesEnd s c at ≡ namesEnd s (c - 1) (nameEnd s at)
+    pub names-turn : (n : ℕ) → n ≡ nameEnd s at → NamesHere s (c - 1) n × (namesEnd s (c - 1) n ≡ namesEnd s c at)
     unfolding NamesHere nameEnd namesEnd namesAt
-    names-end-more = many-end [] (nameAt 8) c s at l g
+    names-turn n e = many-turn [] (nameAt 8) s c at n l g e
 
 -- reads go forward
 many-forward : {A : Type 0} (p : List ℕ → ℕ → Parsed A) (s : List ℕ) → ((at : ℕ) → Sure (λ _ n. at ≤ n) (p s at)) → (c at : ℕ) → Sure (λ _ n. at ≤ n) (many p c s at)
@@ -157,9 +157,8 @@ types-start s at h =
     let r = many-make noType typeAt s 0 at g (rw n tt) in
     (r .0, r .1 ∙ ap endOf n ∙ e)
 
-pub types-done : (s : List ℕ) (c at : ℕ) → c ≡ 0 → endOf (many typeAt c s at) ≡ at
-unfolding endOf
-types-done s c at e = rw (e, many-none noType typeAt s at)
+pub types-done : (s : List ℕ) (c at : ℕ) → c ≤ 0 → endOf (many typeAt c s at) ≡ at
+types-done s c at l = many-done noType typeAt s c at l
 
 module _ (s : List ℕ) (c at : ℕ) (l : 0 < c) (g : Good (many typeAt c s at)) where
   first : Good (typeAt s at)
@@ -168,14 +167,18 @@ module _ (s : List ℕ) (c at : ℕ) (l : 0 < c) (g : Good (many typeAt c s at))
   pub types-first : TypeHere 32 s at
   types-first = type-here s at first
 
-  pub types-turn : (i : ℕ) → i ≡ innerTypes (labelIn s at .tag)
-      → Good (many typeAt (c - 1 + i) s (labelEnd s at)) × (endOf (many typeAt (c - 1 + i) s (labelEnd s at)) ≡ endOf (many typeAt c s at))
+  pub types-label : LabelHere s at
+  types-label = type-label s at 32 types-first
+
+  pub types-turn : (i n : ℕ) → i ≡ innerTypes (getD s at 0) → n ≡ labelEnd s at
+      → Good (many typeAt (c - 1 + i) s n) × (endOf (many typeAt (c - 1 + i) s n) ≡ endOf (many typeAt c s at))
   unfolding endOf
-  types-turn i q =
-      let n = innerTypes (labelIn s at .tag) in
-      let z : c - 1 + i ≡ n + (c - 1) = omega arith in
-      let t = label-there s at (type-label s at 32 types-first) in
+  types-turn i n q k =
+      let j = innerTypes (labelIn s at .tag) in
+      let y : i ≡ j = q ∙ ap innerTypes (sym (label-tag-is s at types-label)) in
+      let z : c - 1 + i ≡ j + (c - 1) = omega arith in
+      let t = label-there s at types-label in
       let r = node-inner s at types-first (omega arith) in
-      let e : endOf (typeAt s at) ≡ endOf (many typeAt n s (labelEnd s at)) = ap endOf (type-at-is s at first) ∙ sym (r .1) in
-      let o = many-append noType typeAt s n (c - 1) (labelEnd s at) (r .0) (rw e at (many-rest noType typeAt c s at l g)) in
-      rw z (o .0, o .1 ∙ ap (λ (m : ℕ). endOf (many typeAt (c - 1) s m)) (sym e) ∙ sym (many-end noType typeAt c s at l g))
+      let e : endOf (typeAt s at) ≡ endOf (many typeAt j s (labelEnd s at)) = ap endOf (type-at-is s at first) ∙ sym (r .1) in
+      let o = many-append noType typeAt s j (c - 1) (labelEnd s at) (r .0) (rw e at (many-rest noType typeAt c s at l g)) in
+      rw (k, z) (o .0, o .1 ∙ ap (λ (m : ℕ). endOf (many typeAt (c - 1) s m)) (sym e) ∙ sym (many-end noType typeAt c s at l g))

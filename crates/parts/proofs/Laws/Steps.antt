@@ -4,11 +4,12 @@ use mathlib.Core.Bool.{Bool, true, false}
 use mathlib.Core.List.{List, [], _∷_, map}
 use Prim.Native.Nat.{ℕ, zero, suc, _+_, _-_, _≤_, _<_}
 use native.Mathlib.Omega.{arith}
+use native.Mathlib.Nat.{add-sub-cancel-left}
 use native.Mathlib.Numerals.{sub-one}
 use borrow.Author.Tests.{le-leb}
-use lib.ListN.{length, getD, drop}
+use lib.ListN.{length, getD, take, drop}
 use Rattle.image.specs.Schema.{Marks}
-use Rattle.image.specs.Parse.{Parsed, ok, no, bind, pick, littleEndian, byteAt, codeAt, numberAt, many}
+use Rattle.image.specs.Parse.{Parsed, ok, no, bind, pick, part, littleEndian, byteAt, codeAt, numberAt, many}
 use Rattle.image.specs.Names.{nameAt, namesAt}
 use Rattle.image.specs.Fields.{marksOf, marksAt}
 use Rattle.image.specs.WellFormed.{Good, valueOr, endOf}
@@ -76,3 +77,8 @@ module _ (s : List ℕ) (at : ℕ) where
   pub name-stands : NameHere s at → Named s at (nameIn s at) (nameEnd s at)
   unfolding NameHere nameIn nameEnd
   name-stands g = sure-good [] (name-sure 8 s at) g
+
+  -- the bytes after its length
+  pub name-part : NameHere s at → take (at + 1 + getD s at 0 - (at + 1)) (drop (at + 1) s) ≡ nameIn s at
+  unfolding part
+  name-part g = rw (add-sub-cancel-left (at + 1) (getD s at 0)) (sym (name-stands g .value))
