@@ -1,0 +1,20 @@
+-- `parts::items::variant_end` meets its contract. Assumes nothing.
+use mathlib.Core.Path.{sym, ap, _∙_}
+use Rattle.parts.proofs.Laws.Items.{variant-items, variant-end}
+use Rattle.parts.specs.Promise.{itemsEnd}
+use Rattle.parts.specs.declared.Run.{Run}
+use Rattle.parts.specs.declared.Shape.{Shape}
+use Rattle.parts.proofs.items.variant_end.Statement.{statement}
+use Rattle.parts.proofs.items.variant_end.Tie as tie
+
+variant-items-requires : tie.Need-variant-items-requires
+variant-items-requires c κs = c .before .pre
+
+fields-end-requires : tie.Need-fields-end-requires
+fields-end-requires c κs = rw (c .variant-items .ensures) (variant-items _ _ (c .before .before .pre))
+
+returns : tie.Need-returns
+returns c = c .fields-end .ensures ∙ ap (λ (n : Run). itemsEnd Shape.Field (c .before .before .before .args .image .now) (n .count) (n .start)) (c .before .variant-items .ensures) ∙ sym (variant-end _ _ (c .before .before .before .pre))
+
+pub variant-end-spec : {M : Type 1} → statement M
+variant-end-spec = tie.close (tie.spec variant-items-requires fields-end-requires returns)

@@ -1,0 +1,73 @@
+// Declarations at places of the image.
+use crate::Run;
+use crate::items::items_at;
+use crate::names::name_at;
+use crate::names::name_end;
+ghost use mathlib.Core.Path.{_≡_};
+ghost use mathlib.Core.Bool.{Bool};
+ghost use Prim.Native.Nat.{_≤_};
+ghost use Rattle.image.specs.Fields.{marksOf};
+ghost use Rattle.parts.specs.Promise.{DeclHere, declIn, itemsIn, innerPlace};
+
+// 0 message, 1 enum, 2 flags, 3 union, 4 newtype, 5 config, 6 generic alias, 7 trait, 8 impl.
+pub fn decl_kind(image: &[u8], at: usize) -> u8
+    requires { ⌜ DeclHere (now image) at ⌝ }
+    ensures { λ r. ⌜ r ≡ declIn (now (image .entry)) at .kind ⌝ }
+{
+    image[at]
+}
+
+// The bytes of the name; an impl's is empty.
+pub fn decl_name(image: &[u8], at: usize) -> &[u8]
+    requires { ⌜ DeclHere (now image) at ⌝ }
+    ensures { λ r. ⌜ now r ≡ declIn (now (image .entry)) at .name ⌝ }
+{
+    if image[at] == 8 {
+        return &image[at..at];
+    }
+    name_at(image, at + 1)
+}
+
+// Whether a declaration is marked as deprecated: only messages and enums have marks.
+pub fn deprecated(image: &[u8], at: usize) -> bool
+    requires { ⌜ DeclHere (now image) at ⌝ }
+    ensures { λ r. ⌜ r ≡ declIn (now (image .entry)) at .marks .deprecated ⌝ }
+{
+    if 1 < image[at] {
+        return false;
+    }
+    let marks = name_end(image, at + 1);
+    image[marks] % 2 == 1
+}
+
+// Whether a declaration is marked as non-exhaustive.
+pub fn non_exhaustive(image: &[u8], at: usize) -> bool
+    requires { ⌜ DeclHere (now image) at ⌝ }
+    ensures { λ r. ⌜ r ≡ declIn (now (image .entry)) at .marks .nonExhaustive ⌝ }
+{
+    if 1 < image[at] {
+        return false;
+    }
+    let marks = name_end(image, at + 1);
+    image[marks] / 2 == 1
+}
+
+// The items of a message, an enum, flags or a union.
+pub fn items(image: &[u8], at: usize) -> Run
+    requires { ⌜ DeclHere (now image) at × (declIn (now image) at .kind ≤ 3) ⌝ }
+    ensures { λ r. ⌜ r ≡ itemsIn (now (image .entry)) at ⌝ }
+{
+    let end = name_end(image, at + 1);
+    if 1 < image[at] {
+        return items_at(image, end);
+    }
+    items_at(image, end + 1)
+}
+
+// Where a newtype's type stands.
+pub fn inner_type(image: &[u8], at: usize) -> usize
+    requires { ⌜ DeclHere (now image) at × (declIn (now image) at .kind ≡ 4) ⌝ }
+    ensures { λ r. ⌜ r ≡ innerPlace (now (image .entry)) at ⌝ }
+{
+    name_end(image, at + 1)
+}
