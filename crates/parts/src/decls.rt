@@ -1,13 +1,9 @@
 // Declarations at places of the image.
-use crate::Run;
-use crate::items::items_at;
 use crate::names::name_at;
 use crate::names::name_end;
 ghost use mathlib.Core.Path.{_≡_};
 ghost use mathlib.Core.Bool.{Bool};
-ghost use Prim.Native.Nat.{_≤_};
-ghost use Rattle.image.specs.Fields.{marksOf};
-ghost use Rattle.parts.specs.Promise.{DeclHere, declIn, itemsIn, innerPlace};
+ghost use Rattle.parts.specs.Promise.{DeclHere, declIn, innerPlace};
 
 // 0 message, 1 enum, 2 flags, 3 union, 4 newtype, 5 config, 6 generic alias, 7 trait, 8 impl.
 pub fn decl_kind(image: &[u8], at: usize) -> u8
@@ -50,18 +46,6 @@ pub fn non_exhaustive(image: &[u8], at: usize) -> bool
     }
     let marks = name_end(image, at + 1);
     image[marks] / 2 == 1
-}
-
-// The items of a message, an enum, flags or a union.
-pub fn items(image: &[u8], at: usize) -> Run
-    requires { ⌜ DeclHere (now image) at × (declIn (now image) at .kind ≤ 3) ⌝ }
-    ensures { λ r. ⌜ r ≡ itemsIn (now (image .entry)) at ⌝ }
-{
-    let end = name_end(image, at + 1);
-    if 1 < image[at] {
-        return items_at(image, end);
-    }
-    items_at(image, end + 1)
 }
 
 // Where a newtype's type stands.

@@ -7,7 +7,7 @@ use crate::names::name_end;
 ghost use mathlib.Core.Path.{_≡_};
 ghost use Prim.Native.Nat.{_+_, _≤_};
 ghost use lib.ListN.{length};
-ghost use Rattle.parts.specs.Promise.{ItemHere, itemEnd, ItemsHere, itemsEnd, ordinalIn, itemName, itemsAt, variantItems};
+ghost use Rattle.parts.specs.Promise.{DeclHere, declIn, itemsIn, ItemHere, itemEnd, ItemsHere, itemsEnd, ordinalIn, itemName, itemsAt, variantItems};
 
 pub fn ordinal_at(image: &[u8], at: usize) -> u32
     requires { ⌜ ItemHere Shape.Bare (now image) at ⌝ }
@@ -24,7 +24,7 @@ pub fn item_name(image: &[u8], at: usize) -> &[u8]
 }
 
 // A count at a place, and the items after it.
-pub fn items_at(image: &[u8], at: usize) -> Run
+fn items_at(image: &[u8], at: usize) -> Run
     requires { ⌜ at + 2 ≤ length (now image) ⌝ }
     ensures { λ r. ⌜ r ≡ itemsAt (now (image .entry)) at ⌝ }
 {
@@ -32,6 +32,18 @@ pub fn items_at(image: &[u8], at: usize) -> Run
         start: at + 2,
         count: image::numbers::u16_at(image, at),
     }
+}
+
+// The items of a message, an enum, flags or a union.
+pub fn decl_items(image: &[u8], at: usize) -> Run
+    requires { ⌜ DeclHere (now image) at × (declIn (now image) at .kind ≤ 3) ⌝ }
+    ensures { λ r. ⌜ r ≡ itemsIn (now (image .entry)) at ⌝ }
+{
+    let end = name_end(image, at + 1);
+    if 1 < image[at] {
+        return items_at(image, end);
+    }
+    items_at(image, end + 1)
 }
 
 // The fields of a union's variant.

@@ -2,7 +2,7 @@
 use mathlib.Core.Path.{_≡_, refl, sym, ap, ap₂, _∙_}
 use mathlib.Core.Bool.{Bool, true, false}
 use mathlib.Core.Option.{Option, none, some}
-use mathlib.Core.List.{List, [], _∷_, map}
+use mathlib.Core.List.{List, [], _∷_, map, List·Memᴰ}
 use Prim.Native.Nat.{ℕ, zero, suc, _+_, _-_, _≤_, _<_}
 use native.Mathlib.Omega.{arith}
 use native.Mathlib.Numerals.{sub-one}
@@ -18,7 +18,7 @@ use Rattle.parts.specs.Promise.{noField, noVariant, NameHere, nameIn, na
 use Rattle.parts.specs.declared.Shape.{Shape}
 use Rattle.parts.specs.declared.Shape.the-variants as shape
 use Rattle.parts.proofs.Laws.Steps.{good-is, then-is, then-good, number-is, number-there, marks-is, name-is}
-use Rattle.parts.proofs.Laws.Places.{many-places, many-turn, many-done}
+use Rattle.parts.proofs.Laws.Places.{many-places, many-turn, many-done, many-member}
 
 -- a type at a place
 module _ (s : List ℕ) (at : ℕ) (g : Good (typeAt s at)) where
@@ -263,3 +263,7 @@ module _ (h : Shape) (s : List ℕ) (c at : ℕ) (l : 0 < c) (g : ItemsHere h s 
 pub items-done : (h : Shape) (s : List ℕ) (c at : ℕ) → c ≤ 0 → itemsEnd h s c at ≡ at
 unfolding itemsEnd
 items-done h s c at l = many-done (noItem h) (itemAt h) s c at l
+
+pub items-member : (h : Shape) (s : List ℕ) (c at q : ℕ) → ItemsHere h s c at → List·Memᴰ q (placesFrom h s c at) → ItemHere h s q
+unfolding ItemsHere placesFrom itemEnd ItemHere
+items-member h s c at q g m = many-member (noItem h) (itemAt h) s c at q g m

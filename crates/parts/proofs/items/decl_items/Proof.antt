@@ -1,9 +1,9 @@
--- `parts::decls::items` meets its contract. Assumes nothing.
+-- `parts::items::decl_items` meets its contract. Assumes nothing.
 use mathlib.Core.Path.{sym, _∙_}
 use native.Mathlib.Omega.{arith}
 use Rattle.parts.proofs.Laws.Decls.{kind-there, decl-kind, decl-head, items-after, items-after-marks}
-use Rattle.parts.proofs.decls.items.Statement.{statement}
-use Rattle.parts.proofs.decls.items.Tie as tie
+use Rattle.parts.proofs.items.decl_items.Statement.{statement}
+use Rattle.parts.proofs.items.decl_items.Tie as tie
 
 add-name-end : tie.Need-add-name-end
 add-name-end c = let t = kind-there _ _ (c .before .pre .0) in omega arith
@@ -31,5 +31,5 @@ items-at-requires-2 c κs = items-after-marks _ _ (c .before .before .before .be
 returns-2 : tie.Need-returns-2
 returns-2 c = c .items-at2 .ensures ∙ items-after-marks _ _ (c .before .before .before .before .before .pre .0) (c .before .before .before .before .before .pre .1) (c .before .before .before .name-end .ensures) (c .before .if1 .left) .1
 
-pub items-spec : {M : Type 1} → statement M
-items-spec = tie.close (tie.spec add-name-end name-end-requires shared-slice-read-if1 items-at-requires returns add-items-at items-at-requires-2 returns-2)
+pub decl-items-spec : {M : Type 1} → statement M
+decl-items-spec = tie.close (tie.spec add-name-end name-end-requires shared-slice-read-if1 items-at-requires returns add-items-at items-at-requires-2 returns-2)

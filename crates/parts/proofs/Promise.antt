@@ -1,0 +1,84 @@
+-- What the crates above may rest on: everything of an accepted image is well formed at its place, and is this part of its schema.
+-- From `read_image` to `Accepted`; from `entry` to a declaration; from a declaration to its items or its inner type; from an item to its
+-- name, its type, its fields; from a type to its inner types. Assumes nothing.
+use mathlib.Core.Path.{_≡_, sym, ap, _∙_}
+use mathlib.Core.Option.{none, some}
+use mathlib.Core.List.{List, [], _∷_}
+use Prim.Native.Nat.{ℕ, _-_, _≤_, _<_}
+use native.Mathlib.Omega.{arith}
+use lib.ListN.{getD}
+use Rattle.image.specs.Schema.{Schema}
+use Rattle.image.specs.Parse.{Parsed, ok, no}
+use Rattle.image.specs.Image.{readImage}
+use Rattle.image.specs.Answer.{acceptance, Answers}
+use Rattle.image.specs.WellFormed.{Good}
+use Rattle.image.specs.declared.Acceptance.{Acceptance}
+use Rattle.parts.specs.Promise.{Accepted, schemaOf, nameEnd, namePlaces, itemEnd, placesFrom, DeclHere, declIn, declOf, EntryHere, Resolved}
+use Rattle.parts.specs.declared.Shape.{Shape}
+use Rattle.parts.specs.declared.Entry.{Entry}
+use Rattle.parts.proofs.Laws.Places.{places-none as by-none, places-more as by-more}
+use Rattle.parts.proofs.Laws.Decls.{decl-head}
+
+-- the image: its length, and its namespace by the names at their places
+pub use Rattle.parts.proofs.Laws.Contents.{accepted-most, segments-here, segments-are}
+
+-- so many names, or items: the first, and the rest, and the one at any of their places
+pub use Rattle.parts.proofs.Laws.Skips.{names-first, names-rest}
+pub use Rattle.parts.proofs.Laws.Items.{items-first, items-rest, items-member}
+
+-- a declaration: the items of a message, an enum, flags, a union, and that they are its fields or its variants; a newtype's type
+pub use Rattle.parts.proofs.Laws.Decls.{message-items, message-fields, enum-items, enum-variants, flags-items, flags-bits, union-items, union-variants, inner-here, inner-tree}
+
+-- an item: what holds of a bare one holds of its start; the values of a field and of a union's variant
+pub use Rattle.parts.proofs.Laws.Items.{item-bare, field-ordinal, field-name, field-type-here, field-type, variant-ordinal, variant-name, variant-items, variant-fields}
+
+-- a type: at most 32 nodes on a path may be said of any; it has a label; a node by how many inner types its tag has
+pub use Rattle.parts.proofs.Laws.Trees.{type-whole, type-some, type-label, type-first, type-second, node-leaf, node-one, node-two}
+
+-- a label: what its tag has not; the names of bits
+pub use Rattle.parts.proofs.Laws.Labels.{defaults, bits-here, bits-names}
+
+-- what `read_image` accepted
+pub accepted : (s : List ℕ) {r : Acceptance} → Answers (readImage s) r → r ≡ Acceptance.Accepted → Accepted s
+unfolding Accepted acceptance Good
+accepted s {r} a e = go (readImage s) (sym e ∙ a .is)
+  where
+    go : (p : Parsed Schema) → Acceptance.Accepted ≡ acceptance p → Good p
+    go (ok v n) q = tt
+    go (no k) q = absurd (let z : _≡_ {A = ℕ} 0 1 = cc in omega arith)
+
+-- the two answers of `entry`
+module _ (s : List ℕ) (id : ℕ) {r : Entry} (h : Resolved s id r) where
+  pub resolved-here : {at : ℕ} → r ≡ Entry.Body at → DeclHere s at
+  unfolding EntryHere
+  resolved-here e = rw e at (h .here)
+
+  pub resolved-body : {at : ℕ} → r ≡ Entry.Body at → getD (schemaOf s .registry) id none ≡ some (declIn s at)
+  unfolding declOf
+  resolved-body e = sym (h .value) ∙ ap (declOf s) e
+
+  pub resolved-none : r ≡ Entry.Unresolvable → getD (schemaOf s .registry) id none ≡ none
+  unfolding declOf
+  resolved-none e = sym (h .value) ∙ ap (declOf s) e
+
+-- a declaration's kind
+pub decl-most : (s : List ℕ) (at : ℕ) → DeclHere s at → declIn s at .kind ≤ 8
+decl-most s at g = let h = decl-head s at g in let e = h .is in let l = h .most in omega arith
+
+-- the places of items and of names: none, or the first and the others
+module _ (s : List ℕ) (c at : ℕ) where
+  pub places-none : (h : Shape) → c ≡ 0 → placesFrom h s c at ≡ []
+  unfolding placesFrom
+  places-none h e = rw (e, by-none (itemEnd h s) at)
+
+  pub places-more : (h : Shape) → 0 < c → placesFrom h s c at ≡ at ∷ placesFrom h s (c - 1) (itemEnd h s at)
+  unfolding placesFrom
+  places-more h l = by-more (itemEnd h s) c at l
+
+  pub name-places-none : c ≡ 0 → namePlaces s c at ≡ []
+  unfolding namePlaces
+  name-places-none e = rw (e, by-none (nameEnd s) at)
+
+  pub name-places-more : 0 < c → namePlaces s c at ≡ at ∷ namePlaces s (c - 1) (nameEnd s at)
+  unfolding namePlaces
+  name-places-more l = by-more (nameEnd s) c at l
