@@ -1,6 +1,7 @@
 // The tables of an accepted image: entries, ids, namespace.
 use crate::Entry;
 use crate::Run;
+use crate::numbers::u32_at;
 ghost use mathlib.Core.Path.{_≡_};
 ghost use Prim.Native.Nat.{_<_};
 ghost use lib.ListN.{length, getD};
@@ -28,7 +29,7 @@ pub fn id_at(image: &[u8], k: usize) -> u32
     ensures { λ r. ⌜ r ≡ getD (schemaOf (now (image .entry)) .ids) k 0 ⌝ }
 {
     let ids = 8 + 4 * image::contents::entry_count(image);
-    image::numbers::number(image, ids + 4 * k, 4) as u32
+    u32_at(image, ids + 4 * k)
 }
 
 // What an id stands for: "An id that is N or more, or whose entry is empty, is unresolvable".

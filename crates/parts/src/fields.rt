@@ -4,7 +4,10 @@ use crate::Limit;
 use crate::names::name_end;
 use crate::types::type_end;
 ghost use mathlib.Core.Path.{_≡_};
-ghost use mathlib.Core.Bool.{Bool};
+ghost use mathlib.Core.Bool.{Bool, _&&_};
+ghost use Prim.Native.Nat.{_+_, _<_};
+ghost use lib.Dec.{eqb};
+ghost use lib.ListN.{length, getD};
 ghost use Rattle.image.specs.Fields.{encodingAt, limitAt};
 ghost use Rattle.image.specs.WellFormed.{Good, endOf};
 ghost use Rattle.parts.specs.declared.Shape.{Shape};
@@ -63,11 +66,26 @@ pub fn field_limit(image: &[u8], at: usize) -> Limit
     Limit::Most(image::numbers::number(image, place + 1, 8))
 }
 
-// Where a field's type stands.
+// Whether an encoding at a place is the default, and no limit follows.
+fn is_plain(image: &[u8], at: usize) -> bool
+    requires { ⌜ at + 1 < length (now image) ⌝ }
+    ensures { λ r. ⌜ r ≡ (eqb (getD (now (image .entry)) at 0) 0 && eqb (getD (now (image .entry)) (at + 1) 0) 0) ⌝ }
+{
+    if image[at] != 0 {
+        return false;
+    }
+    image[at + 1] == 0
+}
+
+// Where a field's type stands. Most fields are plain: their type is found by the length of the name alone.
 pub fn field_type(image: &[u8], at: usize) -> usize
     requires { ⌜ ItemHere Shape.Field (now image) at ⌝ }
     ensures { λ r. ⌜ r ≡ typePlace (now (image .entry)) at ⌝ }
 {
+    let start = name_end(image, at + 4) + 1;
+    if is_plain(image, start) {
+        return start + 2;
+    }
     let place = limit_place(image, at);
     if image[place] == 0 {
         return place + 1;

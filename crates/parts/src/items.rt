@@ -4,6 +4,8 @@ use crate::Shape;
 use crate::fields::field_end;
 use crate::names::name_at;
 use crate::names::name_end;
+use crate::numbers::u16_at;
+use crate::numbers::u32_at;
 ghost use mathlib.Core.Path.{_≡_};
 ghost use Prim.Native.Nat.{_+_, _≤_};
 ghost use lib.ListN.{length};
@@ -13,7 +15,7 @@ pub fn ordinal_at(image: &[u8], at: usize) -> u32
     requires { ⌜ ItemHere Shape.Bare (now image) at ⌝ }
     ensures { λ r. ⌜ r ≡ ordinalIn (now (image .entry)) at ⌝ }
 {
-    image::numbers::number(image, at, 4) as u32
+    u32_at(image, at)
 }
 
 pub fn item_name(image: &[u8], at: usize) -> &[u8]
@@ -30,7 +32,7 @@ fn items_at(image: &[u8], at: usize) -> Run
 {
     Run {
         start: at + 2,
-        count: image::numbers::u16_at(image, at),
+        count: u16_at(image, at),
     }
 }
 

@@ -6,6 +6,7 @@ pub mod entries;
 pub mod fields;
 pub mod items;
 pub mod names;
+mod numbers;
 pub mod types;
 
 // What an id stands for: a declaration whose body starts at a place, or nothing.

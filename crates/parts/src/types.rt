@@ -2,6 +2,7 @@
 // end of the first.
 use crate::Run;
 use crate::names::names_end;
+use crate::numbers::u32_at;
 ghost use mathlib.Core.Path.{_≡_};
 ghost use Prim.Native.Nat.{_≤_};
 ghost use Rattle.parts.specs.Promise.{LabelHere, labelIn, labelEnd, bitsIn, TypeHere, typeEnd};
@@ -34,7 +35,7 @@ pub fn type_id(image: &[u8], at: usize) -> u32
     requires { ⌜ LabelHere (now image) at × (labelIn (now image) at .tag ≡ 3) ⌝ }
     ensures { λ r. ⌜ r ≡ labelIn (now (image .entry)) at .first ⌝ }
 {
-    image::numbers::number(image, at + 1, 4) as u32
+    u32_at(image, at + 1)
 }
 
 // The size of a fixed array.

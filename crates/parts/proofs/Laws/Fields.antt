@@ -1,11 +1,12 @@
 -- Encodings and limits at places of the image. Assumes nothing.
 use mathlib.Core.Path.{_≡_, refl, sym, ap, ap₂, _∙_}
-use mathlib.Core.Bool.{Bool, true, false}
+use mathlib.Core.Bool.{Bool, true, false, _&&_, false≢true}
 use mathlib.Core.Option.{Option, none, some}
 use mathlib.Core.List.{List}
 use Prim.Native.Nat.{ℕ, zero, suc, _+_, _≤_, _<_}
 use native.Mathlib.Omega.{arith}
 use borrow.Author.Tests.{eqb-true, eqb-false, ne-eqb}
+use lib.Dec.{eqb}
 use lib.ListN.{length, getD, drop}
 use Rattle.image.specs.Schema.{Encoding}
 use Rattle.image.specs.Parse.{Parsed, ok, bind, pick, littleEndian, codeAt, numberAt}
@@ -144,6 +145,34 @@ module _ (s : List ℕ) (at : ℕ) (g : ItemHere shape.Field s at) where
       coded =
           let h = encoding-stands s (e + 1) encoding-good .base in
           ap₂ coding d (ap (λ (k : ℕ). getD s (e + 1 + k) 0) d ∙ sym h) ∙ ap (λ (k : ℕ). encodingIn s (k + 1)) q ∙ sym (field-encoding s at g)
+
+  -- a default encoding and no limit
+  module _ {e : ℕ} (q : e ≡ nameEnd s (at + 4)) where
+    pub plain-there : e + 1 + 1 < length s
+    plain-there =
+        let l = limit-at q refl in
+        let p = limit-there s (limitPlace s at) (parts-of-field s at g .limit) in
+        omega arith
+
+    no-delta : getD s (e + 1) 0 ≡ 0 → 0 ≡ encodingIn s (e + 1) .deltas
+    no-delta z =
+        let k : e + 1 + 0 ≡ e + 1 = omega arith in
+        delta-done s (e + 1) (encoding-good q) 0 (omega arith) (λ t. let y : _≡_ {A = ℕ} 0 3 = sym z ∙ ap (λ (i : ℕ). getD s i 0) (sym k) ∙ t in omega arith)
+
+    no-more : getD s (e + 1) 0 ≡ 0 → getD s (e + 1 + 1) 0 ≡ 0 → e + 1 + 2 ≡ typePlace s at
+    unfolding typePlace endOf
+    no-more z y =
+        let l : e + 1 + 1 ≡ limitPlace s at = (let m = limit-at q (no-delta z) in omega arith) in
+        let r = ap endOf (limit-none s (limitPlace s at) (parts-of-field s at g .limit) (ap (λ (i : ℕ). getD s i 0) (sym l) ∙ y)) in
+        omega arith
+
+    pub plain-type : {b : Bool} → b ≡ true → b ≡ (eqb (getD s (e + 1) 0) 0 && eqb (getD s (e + 1 + 1) 0) 0) → e + 1 + 2 ≡ typePlace s at
+    plain-type t h = go (eqb (getD s (e + 1) 0) 0) (eqb (getD s (e + 1 + 1) 0) 0) refl refl (sym h ∙ t)
+      where
+        go : (x y : Bool) → eqb (getD s (e + 1) 0) 0 ≡ x → eqb (getD s (e + 1 + 1) 0) 0 ≡ y → (x && y) ≡ true → e + 1 + 2 ≡ typePlace s at
+        go true true p r h = no-more (eqb-true (getD s (e + 1) 0) 0 p) (eqb-true (getD s (e + 1 + 1) 0) 0 r)
+        go true false p r h = absurd (false≢true h)
+        go false y p r h = absurd (false≢true h)
 
   pub limit-good : Good (limitAt s (limitPlace s at))
   limit-good = parts-of-field s at g .limit

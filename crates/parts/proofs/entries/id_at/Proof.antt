@@ -18,23 +18,20 @@ mul-ids c = search needs
 add-ids : tie.Need-add-ids
 add-ids c = search needs
 
-mul-number : tie.Need-mul-number
-mul-number c = let t = id-is _ (c .before .before .pre .0) _ (c .before .before .pre .1) .1 in omega (arith, c .entry-count .ensures .0)
+mul-u32-at : tie.Need-mul-u32-at
+mul-u32-at c = let t = id-is _ (c .before .before .pre .0) _ (c .before .before .pre .1) .1 in omega (arith, c .entry-count .ensures .0)
 
-add-number : tie.Need-add-number
-add-number c = let t = id-is _ (c .before .before .pre .0) _ (c .before .before .pre .1) .1 in omega (arith, c .entry-count .ensures .0)
+add-u32-at : tie.Need-add-u32-at
+add-u32-at c = let t = id-is _ (c .before .before .pre .0) _ (c .before .before .pre .1) .1 in omega (arith, c .entry-count .ensures .0)
 
-number-requires : tie.Need-number-requires
-number-requires c κs = (omega arith, (let t = id-is _ (c .before .before .pre .0) _ (c .before .before .pre .1) .1 in omega (arith, c .entry-count .ensures .0)))
-
-cast-result : tie.Need-cast-result
-cast-result c = search needs
+u32-at-requires : tie.Need-u32-at-requires
+u32-at-requires c κs = let t = id-is _ (c .before .before .pre .0) _ (c .before .before .pre .1) .1 in omega (arith, c .entry-count .ensures .0)
 
 returns : tie.Need-returns
 returns c =
-    c .number .ensures .0
+    c .u32-at .ensures
     ∙ ap (λ (n : ℕ). littleEndian 4 (drop (8 + 4 * n + 4 * c .before .before .before .args .k) (c .before .before .before .args .image .now))) (c .before .entry-count .ensures .0)
     ∙ id-is _ (c .before .before .before .pre .0) _ (c .before .before .before .pre .1) .0
 
 pub id-at-spec : {M : Type 1} → statement M
-id-at-spec = tie.close (tie.spec entry-count-requires mul-ids add-ids mul-number add-number number-requires cast-result returns)
+id-at-spec = tie.close (tie.spec entry-count-requires mul-ids add-ids mul-u32-at add-u32-at u32-at-requires returns)

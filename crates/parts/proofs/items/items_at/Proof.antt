@@ -1,5 +1,4 @@
 -- `parts::items::items_at` meets its contract. Assumes nothing.
-use mathlib.Core.Path.{ap}
 use borrow.Author.Needs.{needs}
 use Rattle.parts.specs.Promise.{itemsAt}
 use Rattle.parts.proofs.items.items_at.Statement.{statement}
@@ -13,7 +12,7 @@ u16-at-requires c κs = search needs
 
 returns : tie.Need-returns
 unfolding itemsAt
-returns c = rw (c .u16-at .ensures .0)
+returns c = rw (c .u16-at .ensures)
 
 pub items-at-spec : {M : Type 1} → statement M
 items-at-spec = tie.close (tie.spec add-t3 u16-at-requires returns)
