@@ -43,10 +43,10 @@ pub record Whole (s : List ℕ) : Type 0 where
   pub names : Good (namesAt 2 (segmentCount s) s (segmentsAt s))
   pub entries : Good (entriesOf (entryCount s) s 0)
   pub is : schemaOf s ≡ record {
-      registry = valueOr [] (entriesOf (entryCount s) s 0);
-      ids = idsFrom (idCount s) s (idsAt s);
-      namespace = valueOr [] (namesAt 2 (segmentCount s) s (segmentsAt s))
-    }
+    registry = valueOr [] (entriesOf (entryCount s) s 0);
+    ids = idsFrom (idCount s) s (idsAt s);
+    namespace = valueOr [] (namesAt 2 (segmentCount s) s (segmentsAt s));
+  }
 
 pub whole : (s : List ℕ) → Accepted s → Whole s
 unfolding Accepted schemaOf readImage tablesOf valueOr

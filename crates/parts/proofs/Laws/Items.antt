@@ -57,13 +57,13 @@ pub record FieldParts (s : List ℕ) (at : ℕ) : Type 0 where
   pub limit : Good (limitAt s (limitPlace s at))
   pub type : TypeHere 32 s (typePlace s at)
   pub is : fieldAt s at ≡ ok (record {
-      ordinal = littleEndian 4 (drop at s);
-      name = nameIn s (at + 4);
-      marks = marksOf (getD s (marksPlace s at) 0);
-      encoding = valueOr (plain 0) (encodingAt s (encodingPlace s at));
-      limit = valueOr none (limitAt s (limitPlace s at));
-      type = treeIn s (typePlace s at)
-    }) (typeEnd s (typePlace s at))
+    ordinal = littleEndian 4 (drop at s);
+    name = nameIn s (at + 4);
+    marks = marksOf (getD s (marksPlace s at) 0);
+    encoding = valueOr (plain 0) (encodingAt s (encodingPlace s at));
+    limit = valueOr none (limitAt s (limitPlace s at));
+    type = treeIn s (typePlace s at);
+  }) (typeEnd s (typePlace s at))
 
 afterName : List ℕ → ℕ → Name → ℕ → Parsed Field
 afterName s o x n₂ =
@@ -138,10 +138,10 @@ pub record VariantParts (s : List ℕ) (at : ℕ) : Type 0 where
   pub count : nameEnd s (at + 4) + 2 ≤ length s
   pub items : Good (many fieldAt (variantItems s at .count) s (variantItems s at .start))
   pub is : variantAt s at ≡ ok (record {
-      ordinal = littleEndian 4 (drop at s);
-      name = nameIn s (at + 4);
-      fields = valueOr [] (many fieldAt (variantItems s at .count) s (variantItems s at .start))
-    }) (endOf (many fieldAt (variantItems s at .count) s (variantItems s at .start)))
+    ordinal = littleEndian 4 (drop at s);
+    name = nameIn s (at + 4);
+    fields = valueOr [] (many fieldAt (variantItems s at .count) s (variantItems s at .start));
+  }) (endOf (many fieldAt (variantItems s at .count) s (variantItems s at .start)))
 
 pub variant-parts : (s : List ℕ) (at : ℕ) → Good (variantAt s at) → VariantParts s at
 unfolding variantAt keyed variantItems

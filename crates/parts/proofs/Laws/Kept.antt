@@ -78,6 +78,7 @@ part-of from count s h = record {
   where
     short : length (take count (drop from s)) ≤ length (drop from s)
     short = rw length-take (min-le-right count (length (drop from s)))
+
     few : length (take count (drop from s)) ≤ count
     few = rw length-take (min-le-left count (length (drop from s)))
 
@@ -88,10 +89,10 @@ pub part-drop : (by : ℕ) (t s : List ℕ) (at : ℕ) → Part by t s → Part 
 part-drop by t s at h = record {
   fits = (let f = h .fits in let e = length-drop at t in let d = length-drop (by + at) s in omega arith);
   same = λ i l. (
-    let e = length-drop at t in
-    let k : at + i < length t = omega arith in
-    let z : by + (at + i) ≡ by + at + (0 + i) = omega arith in
-    getD-drop at t i 0 ∙ h .same (at + i) k ∙ ap (λ (j : ℕ). getD s j 0) z ∙ sym (getD-drop (by + at) s (0 + i) 0));
+      let e = length-drop at t in
+      let k : at + i < length t = omega arith in
+      let z : by + (at + i) ≡ by + at + (0 + i) = omega arith in
+      getD-drop at t i 0 ∙ h .same (at + i) k ∙ ap (λ (j : ℕ). getD s j 0) z ∙ sym (getD-drop (by + at) s (0 + i) 0));
 }
 
 -- the bytes of a part, and the numbers that they make
@@ -105,11 +106,11 @@ module _ {by : ℕ} {t s : List ℕ} (h : Part by t s) where
       let m = length-take-le count (drop from t) (omega arith) in
       let n = length-take-le count (drop (by + from) s) (omega arith) in
       ext-getD 0 _ _ (m ∙ sym n) (λ i k.
-        let c : i < count = omega arith in
-        let o : from + i < length t = omega arith in
-        let z : by + (from + i) ≡ by + from + i = omega arith in
-        getD-take count (drop from t) i 0 c ∙ getD-drop from t i 0 ∙ h .same (from + i) o ∙ ap (λ (j : ℕ). getD s j 0) z
-        ∙ sym (getD-take count (drop (by + from) s) i 0 c ∙ getD-drop (by + from) s i 0))
+      let c : i < count = omega arith in
+      let o : from + i < length t = omega arith in
+      let z : by + (from + i) ≡ by + from + i = omega arith in
+      getD-take count (drop from t) i 0 c ∙ getD-drop from t i 0 ∙ h .same (from + i) o ∙ ap (λ (j : ℕ). getD s j 0) z
+      ∙ sym (getD-take count (drop (by + from) s) i 0 c ∙ getD-drop (by + from) s i 0))
 
 le-part : (w : ℕ) {by : ℕ} {t s : List ℕ} → Part by t s → (at : ℕ) → at + w ≤ length t → littleEndian w (drop at t) ≡ littleEndian w (drop (by + at) s)
 unfolding littleEndian

@@ -143,8 +143,10 @@ defaults s at g = go (tagged (getD s at 0)) refl refl
   where
     tag : ℕ
     tag = getD s at 0
+
     by : (f : Follows) {l : Label} {n : ℕ} → followsTag tag ≡ f → afterTag tag f s (at + 1) ≡ ok l n → Defaults l → Defaults (labelIn s at)
     by f {l} {n} q e d = rw (label-is s at g f q l n e .0) d
+
     go : {t : ℕ} {f : Follows} → Tagged t f → tag ≡ t → followsTag tag ≡ f → Defaults (labelIn s at)
     go primitive z q = by (code 13) q (label-after s at g (code 13) q .0) (only-first tag _ (omega arith) (λ a b. absurd (omega arith)))
     go semantic z q = by (code 5) q (label-after s at g (code 5) q .0) (only-first tag _ (omega arith) (λ a b. absurd (omega arith)))
