@@ -3,6 +3,7 @@ use crate::names::name_at;
 use crate::names::name_end;
 ghost use mathlib.Core.Path.{_≡_};
 ghost use mathlib.Core.Bool.{Bool};
+ghost use Rattle.image.specs.Fields.{marksOf};
 ghost use Rattle.parts.specs.Promise.{DeclHere, declIn, innerPlace};
 
 // 0 message, 1 enum, 2 flags, 3 union, 4 newtype, 5 config, 6 generic alias, 7 trait, 8 impl.
@@ -24,16 +25,24 @@ pub fn decl_name(image: &[u8], at: usize) -> &[u8]
     name_at(image, at + 1)
 }
 
-// Whether a declaration is marked as deprecated: only messages and enums have marks.
+// The marks of a declaration as one number. Only messages and enums have them; those of others are none.
+fn marks(image: &[u8], at: usize) -> u8
+    requires { ⌜ DeclHere (now image) at ⌝ }
+    ensures { λ r. ⌜ marksOf r ≡ declIn (now (image .entry)) at .marks ⌝ }
+{
+    if 1 < image[at] {
+        return 0;
+    }
+    let place = name_end(image, at + 1);
+    image[place]
+}
+
+// Whether a declaration is marked as deprecated.
 pub fn deprecated(image: &[u8], at: usize) -> bool
     requires { ⌜ DeclHere (now image) at ⌝ }
     ensures { λ r. ⌜ r ≡ declIn (now (image .entry)) at .marks .deprecated ⌝ }
 {
-    if 1 < image[at] {
-        return false;
-    }
-    let marks = name_end(image, at + 1);
-    image[marks] % 2 == 1
+    marks(image, at) % 2 == 1
 }
 
 // Whether a declaration is marked as non-exhaustive.
@@ -41,11 +50,7 @@ pub fn non_exhaustive(image: &[u8], at: usize) -> bool
     requires { ⌜ DeclHere (now image) at ⌝ }
     ensures { λ r. ⌜ r ≡ declIn (now (image .entry)) at .marks .nonExhaustive ⌝ }
 {
-    if 1 < image[at] {
-        return false;
-    }
-    let marks = name_end(image, at + 1);
-    image[marks] / 2 == 1
+    marks(image, at) / 2 == 1
 }
 
 // Where a newtype's type stands.

@@ -213,24 +213,24 @@ module _ (s : List ℕ) (at : ℕ) (g : DeclHere s at) where
       go (suc (suc (suc (suc k)))) e l = absurd (omega arith)
 
   -- where the code reads the count, after a name that ends at e
-  module _ (l : declIn s at .kind ≤ 3) {e : ℕ} (q : e ≡ nameEnd s (at + 1)) where
-    pub items-after : 1 < getD s at 0 → (e + 2 ≤ length s) × (itemsAt s e ≡ itemsIn s at)
+  module _ (l : declIn s at .kind ≤ 3) where
+    count-there : (n : ℕ) → itemsAt s n ≡ itemsIn s at → n + 2 ≤ length s
     unfolding itemsAt
-    items-after k =
-        let z = items-plain s at (let d = decl-kind s at g in omega arith) in
-        let y : itemsAt s e ≡ itemsIn s at = ap (itemsAt s) q ∙ sym z in
-        let x = ap (λ (n : Run). n .start) y in
+    count-there n y =
+        let x = ap (λ (r : Run). r .start) y in
         let w = items-inside l in
-        (omega arith, y)
+        omega arith
 
-    pub items-after-marks : getD s at 0 ≤ 1 → (e + 1 + 2 ≤ length s) × (itemsAt s (e + 1) ≡ itemsIn s at)
-    unfolding itemsAt
-    items-after-marks k =
-        let z = items-marked s at (let d = decl-kind s at g in omega arith) in
-        let y : itemsAt s (e + 1) ≡ itemsIn s at = ap (λ (n : ℕ). itemsAt s (n + 1)) q ∙ sym z in
-        let x = ap (λ (n : Run). n .start) y in
-        let w = items-inside l in
-        (omega arith, y)
+    module _ {e : ℕ} (q : e ≡ nameEnd s (at + 1)) where
+      pub items-after : 1 < getD s at 0 → (e + 2 ≤ length s) × (itemsAt s e ≡ itemsIn s at)
+      items-after k =
+          let y = ap (itemsAt s) q ∙ sym (items-plain s at (let d = decl-kind s at g in omega arith)) in
+          (count-there e y, y)
+
+      pub items-after-marks : getD s at 0 ≤ 1 → (e + 1 + 2 ≤ length s) × (itemsAt s (e + 1) ≡ itemsIn s at)
+      items-after-marks k =
+          let y = ap (λ (n : ℕ). itemsAt s (n + 1)) q ∙ sym (items-marked s at (let d = decl-kind s at g in omega arith)) in
+          (count-there (e + 1) y, y)
 
 -- the same, said of the shapes
 module _ (s : List ℕ) (n : Run) where

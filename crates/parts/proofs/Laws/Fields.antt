@@ -8,7 +8,7 @@ use native.Mathlib.Omega.{arith}
 use borrow.Author.Tests.{eqb-true, eqb-false, ne-eqb}
 use lib.Dec.{eqb}
 use lib.ListN.{length, getD, drop}
-use Rattle.image.specs.Schema.{Encoding}
+use Rattle.image.specs.Schema.{Encoding, Field}
 use Rattle.image.specs.Parse.{Parsed, ok, bind, pick, littleEndian, codeAt, numberAt}
 use Rattle.image.specs.Fields.{plain, delta, encodingOf, encodingAt, limitAt}
 use Rattle.image.specs.WellFormed.{Good, valueOr, endOf}
@@ -20,7 +20,7 @@ use Rattle.parts.specs.declared.Shape.the-variants as shape
 use Rattle.parts.specs.declared.Limit.the-variants.{Most, Unlimited}
 use Rattle.parts.specs.Promise.{limitOf}
 use Rattle.parts.proofs.Laws.Steps.{then-is, then-good, code-is, number-is}
-use Rattle.parts.proofs.Laws.Items.{parts-of-field, field-encoding, field-limit}
+use Rattle.parts.proofs.Laws.Items.{field-parts}
 
 -- an encoding is as many bytes 3 as it has deltas, and the base
 pub record Encoded (s : List ℕ) (at : ℕ) (e : Encoding) (n : ℕ) : Type 0 where
@@ -124,11 +124,11 @@ module _ (s : List ℕ) (at : ℕ) (g : ItemHere shape.Field s at) where
   module _ {e : ℕ} (q : e ≡ nameEnd s (at + 4)) where
     pub encoding-good : Good (encodingAt s (e + 1))
     unfolding encodingPlace marksPlace
-    encoding-good = rw q (parts-of-field s at g .encoding)
+    encoding-good = rw q (field-parts s at g .encoding)
 
     pub marks-there : e < length s
     unfolding marksPlace
-    marks-there = rw q (parts-of-field s at g .marks)
+    marks-there = rw q (field-parts s at g .marks)
 
     module _ {n : ℕ} (d : n ≡ encodingIn s (e + 1) .deltas) where
       pub base-there : e + 1 + n < length s
@@ -144,14 +144,14 @@ module _ (s : List ℕ) (at : ℕ) (g : ItemHere shape.Field s at) where
       unfolding coding codingOf encodingIn encodingPlace marksPlace
       coded =
           let h = encoding-stands s (e + 1) encoding-good .base in
-          ap₂ coding d (ap (λ (k : ℕ). getD s (e + 1 + k) 0) d ∙ sym h) ∙ ap (λ (k : ℕ). encodingIn s (k + 1)) q ∙ sym (field-encoding s at g)
+          ap₂ coding d (ap (λ (k : ℕ). getD s (e + 1 + k) 0) d ∙ sym h) ∙ ap (λ (k : ℕ). encodingIn s (k + 1)) q ∙ sym (ap (λ (f : Field). f .encoding) (field-parts s at g .value))
 
   -- a default encoding and no limit
   module _ {e : ℕ} (q : e ≡ nameEnd s (at + 4)) where
     pub plain-there : e + 1 + 1 < length s
     plain-there =
         let l = limit-at q refl in
-        let p = limit-there s (limitPlace s at) (parts-of-field s at g .limit) in
+        let p = limit-there s (limitPlace s at) (field-parts s at g .limit) in
         omega arith
 
     no-delta : getD s (e + 1) 0 ≡ 0 → 0 ≡ encodingIn s (e + 1) .deltas
@@ -163,7 +163,7 @@ module _ (s : List ℕ) (at : ℕ) (g : ItemHere shape.Field s at) where
     unfolding typePlace endOf
     no-more z y =
         let l : e + 1 + 1 ≡ limitPlace s at = (let m = limit-at q (no-delta z) in omega arith) in
-        let r = ap endOf (limit-none s (limitPlace s at) (parts-of-field s at g .limit) (ap (λ (i : ℕ). getD s i 0) (sym l) ∙ y)) in
+        let r = ap endOf (limit-none s (limitPlace s at) (field-parts s at g .limit) (ap (λ (i : ℕ). getD s i 0) (sym l) ∙ y)) in
         omega arith
 
     pub plain-type : {b : Bool} → b ≡ true → b ≡ (eqb (getD s (e + 1) 0) 0 && eqb (getD s (e + 1 + 1) 0) 0) → e + 1 + 2 ≡ typePlace s at
@@ -175,7 +175,7 @@ module _ (s : List ℕ) (at : ℕ) (g : ItemHere shape.Field s at) where
         go false y p r h = absurd (false≢true h)
 
   pub limit-good : Good (limitAt s (limitPlace s at))
-  limit-good = parts-of-field s at g .limit
+  limit-good = field-parts s at g .limit
 
   module _ {p : ℕ} (q : p ≡ limitPlace s at) where
     good : Good (limitAt s p)
@@ -185,7 +185,7 @@ module _ (s : List ℕ) (at : ℕ) (g : ItemHere shape.Field s at) where
     place-there = limit-there s p good
 
     value : fieldIn s at .limit ≡ valueOr none (limitAt s p)
-    value = field-limit s at g ∙ ap (λ (k : ℕ). valueOr none (limitAt s k)) (sym q)
+    value = ap (λ (f : Field). f .limit) (field-parts s at g .value) ∙ ap (λ (k : ℕ). valueOr none (limitAt s k)) (sym q)
 
     type-at : typePlace s at ≡ endOf (limitAt s p)
     unfolding typePlace

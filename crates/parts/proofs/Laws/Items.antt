@@ -56,14 +56,15 @@ pub record FieldParts (s : List ℕ) (at : ℕ) : Type 0 where
   pub encoding : Good (encodingAt s (encodingPlace s at))
   pub limit : Good (limitAt s (limitPlace s at))
   pub type : TypeHere 32 s (typePlace s at)
-  pub is : fieldAt s at ≡ ok (record {
+  pub value : fieldIn s at ≡ record {
     ordinal = littleEndian 4 (drop at s);
     name = nameIn s (at + 4);
     marks = marksOf (getD s (marksPlace s at) 0);
     encoding = valueOr (plain 0) (encodingAt s (encodingPlace s at));
     limit = valueOr none (limitAt s (limitPlace s at));
     type = treeIn s (typePlace s at);
-  }) (typeEnd s (typePlace s at))
+  }
+  pub end : itemEnd shape.Field s at ≡ typeEnd s (typePlace s at)
 
 afterName : List ℕ → ℕ → Name → ℕ → Parsed Field
 afterName s o x n₂ =
@@ -73,8 +74,8 @@ afterName s o x n₂ =
     bind (typeAt s n₅) (λ t n₆.
     ok (record { ordinal = o; name = x; marks = m; encoding = e; limit = l; type = t }) n₆))))
 
-pub field-parts : (s : List ℕ) (at : ℕ) → Good (fieldAt s at) → FieldParts s at
-unfolding fieldAt keyed afterName marksPlace encodingPlace limitPlace typePlace
+pub field-parts : (s : List ℕ) (at : ℕ) → ItemHere shape.Field s at → FieldParts s at
+unfolding ItemHere itemAt itemEnd fieldIn valueOr endOf fieldAt keyed afterName marksPlace encodingPlace limitPlace typePlace
 field-parts s at g =
     let k = key-is s at (afterName s) g in
     let g₂ : Good (afterName s (littleEndian 4 (drop at s)) (nameIn s (at + 4)) (nameEnd s (at + 4))) = rw k at g in
@@ -85,6 +86,7 @@ field-parts s at g =
     let l = good-first none (limitAt s (limitPlace s at)) _ g₄ in
     let g₅ = then-good _ (good-is none _ l) g₄ in
     let t = good-first noType (typeAt s (typePlace s at)) _ g₅ in
+    let e₆ = k ∙ then-is _ (m .0) ∙ then-is _ (good-is (plain 0) _ e) ∙ then-is _ (good-is none _ l) ∙ then-is _ (type-at-is s (typePlace s at) t) in
     record {
       inside = key-inside s at (afterName s) g;
       name = key-name s at (afterName s) g;
@@ -92,7 +94,8 @@ field-parts s at g =
       encoding = e;
       limit = l;
       type = type-here s (typePlace s at) t;
-      is = k ∙ then-is _ (m .0) ∙ then-is _ (good-is (plain 0) _ e) ∙ then-is _ (good-is none _ l) ∙ then-is _ (type-at-is s (typePlace s at) t);
+      value = ap (valueOr noField) e₆;
+      end = ap endOf e₆;
     }
 
 -- a count, and as many
@@ -115,11 +118,14 @@ module _ {A : Type 0} (p : List ℕ → ℕ → Parsed A) (s : List ℕ) (at : �
 pub record BareParts (s : List ℕ) (at : ℕ) : Type 0 where
   pub inside : at + 4 ≤ length s
   pub name : NameHere s (at + 4)
-  pub is : bareAt s at ≡ ok (record { ordinal = littleEndian 4 (drop at s); name = nameIn s (at + 4); fields = [] }) (nameEnd s (at + 4))
+  pub value : bareIn s at ≡ record { ordinal = littleEndian 4 (drop at s); name = nameIn s (at + 4); fields = [] }
+  pub end : itemEnd shape.Bare s at ≡ nameEnd s (at + 4)
 
-pub bare-parts : (s : List ℕ) (at : ℕ) → Good (bareAt s at) → BareParts s at
-unfolding bareAt keyed
-bare-parts s at g = record { inside = key-inside s at _ g; name = key-name s at _ g; is = key-is s at _ g }
+pub bare-parts : (s : List ℕ) (at : ℕ) → ItemHere shape.Bare s at → BareParts s at
+unfolding ItemHere itemAt itemEnd bareIn valueOr endOf bareAt keyed
+bare-parts s at g =
+    let e = key-is s at _ g in
+    record { inside = key-inside s at _ g; name = key-name s at _ g; value = ap (valueOr noVariant) e; end = ap endOf e }
 
 -- an ordinal and a name are all that it needs
 bare-there : (s : List ℕ) (at : ℕ) → at + 4 ≤ length s → NameHere s (at + 4)
@@ -137,109 +143,72 @@ pub record VariantParts (s : List ℕ) (at : ℕ) : Type 0 where
   pub name : NameHere s (at + 4)
   pub count : nameEnd s (at + 4) + 2 ≤ length s
   pub items : Good (many fieldAt (variantItems s at .count) s (variantItems s at .start))
-  pub is : variantAt s at ≡ ok (record {
+  pub value : variantIn s at ≡ record {
     ordinal = littleEndian 4 (drop at s);
     name = nameIn s (at + 4);
     fields = valueOr [] (many fieldAt (variantItems s at .count) s (variantItems s at .start));
-  }) (endOf (many fieldAt (variantItems s at .count) s (variantItems s at .start)))
+  }
+  pub end : itemEnd shape.Variant s at ≡ itemsEnd shape.Field s (variantItems s at .count) (variantItems s at .start)
 
-pub variant-parts : (s : List ℕ) (at : ℕ) → Good (variantAt s at) → VariantParts s at
-unfolding variantAt keyed variantItems
+pub variant-parts : (s : List ℕ) (at : ℕ) → ItemHere shape.Variant s at → VariantParts s at
+unfolding ItemHere itemAt itemEnd itemsEnd variantIn valueOr endOf variantAt keyed variantItems
 variant-parts s at g =
     let c = nameEnd s (at + 4) in
     let k = key-is s at (λ o x n. bind (counted fieldAt s n) (λ fs m. ok (record { ordinal = o; name = x; fields = fs }) m)) g in
     let b = good-first [] (counted fieldAt s c) _ (rw k at g) in
     let e = counted-is fieldAt s c b ∙ good-is [] _ (counted-good fieldAt s c b) in
+    let d = k ∙ then-is _ e in
     record {
       inside = key-inside s at _ g;
       name = key-name s at _ g;
       count = count-inside fieldAt s c b;
       items = counted-good fieldAt s c b;
-      is = k ∙ then-is _ e;
+      value = ap (valueOr noVariant) d;
+      end = ap endOf d;
     }
 
 -- the key of every item is a bare one's
 module _ (s : List ℕ) (at : ℕ) where
-  pub bare-key : ItemHere shape.Bare s at → (ordinalIn s at ≡ littleEndian 4 (drop at s)) × (itemName s at ≡ nameIn s (at + 4))
-  unfolding ItemHere itemAt bareIn valueOr
-  bare-key g = let e = ap (valueOr noVariant) (bare-parts s at g .is) in (ap (λ (v : Variant). v .ordinal) e, ap (λ (v : Variant). v .name) e)
-
-  pub parts-of-bare : ItemHere shape.Bare s at → BareParts s at
-  unfolding ItemHere itemAt
-  parts-of-bare g = bare-parts s at g
-
-  pub bare-end : ItemHere shape.Bare s at → itemEnd shape.Bare s at ≡ nameEnd s (at + 4)
-  unfolding itemEnd itemAt endOf
-  bare-end g = ap endOf (parts-of-bare g .is)
-
   pub item-bare : (h : Shape) → ItemHere h s at → ItemHere shape.Bare s at
   unfolding ItemHere itemAt
   item-bare shape.Field g = let p = field-parts s at g in bare-good s at (p .inside) (p .name)
   item-bare shape.Bare g = g
   item-bare shape.Variant g = let p = variant-parts s at g in bare-good s at (p .inside) (p .name)
 
-  -- the values of a field's parts
-  module _ (g : ItemHere shape.Field s at) where
-    pub parts-of-field : FieldParts s at
-    unfolding ItemHere itemAt
-    parts-of-field = field-parts s at g
+  pub ordinal-is : ItemHere shape.Bare s at → ordinalIn s at ≡ littleEndian 4 (drop at s)
+  ordinal-is g = ap (λ (v : Variant). v .ordinal) (bare-parts s at g .value)
 
+  pub name-is-bare : ItemHere shape.Bare s at → itemName s at ≡ nameIn s (at + 4)
+  name-is-bare g = ap (λ (v : Variant). v .name) (bare-parts s at g .value)
+
+  -- the values of a field's parts, and of a variant's
+  module _ (g : ItemHere shape.Field s at) where
     pub field-ordinal : fieldIn s at .ordinal ≡ ordinalIn s at
-    unfolding fieldIn valueOr
-    field-ordinal = ap (λ (p : Parsed Field). valueOr noField p .ordinal) (parts-of-field .is) ∙ sym (bare-key (item-bare shape.Field g) .0)
+    field-ordinal = ap (λ (f : Field). f .ordinal) (field-parts s at g .value) ∙ sym (ordinal-is (item-bare shape.Field g))
 
     pub field-name : fieldIn s at .name ≡ itemName s at
-    unfolding fieldIn valueOr
-    field-name = ap (λ (p : Parsed Field). valueOr noField p .name) (parts-of-field .is) ∙ sym (bare-key (item-bare shape.Field g) .1)
-
-    pub field-marks : fieldIn s at .marks ≡ marksOf (getD s (marksPlace s at) 0)
-    unfolding fieldIn valueOr
-    field-marks = ap (λ (p : Parsed Field). valueOr noField p .marks) (parts-of-field .is)
-
-    pub field-encoding : fieldIn s at .encoding ≡ valueOr (plain 0) (encodingAt s (encodingPlace s at))
-    unfolding fieldIn valueOr
-    field-encoding = ap (λ (p : Parsed Field). valueOr noField p .encoding) (parts-of-field .is)
-
-    pub field-limit : fieldIn s at .limit ≡ valueOr none (limitAt s (limitPlace s at))
-    unfolding fieldIn valueOr
-    field-limit = ap (λ (p : Parsed Field). valueOr noField p .limit) (parts-of-field .is)
+    field-name = ap (λ (f : Field). f .name) (field-parts s at g .value) ∙ sym (name-is-bare (item-bare shape.Field g))
 
     pub field-type : fieldIn s at .type ≡ treeIn s (typePlace s at)
-    unfolding fieldIn valueOr
-    field-type = ap (λ (p : Parsed Field). valueOr noField p .type) (parts-of-field .is)
+    field-type = ap (λ (f : Field). f .type) (field-parts s at g .value)
 
     pub field-type-here : TypeHere 32 s (typePlace s at)
-    field-type-here = parts-of-field .type
+    field-type-here = field-parts s at g .type
 
-    pub field-end : itemEnd shape.Field s at ≡ typeEnd s (typePlace s at)
-    unfolding itemEnd itemAt endOf
-    field-end = ap endOf (parts-of-field .is)
-
-  -- the values of a variant's parts
   module _ (g : ItemHere shape.Variant s at) where
-    pub parts-of-variant : VariantParts s at
-    unfolding ItemHere itemAt
-    parts-of-variant = variant-parts s at g
-
     pub variant-ordinal : variantIn s at .ordinal ≡ ordinalIn s at
-    unfolding variantIn valueOr
-    variant-ordinal = ap (λ (p : Parsed Variant). valueOr noVariant p .ordinal) (parts-of-variant .is) ∙ sym (bare-key (item-bare shape.Variant g) .0)
+    variant-ordinal = ap (λ (v : Variant). v .ordinal) (variant-parts s at g .value) ∙ sym (ordinal-is (item-bare shape.Variant g))
 
     pub variant-name : variantIn s at .name ≡ itemName s at
-    unfolding variantIn valueOr
-    variant-name = ap (λ (p : Parsed Variant). valueOr noVariant p .name) (parts-of-variant .is) ∙ sym (bare-key (item-bare shape.Variant g) .1)
+    variant-name = ap (λ (v : Variant). v .name) (variant-parts s at g .value) ∙ sym (name-is-bare (item-bare shape.Variant g))
 
     pub variant-items : ItemsHere shape.Field s (variantItems s at .count) (variantItems s at .start)
     unfolding ItemsHere itemAt
-    variant-items = parts-of-variant .items
+    variant-items = variant-parts s at g .items
 
     pub variant-fields : variantIn s at .fields ≡ map (fieldIn s) (placesFrom shape.Field s (variantItems s at .count) (variantItems s at .start))
-    unfolding variantIn valueOr fieldIn placesFrom itemEnd itemAt
-    variant-fields = ap (λ (p : Parsed Variant). valueOr noVariant p .fields) (parts-of-variant .is) ∙ many-places noField fieldAt s _ _ (parts-of-variant .items)
-
-    pub variant-end : itemEnd shape.Variant s at ≡ itemsEnd shape.Field s (variantItems s at .count) (variantItems s at .start)
-    unfolding itemEnd itemsEnd itemAt endOf
-    variant-end = ap endOf (parts-of-variant .is)
+    unfolding fieldIn placesFrom itemEnd itemAt
+    variant-fields = ap (λ (v : Variant). v .fields) (variant-parts s at g .value) ∙ many-places noField fieldAt s _ _ (variant-parts s at g .items)
 
 noItem : (h : Shape) → ItemOf h
 noItem shape.Field = noField

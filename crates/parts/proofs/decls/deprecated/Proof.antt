@@ -1,34 +1,16 @@
 -- `parts::decls::deprecated` meets its contract. Assumes nothing.
-use mathlib.Core.Path.{sym, ap, _∙_}
-use Prim.Native.Nat.{ℕ}
-use native.Mathlib.Omega.{arith}
-use lib.ListN.{getD}
+use mathlib.Core.Path.{ap}
 use Rattle.image.specs.Fields.{marksOf}
 use Rattle.image.specs.Schema.{Marks}
-use Rattle.parts.proofs.Laws.Decls.{kind-there, decl-head}
 use Rattle.parts.proofs.decls.deprecated.Statement.{statement}
 use Rattle.parts.proofs.decls.deprecated.Tie as tie
 
-shared-slice-read-if1 : tie.Need-shared-slice-read-if1
-shared-slice-read-if1 c = kind-there _ _ (c .before .before .pre)
+marks-requires : tie.Need-marks-requires
+marks-requires c κs = c .before .pre
 
 returns : tie.Need-returns
-returns c = sym (ap (λ (m : Marks). m .deprecated) (decl-head _ _ (c .before .before .before .pre) .plain (c .if1 .taken)))
-
-add-name-end : tie.Need-add-name-end
-add-name-end c = let t = kind-there _ _ (c .before .before .before .pre) in omega arith
-
-name-end-requires : tie.Need-name-end-requires
-name-end-requires c κs = decl-head _ _ (c .before .before .before .pre) .named (λ e. omega (arith, e, c .if1 .left)) .0
-
-shared-slice-read-result : tie.Need-shared-slice-read-result
-shared-slice-read-result c = rw (c .before .name-end .ensures) (decl-head _ _ (c .before .before .before .before .before .pre) .marked (c .before .before .if1 .left) .0)
-
-returns-2 : tie.Need-returns-2
 unfolding marksOf
-returns-2 c =
-    ap (λ (n : ℕ). marksOf (getD (c .before .before .before .before .before .args .image .now) n 0) .deprecated) (c .before .name-end .ensures)
-    ∙ sym (ap (λ (m : Marks). m .deprecated) (decl-head _ _ (c .before .before .before .before .before .pre) .marked (c .before .before .if1 .left) .1))
+returns c = ap (λ (m : Marks). m .deprecated) (c .marks .ensures)
 
 pub deprecated-spec : {M : Type 1} → statement M
-deprecated-spec = tie.close (tie.spec shared-slice-read-if1 returns add-name-end name-end-requires shared-slice-read-result returns-2)
+deprecated-spec = tie.close (tie.spec marks-requires returns)

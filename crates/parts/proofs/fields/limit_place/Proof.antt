@@ -1,15 +1,15 @@
 -- `parts::fields::limit_place` meets its contract. Assumes nothing.
 use native.Mathlib.Omega.{arith}
 use Rattle.parts.proofs.Laws.Fields.{encoding-good, marks-there, base-there, limit-at}
-use Rattle.parts.proofs.Laws.Items.{parts-of-field}
+use Rattle.parts.proofs.Laws.Items.{field-parts}
 use Rattle.parts.proofs.fields.limit_place.Statement.{statement}
 use Rattle.parts.proofs.fields.limit_place.Tie as tie
 
 add-name-end : tie.Need-add-name-end
-add-name-end c = let h = parts-of-field _ _ (c .before .pre) .inside in omega arith
+add-name-end c = let h = field-parts _ _ (c .before .pre) .inside in omega arith
 
 name-end-requires : tie.Need-name-end-requires
-name-end-requires c κs = parts-of-field _ _ (c .before .pre) .name
+name-end-requires c κs = field-parts _ _ (c .before .pre) .name
 
 add-start : tie.Need-add-start
 add-start c = let t = marks-there _ _ (c .before .before .pre) (c .name-end .ensures) in omega arith

@@ -1,14 +1,14 @@
 -- `parts::items::ordinal_at` meets its contract. Assumes nothing.
 use mathlib.Core.Path.{sym, _∙_}
-use Rattle.parts.proofs.Laws.Items.{parts-of-bare, bare-key}
+use Rattle.parts.proofs.Laws.Items.{bare-parts, ordinal-is}
 use Rattle.parts.proofs.items.ordinal_at.Statement.{statement}
 use Rattle.parts.proofs.items.ordinal_at.Tie as tie
 
 u32-at-requires : tie.Need-u32-at-requires
-u32-at-requires c κs = parts-of-bare _ _ (c .before .pre) .inside
+u32-at-requires c κs = bare-parts _ _ (c .before .pre) .inside
 
 returns : tie.Need-returns
-returns c = c .u32-at .ensures ∙ sym (bare-key _ _ (c .before .before .pre) .0)
+returns c = c .u32-at .ensures ∙ sym (ordinal-is _ _ (c .before .before .pre))
 
 pub ordinal-at-spec : {M : Type 1} → statement M
 ordinal-at-spec = tie.close (tie.spec u32-at-requires returns)

@@ -1,19 +1,19 @@
 -- `parts::items::variant_items` meets its contract. Assumes nothing.
 use mathlib.Core.Path.{ap, _∙_}
 use native.Mathlib.Omega.{arith}
-use Rattle.parts.proofs.Laws.Items.{parts-of-variant}
+use Rattle.parts.proofs.Laws.Items.{variant-parts}
 use Rattle.parts.specs.Promise.{itemsAt, variantItems}
 use Rattle.parts.proofs.items.variant_items.Statement.{statement}
 use Rattle.parts.proofs.items.variant_items.Tie as tie
 
 add-name-end : tie.Need-add-name-end
-add-name-end c = let h = parts-of-variant _ _ (c .before .pre) .inside in omega arith
+add-name-end c = let h = variant-parts _ _ (c .before .pre) .inside in omega arith
 
 name-end-requires : tie.Need-name-end-requires
-name-end-requires c κs = parts-of-variant _ _ (c .before .pre) .name
+name-end-requires c κs = variant-parts _ _ (c .before .pre) .name
 
 items-at-requires : tie.Need-items-at-requires
-items-at-requires c κs = rw (c .name-end .ensures) (parts-of-variant _ _ (c .before .before .pre) .count)
+items-at-requires c κs = rw (c .name-end .ensures) (variant-parts _ _ (c .before .before .pre) .count)
 
 returns : tie.Need-returns
 unfolding variantItems
