@@ -19,18 +19,18 @@ use Rattle.parts.specs.declared.Entry.{Entry}
 use Rattle.parts.proofs.Laws.Places.{places-none as by-none, places-more as by-more}
 use Rattle.parts.proofs.Laws.Decls.{decl-head}
 -- the image: its length, and its namespace by the names at their places
-pub use Rattle.parts.proofs.Laws.Contents.{accepted-most, segments-here, segments-are}
+pub use Rattle.parts.proofs.Laws.Contents.{accepted-most, segments-listed}
 -- so many names, or items: the first, and the rest, and the one at any of their places
 pub use Rattle.parts.proofs.Laws.Skips.{names-first, names-rest}
 pub use Rattle.parts.proofs.Laws.Items.{items-first, items-rest, items-member}
 -- a declaration: the items of a message, an enum, flags, a union, and that they are its fields or its variants; a newtype's type
-pub use Rattle.parts.proofs.Laws.Decls.{message-items, message-fields, enum-items, enum-variants, flags-items, flags-bits, union-items, union-variants, inner-here, inner-tree}
+pub use Rattle.parts.proofs.Laws.Decls.{message-listed, enum-listed, flags-listed, union-listed, inner-here, inner-tree}
 -- an item: what holds of a bare one holds of its start; the values of a field and of a union's variant
-pub use Rattle.parts.proofs.Laws.Items.{item-bare, field-ordinal, field-name, field-type-here, field-type, variant-ordinal, variant-name, variant-items, variant-fields}
+pub use Rattle.parts.proofs.Laws.Items.{item-bare, field-ordinal, field-name, field-type-here, field-type, variant-ordinal, variant-name, variant-listed}
 -- a type: at most 32 nodes on a path may be said of any; it has a label; a node by how many inner types its tag has
 pub use Rattle.parts.proofs.Laws.Trees.{type-whole, type-some, type-label, type-first, type-second, node-leaf, node-one, node-two}
 -- a label: what its tag has not; the names of bits
-pub use Rattle.parts.proofs.Laws.Labels.{defaults, bits-here, bits-names}
+pub use Rattle.parts.proofs.Laws.Labels.{defaults, bits-listed}
 
 -- what `read_image` accepted
 pub accepted : (s : List ℕ) {r : Acceptance} → Answers (readImage s) r → r ≡ Acceptance.Accepted → Accepted s

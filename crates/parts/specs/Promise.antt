@@ -4,7 +4,7 @@
 use mathlib.Core.Path.{_≡_}
 use mathlib.Core.Bool.{cond}
 use mathlib.Core.Option.{Option, none, some}
-use mathlib.Core.List.{List, [], _∷_}
+use mathlib.Core.List.{List, [], _∷_, map}
 use Prim.Native.Nat.{ℕ, zero, suc, _+_, _≤_, _<_}
 use lib.Dec.{leb}
 use lib.ListN.{getD, drop}
@@ -71,6 +71,11 @@ namePlaces s count at = placesBy (nameEnd s) count at
 unfoldable pub namesEnd : List ℕ → ℕ → ℕ → ℕ
 namesEnd s count at = endOf (namesAt 8 count s at)
 
+-- so many names stand in a row, and are these
+pub record NamesListed (s : List ℕ) (n : Run) (xs : List Name) : Type 0 where
+  pub here : NamesHere s (n .count) (n .start)
+  pub are : xs ≡ map (nameIn s) (namePlaces s (n .count) (n .start))
+
 -- Types. A label is a node without its inner types.
 unfoldable pub LabelHere : List ℕ → ℕ → Type 0
 LabelHere s at = Good (labelOf (drop at s))
@@ -131,6 +136,11 @@ itemsEnd h s count at = endOf (many (itemAt h) count s at)
 unfoldable pub placesFrom : Shape → List ℕ → ℕ → ℕ → List ℕ
 placesFrom h s count at = placesBy (itemEnd h s) count at
 
+-- so many items of a shape stand in a row, and are these
+pub record ItemsListed (h : Shape) (s : List ℕ) (n : Run) (item : ℕ → ItemOf h) (xs : List (ItemOf h)) : Type 0 where
+  pub here : ItemsHere h s (n .count) (n .start)
+  pub are : xs ≡ map item (placesFrom h s (n .count) (n .start))
+
 -- a u16 count, and as many items
 unfoldable pub itemsAt : List ℕ → ℕ → Run
 itemsAt s at = record { start = at + 2; count = littleEndian 2 (drop at s) }
@@ -173,8 +183,8 @@ unfoldable pub typePlace : List ℕ → ℕ → ℕ
 typePlace s at = endOf (limitAt s (limitPlace s at))
 
 -- the values of the code's answers
-unfoldable pub encodingOf : Encoding → Coding
-encodingOf e = record { deltas = e .deltas; base = e .base }
+unfoldable pub codingOf : Encoding → Coding
+codingOf e = record { deltas = e .deltas; base = e .base }
 
 unfoldable pub limitOf : Limit → Option ℕ
 limitOf (Most n) = some n

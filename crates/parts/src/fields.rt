@@ -11,7 +11,7 @@ ghost use lib.ListN.{length, getD};
 ghost use Rattle.image.specs.Fields.{encodingAt, limitAt};
 ghost use Rattle.image.specs.WellFormed.{Good, endOf};
 ghost use Rattle.parts.specs.declared.Shape.{Shape};
-ghost use Rattle.parts.specs.Promise.{ItemHere, itemEnd, fieldIn, encodingIn, limitPlace, typePlace, encodingOf, limitOf};
+ghost use Rattle.parts.specs.Promise.{ItemHere, itemEnd, fieldIn, encodingIn, limitPlace, typePlace, codingOf, limitOf};
 
 // Whether a field is marked as deprecated.
 pub fn field_deprecated(image: &[u8], at: usize) -> bool
@@ -36,7 +36,7 @@ fn deltas(image: &[u8], at: usize) -> usize
 
 pub fn field_encoding(image: &[u8], at: usize) -> Encoding
     requires { ⌜ ItemHere Shape.Field (now image) at ⌝ }
-    ensures { λ r. ⌜ encodingOf r ≡ fieldIn (now (image .entry)) at .encoding ⌝ }
+    ensures { λ r. ⌜ codingOf r ≡ fieldIn (now (image .entry)) at .encoding ⌝ }
 {
     let start = name_end(image, at + 4) + 1;
     let n = deltas(image, start);

@@ -17,7 +17,7 @@ use Rattle.image.specs.Image.{entryCount, idCount, segmentCount, entryOffset, e
 use Rattle.image.specs.WellFormed.{Good, valueOr, endOf}
 use Rattle.image.proofs.Laws.Sure.{Sure, sure-ok, sure-need, names-sure}
 use Rattle.image.proofs.Laws.Good.{sure-good, good-first, many-count}
-use Rattle.parts.specs.Promise.{noDecl, Accepted, schemaOf, NamesHere, namePlaces, nameIn, nameEnd, bodyAt, DeclHere, declIn, segmentsIn}
+use Rattle.parts.specs.Promise.{noDecl, Accepted, schemaOf, NamesHere, NamesListed, namePlaces, nameIn, nameEnd, bodyAt, DeclHere, declIn, segmentsIn}
 use Rattle.parts.proofs.Laws.Kept.{kept-good, kept-value, kept-end, part-of, part-self, names-kept, body-kept}
 use Rattle.parts.proofs.Laws.Steps.{good-is, then-is, then-good, need-is, need-true, byte-is}
 use Rattle.parts.proofs.Laws.Places.{many-places}
@@ -203,10 +203,8 @@ module _ (s : List ℕ) (g : Accepted s) where
       let k = rw z at (names-kept (part-self s) 2 8 (segmentCount s) (segmentsAt s)) in
       (kept-good k (whole s g .names), ap (λ (c : Schema). c .namespace) (whole s g .is) ∙ sym (kept-value [] k (whole s g .names)))
 
-  pub segments-here : NamesHere s (segmentsIn s .count) (segmentsIn s .start)
-  unfolding NamesHere segmentsIn
-  segments-here = names-again .0
-
-  pub segments-are : schemaOf s .namespace ≡ map (nameIn s) (namePlaces s (segmentsIn s .count) (segmentsIn s .start))
-  unfolding segmentsIn namePlaces nameIn nameEnd namesAt
-  segments-are = names-again .1 ∙ many-places [] (nameAt 8) s (segmentCount s) (segmentsAt s) (names-again .0)
+  pub segments-listed : NamesListed s (segmentsIn s) (schemaOf s .namespace)
+  unfolding NamesHere segmentsIn namePlaces nameIn nameEnd namesAt
+  segments-listed =
+      let h = names-again in
+      record { here = h .0; are = h .1 ∙ many-places [] (nameAt 8) s (segmentCount s) (segmentsAt s) (h .0) }

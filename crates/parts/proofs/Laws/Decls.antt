@@ -1,7 +1,7 @@
 -- Declarations at places of the image. Assumes nothing.
 use mathlib.Core.Path.{_≡_, refl, sym, ap, ap₂, _∙_}
 use mathlib.Core.Bool.{Bool, true, false, cond}
-use mathlib.Core.List.{List, [], _∷_, map}
+use mathlib.Core.List.{List, []}
 use Prim.Native.Nat.{ℕ, zero, suc, _+_, _≤_, _<_}
 use native.Mathlib.Omega.{arith}
 use borrow.Author.Tests.{le-leb, lt-leb}
@@ -16,8 +16,7 @@ use Rattle.image.specs.Bodies.{messageAt, enumAt, flagsAt, unionAt, newtypeAt, 
 use Rattle.image.specs.WellFormed.{Good, valueOr, endOf}
 use Rattle.image.proofs.Laws.Sure.{Sure, sure-ok, sure-no, sure-bind, sure-then, code-sure}
 use Rattle.image.proofs.Laws.Good.{sure-good, good-first}
-use Rattle.parts.specs.Promise.{noField, noVariant, noDecl, NameHere, nameIn, nameEnd, TypeHere, treeIn, ItemOf, itemAt, itemEnd, ItemsHere, placesFrom, itemsAt, bareIn, variantIn, fieldIn, bodyAt, DeclHere, declIn, itemsIn, innerPlace}
-use Rattle.parts.specs.declared.Shape.{Shape}
+use Rattle.parts.specs.Promise.{noField, noVariant, noDecl, NameHere, nameIn, nameEnd, TypeHere, treeIn, itemAt, itemEnd, ItemsHere, ItemsListed, placesFrom, itemsAt, bareIn, variantIn, fieldIn, bodyAt, DeclHere, declIn, itemsIn, innerPlace}
 use Rattle.parts.specs.declared.Shape.the-variants as shape
 use Rattle.parts.specs.declared.Run.{Run}
 use Rattle.parts.proofs.Laws.Steps.{good-is, then-is, then-good, byte-is, marks-is, name-is}
@@ -28,8 +27,8 @@ use Rattle.parts.proofs.Laws.Items.{type-here, type-at-is, count-inside
 pub record Headed (kind : ℕ) (s : List ℕ) (at : ℕ) (d : Decl) : Type 0 where
   pub is : d .kind ≡ kind
   pub most : kind ≤ 8
-  pub nameless : kind ≡ 8 → d .name ≡ []
-  pub named : (kind ≡ 8 → ⊥) → NameHere s at × (d .name ≡ nameIn s at)
+  pub nameless : 7 < kind → d .name ≡ []
+  pub named : kind < 8 → NameHere s at × (d .name ≡ nameIn s at)
   pub marked : kind ≤ 1 → (nameEnd s at < length s) × (d .marks ≡ marksOf (getD s (nameEnd s at) 0))
   pub plain : 1 < kind → d .marks ≡ unmarked
 
@@ -90,7 +89,7 @@ module _ (s : List ℕ) (at : ℕ) where
   head-sure (suc (suc (suc (suc (suc (suc zero)))))) = sure-bind _ name-sure-here (λ x n q. sure-ok (without 6 (omega arith) (omega arith) q [] [] noType))
   head-sure (suc (suc (suc (suc (suc (suc (suc zero))))))) = sure-bind _ name-sure-here (λ x n q. sure-ok (without 7 (omega arith) (omega arith) q [] [] noType))
   head-sure (suc (suc (suc (suc (suc (suc (suc (suc zero)))))))) =
-      sure-ok (record { is = refl; most = omega arith; nameless = λ _. refl; named = λ f. absurd (f refl); marked = λ z. absurd (omega arith); plain = λ _. refl })
+      sure-ok (record { is = refl; most = omega arith; nameless = λ _. refl; named = λ z. absurd (omega arith); marked = λ z. absurd (omega arith); plain = λ _. refl })
   head-sure (suc (suc (suc (suc (suc (suc (suc (suc (suc k))))))))) = sure-no
 
 -- a declaration is its kind, and what follows it
@@ -126,44 +125,44 @@ module _ (s : List ℕ) (at : ℕ) (g : DeclHere s at) where
     kind-value = ap (valueOr noDecl) of-kind
 
 -- a list of items stands at its place, and is this
-pub record Listed {A : Type 0} (p : List ℕ → ℕ → Parsed A) (s : List ℕ) (n : Run) (xs : List A) : Type 0 where
-  pub inside : n .start ≤ length s
-  pub good : Good (many p (n .count) s (n .start))
-  pub are : xs ≡ valueOr [] (many p (n .count) s (n .start))
+record Counted {A : Type 0} (p : List ℕ → ℕ → Parsed A) (s : List ℕ) (n : Run) (xs : List A) : Type 0 where
+  inside : n .start ≤ length s
+  good : Good (many p (n .count) s (n .start))
+  are : xs ≡ valueOr [] (many p (n .count) s (n .start))
 
 module _ {A : Type 0} (p : List ℕ → ℕ → Parsed A) (s : List ℕ) (at : ℕ) (list : Decl → List A) where
-  counted-listed : (d : Decl) (n : ℕ) (b : Good (counted p s n)) → list d ≡ valueOr [] (many p (itemsAt s n .count) s (itemsAt s n .start))
-      → Listed p s (itemsAt s n) (list d)
+  counted-there : (d : Decl) (n : ℕ) (b : Good (counted p s n)) → list d ≡ valueOr [] (many p (itemsAt s n .count) s (itemsAt s n .start))
+      → Counted p s (itemsAt s n) (list d)
   unfolding itemsAt
-  counted-listed d n b e = record { inside = count-inside p s n b; good = counted-good p s n b; are = e }
+  counted-there d n b e = record { inside = count-inside p s n b; good = counted-good p s n b; are = e }
 
   -- name, marks and a count
   module _ (k : Name → Marks → List A → Decl) (l : (x : Name) (m : Marks) (xs : List A) → list (k x m xs) ≡ xs) where
     marked-list : Parsed Decl
     marked-list = bind (nameAt 8 s at) (λ x n₁. bind (marksAt s n₁) (λ m n₂. bind (counted p s n₂) (λ xs n₃. ok (k x m xs) n₃)))
 
-    marked-listed : Good marked-list → Listed p s (itemsAt s (nameEnd s at + 1)) (list (valueOr noDecl marked-list))
+    marked-counted : Good marked-list → Counted p s (itemsAt s (nameEnd s at + 1)) (list (valueOr noDecl marked-list))
     unfolding marked-list NameHere valueOr
-    marked-listed g =
+    marked-counted g =
         let n = name-is s at (good-first [] (nameAt 8 s at) _ g) in
         let g₂ = then-good _ n g in
         let m = marks-is s (nameEnd s at) (good-first unmarked (marksAt s (nameEnd s at)) _ g₂) .0 in
         let b = good-first [] (counted p s (nameEnd s at + 1)) _ (then-good _ m g₂) in
         let e = counted-is p s _ b ∙ good-is [] _ (counted-good p s (nameEnd s at + 1) b) in
-        counted-listed _ (nameEnd s at + 1) b (ap (λ (q : Parsed Decl). list (valueOr noDecl q)) (then-is _ n ∙ then-is _ m ∙ then-is _ e) ∙ l _ _ _)
+        counted-there _ (nameEnd s at + 1) b (ap (λ (q : Parsed Decl). list (valueOr noDecl q)) (then-is _ n ∙ then-is _ m ∙ then-is _ e) ∙ l _ _ _)
 
   -- name and a count
   module _ (k : Name → List A → Decl) (l : (x : Name) (xs : List A) → list (k x xs) ≡ xs) where
     plain-list : Parsed Decl
     plain-list = bind (nameAt 8 s at) (λ x n₁. bind (counted p s n₁) (λ xs n₂. ok (k x xs) n₂))
 
-    plain-listed : Good plain-list → Listed p s (itemsAt s (nameEnd s at)) (list (valueOr noDecl plain-list))
+    plain-counted : Good plain-list → Counted p s (itemsAt s (nameEnd s at)) (list (valueOr noDecl plain-list))
     unfolding plain-list NameHere valueOr
-    plain-listed g =
+    plain-counted g =
         let n = name-is s at (good-first [] (nameAt 8 s at) _ g) in
         let b = good-first [] (counted p s (nameEnd s at)) _ (then-good _ n g) in
         let e = counted-is p s _ b ∙ good-is [] _ (counted-good p s (nameEnd s at) b) in
-        counted-listed _ (nameEnd s at) b (ap (λ (q : Parsed Decl). list (valueOr noDecl q)) (then-is _ n ∙ then-is _ e) ∙ l _ _)
+        counted-there _ (nameEnd s at) b (ap (λ (q : Parsed Decl). list (valueOr noDecl q)) (then-is _ n ∙ then-is _ e) ∙ l _ _)
 
 -- where a declaration's count stands, by its kind
 pub items-marked : (s : List ℕ) (at : ℕ) → declIn s at .kind ≤ 1 → itemsIn s at ≡ itemsAt s (nameEnd s (at + 1) + 1)
@@ -178,38 +177,38 @@ items-plain s at l =
 
 -- the items of each kind
 module _ (s : List ℕ) (at : ℕ) (g : DeclHere s at) where
-  message-listed : declIn s at .kind ≡ 0 → Listed fieldAt s (itemsIn s at) (declIn s at .fields)
+  message-counted : declIn s at .kind ≡ 0 → Counted fieldAt s (itemsIn s at) (declIn s at .fields)
   unfolding declAt messageAt marked-list
-  message-listed e =
+  message-counted e =
       rw (items-marked s at (omega arith), kind-value s at g 0 e)
-      (marked-listed fieldAt s (at + 1) (λ d. d .fields) (λ x m fs. decl 0 x m fs [] noType) (λ x m fs. refl) (kind-good s at g 0 e))
+      (marked-counted fieldAt s (at + 1) (λ d. d .fields) (λ x m fs. decl 0 x m fs [] noType) (λ x m fs. refl) (kind-good s at g 0 e))
 
-  enum-listed : declIn s at .kind ≡ 1 → Listed bareAt s (itemsIn s at) (declIn s at .variants)
+  enum-counted : declIn s at .kind ≡ 1 → Counted bareAt s (itemsIn s at) (declIn s at .variants)
   unfolding declAt enumAt marked-list
-  enum-listed e =
+  enum-counted e =
       rw (items-marked s at (omega arith), kind-value s at g 1 e)
-      (marked-listed bareAt s (at + 1) (λ d. d .variants) (λ x m vs. decl 1 x m [] vs noType) (λ x m vs. refl) (kind-good s at g 1 e))
+      (marked-counted bareAt s (at + 1) (λ d. d .variants) (λ x m vs. decl 1 x m [] vs noType) (λ x m vs. refl) (kind-good s at g 1 e))
 
-  flags-listed : declIn s at .kind ≡ 2 → Listed bareAt s (itemsIn s at) (declIn s at .variants)
+  flags-counted : declIn s at .kind ≡ 2 → Counted bareAt s (itemsIn s at) (declIn s at .variants)
   unfolding declAt flagsAt plain-list
-  flags-listed e =
+  flags-counted e =
       rw (items-plain s at (omega arith), kind-value s at g 2 e)
-      (plain-listed bareAt s (at + 1) (λ d. d .variants) (λ x vs. decl 2 x unmarked [] vs noType) (λ x vs. refl) (kind-good s at g 2 e))
+      (plain-counted bareAt s (at + 1) (λ d. d .variants) (λ x vs. decl 2 x unmarked [] vs noType) (λ x vs. refl) (kind-good s at g 2 e))
 
-  union-listed : declIn s at .kind ≡ 3 → Listed variantAt s (itemsIn s at) (declIn s at .variants)
+  union-counted : declIn s at .kind ≡ 3 → Counted variantAt s (itemsIn s at) (declIn s at .variants)
   unfolding declAt unionAt plain-list
-  union-listed e =
+  union-counted e =
       rw (items-plain s at (omega arith), kind-value s at g 3 e)
-      (plain-listed variantAt s (at + 1) (λ d. d .variants) (λ x vs. decl 3 x unmarked [] vs noType) (λ x vs. refl) (kind-good s at g 3 e))
+      (plain-counted variantAt s (at + 1) (λ d. d .variants) (λ x vs. decl 3 x unmarked [] vs noType) (λ x vs. refl) (kind-good s at g 3 e))
 
   pub items-inside : declIn s at .kind ≤ 3 → itemsIn s at .start ≤ length s
   items-inside l = go (declIn s at .kind) refl l
     where
       go : (k : ℕ) → declIn s at .kind ≡ k → k ≤ 3 → itemsIn s at .start ≤ length s
-      go zero e l = message-listed e .inside
-      go (suc zero) e l = enum-listed e .inside
-      go (suc (suc zero)) e l = flags-listed e .inside
-      go (suc (suc (suc zero))) e l = union-listed e .inside
+      go zero e l = message-counted e .inside
+      go (suc zero) e l = enum-counted e .inside
+      go (suc (suc zero)) e l = flags-counted e .inside
+      go (suc (suc (suc zero))) e l = union-counted e .inside
       go (suc (suc (suc (suc k)))) e l = absurd (omega arith)
 
   -- where the code reads the count, after a name that ends at e
@@ -234,45 +233,30 @@ module _ (s : List ℕ) (at : ℕ) (g : DeclHere s at) where
 
 -- the same, said of the shapes
 module _ (s : List ℕ) (n : Run) where
-  abbrev Are : (h : Shape) → (ℕ → ItemOf h) → List (ItemOf h) → Type 0
-  Are h item xs = ItemsHere h s (n .count) (n .start) × (xs ≡ map item (placesFrom h s (n .count) (n .start)))
-
-  fields-are : {xs : List Field} → Listed fieldAt s n xs → Are shape.Field (fieldIn s) xs
+  fields-are : {xs : List Field} → Counted fieldAt s n xs → ItemsListed shape.Field s n (fieldIn s) xs
   unfolding ItemsHere itemAt itemEnd placesFrom fieldIn
-  fields-are l = (l .good, l .are ∙ many-places noField fieldAt s _ _ (l .good))
+  fields-are l = record { here = l .good; are = l .are ∙ many-places noField fieldAt s _ _ (l .good) }
 
-  bares-are : {xs : List Variant} → Listed bareAt s n xs → Are shape.Bare (bareIn s) xs
+  bares-are : {xs : List Variant} → Counted bareAt s n xs → ItemsListed shape.Bare s n (bareIn s) xs
   unfolding ItemsHere itemAt itemEnd placesFrom bareIn
-  bares-are l = (l .good, l .are ∙ many-places noVariant bareAt s _ _ (l .good))
+  bares-are l = record { here = l .good; are = l .are ∙ many-places noVariant bareAt s _ _ (l .good) }
 
-  variants-are : {xs : List Variant} → Listed variantAt s n xs → Are shape.Variant (variantIn s) xs
+  variants-are : {xs : List Variant} → Counted variantAt s n xs → ItemsListed shape.Variant s n (variantIn s) xs
   unfolding ItemsHere itemAt itemEnd placesFrom variantIn
-  variants-are l = (l .good, l .are ∙ many-places noVariant variantAt s _ _ (l .good))
+  variants-are l = record { here = l .good; are = l .are ∙ many-places noVariant variantAt s _ _ (l .good) }
 
 module _ (s : List ℕ) (at : ℕ) (g : DeclHere s at) where
-  pub message-items : declIn s at .kind ≡ 0 → ItemsHere shape.Field s (itemsIn s at .count) (itemsIn s at .start)
-  message-items e = fields-are s (itemsIn s at) (message-listed s at g e) .0
+  pub message-listed : declIn s at .kind ≡ 0 → ItemsListed shape.Field s (itemsIn s at) (fieldIn s) (declIn s at .fields)
+  message-listed e = fields-are s (itemsIn s at) (message-counted s at g e)
 
-  pub message-fields : declIn s at .kind ≡ 0 → declIn s at .fields ≡ map (fieldIn s) (placesFrom shape.Field s (itemsIn s at .count) (itemsIn s at .start))
-  message-fields e = fields-are s (itemsIn s at) (message-listed s at g e) .1
+  pub enum-listed : declIn s at .kind ≡ 1 → ItemsListed shape.Bare s (itemsIn s at) (bareIn s) (declIn s at .variants)
+  enum-listed e = bares-are s (itemsIn s at) (enum-counted s at g e)
 
-  pub enum-items : declIn s at .kind ≡ 1 → ItemsHere shape.Bare s (itemsIn s at .count) (itemsIn s at .start)
-  enum-items e = bares-are s (itemsIn s at) (enum-listed s at g e) .0
+  pub flags-listed : declIn s at .kind ≡ 2 → ItemsListed shape.Bare s (itemsIn s at) (bareIn s) (declIn s at .variants)
+  flags-listed e = bares-are s (itemsIn s at) (flags-counted s at g e)
 
-  pub enum-variants : declIn s at .kind ≡ 1 → declIn s at .variants ≡ map (bareIn s) (placesFrom shape.Bare s (itemsIn s at .count) (itemsIn s at .start))
-  enum-variants e = bares-are s (itemsIn s at) (enum-listed s at g e) .1
-
-  pub flags-items : declIn s at .kind ≡ 2 → ItemsHere shape.Bare s (itemsIn s at .count) (itemsIn s at .start)
-  flags-items e = bares-are s (itemsIn s at) (flags-listed s at g e) .0
-
-  pub flags-bits : declIn s at .kind ≡ 2 → declIn s at .variants ≡ map (bareIn s) (placesFrom shape.Bare s (itemsIn s at .count) (itemsIn s at .start))
-  flags-bits e = bares-are s (itemsIn s at) (flags-listed s at g e) .1
-
-  pub union-items : declIn s at .kind ≡ 3 → ItemsHere shape.Variant s (itemsIn s at .count) (itemsIn s at .start)
-  union-items e = variants-are s (itemsIn s at) (union-listed s at g e) .0
-
-  pub union-variants : declIn s at .kind ≡ 3 → declIn s at .variants ≡ map (variantIn s) (placesFrom shape.Variant s (itemsIn s at .count) (itemsIn s at .start))
-  union-variants e = variants-are s (itemsIn s at) (union-listed s at g e) .1
+  pub union-listed : declIn s at .kind ≡ 3 → ItemsListed shape.Variant s (itemsIn s at) (variantIn s) (declIn s at .variants)
+  union-listed e = variants-are s (itemsIn s at) (union-counted s at g e)
 
   -- a newtype's type
   module _ (e : declIn s at .kind ≡ 4) where

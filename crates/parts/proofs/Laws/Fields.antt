@@ -15,7 +15,7 @@ use Rattle.image.specs.WellFormed.{Good, valueOr, endOf}
 use Rattle.image.proofs.Laws.Sure.{Sure, sure-ok, sure-no, sure-bind, sure-pick, Byte, code-sure}
 use Rattle.image.proofs.Laws.Good.{sure-good, good-first}
 use Rattle.parts.specs.Promise.{nameEnd, ItemHere, fieldIn, marksPlace, encodingPlace, encodingIn, limitPlace, typePlace}
-use Rattle.parts.specs.Promise.{encodingOf as codingOf}
+use Rattle.parts.specs.Promise.{codingOf}
 use Rattle.parts.specs.declared.Shape.the-variants as shape
 use Rattle.parts.specs.declared.Limit.the-variants.{Most, Unlimited}
 use Rattle.parts.specs.Promise.{limitOf}

@@ -14,7 +14,7 @@ use Rattle.image.specs.Types.{typeOf, typeAt}
 use Rattle.image.specs.Fields.{marksOf, marksAt, plain, encodingAt, limitAt, fieldAt, bareAt, variantAt}
 use Rattle.image.specs.WellFormed.{Good, valueOr, endOf}
 use Rattle.image.proofs.Laws.Good.{good-first, within-good, within-value, within-end, many-first, many-rest}
-use Rattle.parts.specs.Promise.{noField, noVariant, NameHere, nameIn, nameEnd, TypeHere, treeIn, typeEnd, ItemOf, itemAt, ItemHere, itemEnd, ItemsHere, itemsEnd, placesFrom, itemsAt, bareIn, ordinalIn, itemName, variantIn, variantItems, fieldIn, marksPlace, encodingPlace, limitPlace, typePlace}
+use Rattle.parts.specs.Promise.{noField, noVariant, NameHere, nameIn, nameEnd, TypeHere, treeIn, typeEnd, ItemOf, itemAt, ItemHere, itemEnd, ItemsHere, ItemsListed, itemsEnd, placesFrom, itemsAt, bareIn, ordinalIn, itemName, variantIn, variantItems, fieldIn, marksPlace, encodingPlace, limitPlace, typePlace}
 use Rattle.parts.specs.declared.Shape.{Shape}
 use Rattle.parts.specs.declared.Shape.the-variants as shape
 use Rattle.parts.proofs.Laws.Steps.{good-is, then-is, then-good, number-is, number-there, marks-is, name-is}
@@ -202,13 +202,11 @@ module _ (s : List ℕ) (at : ℕ) where
     pub variant-name : variantIn s at .name ≡ itemName s at
     variant-name = ap (λ (v : Variant). v .name) (variant-parts s at g .value) ∙ sym (name-is-bare (item-bare shape.Variant g))
 
-    pub variant-items : ItemsHere shape.Field s (variantItems s at .count) (variantItems s at .start)
-    unfolding ItemsHere itemAt
-    variant-items = variant-parts s at g .items
-
-    pub variant-fields : variantIn s at .fields ≡ map (fieldIn s) (placesFrom shape.Field s (variantItems s at .count) (variantItems s at .start))
-    unfolding fieldIn placesFrom itemEnd itemAt
-    variant-fields = ap (λ (v : Variant). v .fields) (variant-parts s at g .value) ∙ many-places noField fieldAt s _ _ (variant-parts s at g .items)
+    pub variant-listed : ItemsListed shape.Field s (variantItems s at) (fieldIn s) (variantIn s at .fields)
+    unfolding ItemsHere fieldIn placesFrom itemEnd itemAt
+    variant-listed =
+        let p = variant-parts s at g in
+        record { here = p .items; are = ap (λ (v : Variant). v .fields) (p .value) ∙ many-places noField fieldAt s _ _ (p .items) }
 
 noItem : (h : Shape) → ItemOf h
 noItem shape.Field = noField

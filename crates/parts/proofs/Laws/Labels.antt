@@ -17,7 +17,7 @@ use Rattle.image.specs.WellFormed.{labelIn as firstLabel}
 use Rattle.image.proofs.Laws.Good.{good-first}
 use Rattle.image.proofs.Laws.Trees.{label-tag}
 use Rattle.image.proofs.Laws.Types.{follows-nothing, follows-unknown}
-use Rattle.parts.specs.Promise.{noLabel, NamesHere, namesEnd, nameEnd, nameIn, namePlaces, LabelHere, labelIn, labelEnd, bitsIn, Defaults}
+use Rattle.parts.specs.Promise.{noLabel, NamesHere, NamesListed, namesEnd, nameEnd, nameIn, namePlaces, LabelHere, labelIn, labelEnd, bitsIn, Defaults}
 use Rattle.parts.proofs.Laws.Kept.{Kept, kept-good, kept-value, kept-end, Part, part-from, byte-kept, after-kept, kept-bind}
 use Rattle.parts.proofs.Laws.Steps.{good-is, then-is, then-good, byte-is, code-is, number-is}
 use Rattle.parts.proofs.Laws.Places.{many-places}
@@ -201,19 +201,17 @@ module _ (s : List ℕ) (at : ℕ) (g : LabelHere s at) where
   unfolding followsTag
   count-part e = parts 16 bits e refl .1
 
-  pub bits-here : labelIn s at .tag ≡ 16 → NamesHere s (bitsIn s at .count) (bitsIn s at .start)
-  unfolding followsTag NamesHere bitsIn
-  bits-here e =
-      let z : at + 1 + 1 ≡ at + 2 = omega arith in
-      rw z at (parts 16 bits e refl .2)
-
-  pub bits-names : labelIn s at .tag ≡ 16 → labelIn s at .names ≡ map (nameIn s) (namePlaces s (bitsIn s at .count) (bitsIn s at .start))
-  unfolding followsTag bitsIn namePlaces nameIn nameEnd namesAt
-  bits-names e =
+  pub bits-listed : labelIn s at .tag ≡ 16 → NamesListed s (bitsIn s at) (labelIn s at .names)
+  unfolding followsTag NamesHere bitsIn namePlaces nameIn nameEnd namesAt
+  bits-listed e =
       let p = parts 16 bits e refl in
       let z : at + 1 + 1 ≡ at + 2 = omega arith in
-      ap (λ (x : Label). x .names) (value 16 bits e refl (p .0)) ∙ many-places [] (nameAt 8) s _ _ (p .2)
-      ∙ ap (λ (n : ℕ). map (nameIn s) (namePlaces s (getD s (at + 1) 0) n)) z
+      record {
+        here = rw z at (p .2);
+        are = ap (λ (x : Label). x .names) (value 16 bits e refl (p .0))
+            ∙ many-places [] (nameAt 8) s _ _ (p .2)
+            ∙ ap (λ (n : ℕ). map (nameIn s) (namePlaces s (getD s (at + 1) 0) n)) z;
+      }
 
 -- where a label ends, by what follows its tag
 abbrev pub Ended : Follows → List ℕ → ℕ → Type 0

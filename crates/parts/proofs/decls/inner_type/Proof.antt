@@ -12,7 +12,7 @@ add-name-end c = let t = kind-there _ _ (c .before .pre .0) in omega arith
 name-end-requires : tie.Need-name-end-requires
 name-end-requires c κs =
     let d = decl-kind _ _ (c .before .pre .0) in
-    decl-head _ _ (c .before .pre .0) .named (λ e. omega (arith, e, d, c .before .pre .1)) .0
+    decl-head _ _ (c .before .pre .0) .named (omega (arith, d, c .before .pre .1)) .0
 
 returns : tie.Need-returns
 unfolding innerPlace

@@ -19,7 +19,7 @@ add-name-end : tie.Need-add-name-end
 add-name-end c = let t = kind-there _ _ (c .before .before .before .pre) in omega arith
 
 name-end-requires : tie.Need-name-end-requires
-name-end-requires c κs = decl-head _ _ (c .before .before .before .pre) .named (λ e. omega (arith, e, c .if1 .left)) .0
+name-end-requires c κs = decl-head _ _ (c .before .before .before .pre) .named (omega (arith, c .if1 .left)) .0
 
 shared-slice-read-result : tie.Need-shared-slice-read-result
 shared-slice-read-result c = rw (c .before .name-end .ensures) (decl-head _ _ (c .before .before .before .before .before .pre) .marked (c .before .before .if1 .left) .0)

@@ -21,7 +21,9 @@ add-t5 : tie.Need-add-t5
 add-t5 c = let t = base-there _ _ (c .before .before .before .pre) (c .before .name-end .ensures) (c .deltas .ensures) in omega arith
 
 shared-slice-read-t8 : tie.Need-shared-slice-read-t8
-shared-slice-read-t8 c = base-there _ _ (c .before .before .before .before .pre) (c .before .before .name-end .ensures) (c .before .deltas .ensures)
+shared-slice-read-t8 c =
+    let t = base-there _ _ (c .before .before .before .before .pre) (c .before .before .name-end .ensures) (c .before .deltas .ensures) in
+    omega arith
 
 returns : tie.Need-returns
 returns c = coded _ _ (c .before .before .before .before .pre) (c .before .before .name-end .ensures) (c .before .deltas .ensures)

@@ -17,7 +17,9 @@ add-number : tie.Need-add-number
 add-number c = let t = number-there _ _ (c .before .before .before .before .pre) (c .before .before .limit-place .ensures) (c .if1 .left) in omega arith
 
 number-requires : tie.Need-number-requires
-number-requires c κs = (omega arith, number-there _ _ (c .before .before .before .before .pre) (c .before .before .limit-place .ensures) (c .if1 .left))
+number-requires c κs =
+    let t = number-there _ _ (c .before .before .before .before .pre) (c .before .before .limit-place .ensures) (c .if1 .left) in
+    (omega arith, omega arith)
 
 returns-2 : tie.Need-returns-2
 returns-2 c = limited _ _ (c .before .before .before .before .before .pre) (c .before .before .before .limit-place .ensures) (c .before .if1 .left) (c .number .ensures .0)

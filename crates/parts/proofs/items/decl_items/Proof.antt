@@ -11,16 +11,16 @@ add-name-end c = let t = kind-there _ _ (c .before .pre .0) in omega arith
 name-end-requires : tie.Need-name-end-requires
 name-end-requires c κs =
     let d = decl-kind _ _ (c .before .pre .0) in
-    decl-head _ _ (c .before .pre .0) .named (λ e. omega (arith, e, d, c .before .pre .1)) .0
+    decl-head _ _ (c .before .pre .0) .named (omega (arith, d, c .before .pre .1)) .0
 
 shared-slice-read-if1 : tie.Need-shared-slice-read-if1
 shared-slice-read-if1 c = kind-there _ _ (c .before .before .before .pre .0)
 
 items-at-requires : tie.Need-items-at-requires
-items-at-requires c κs = items-after _ _ (c .before .before .before .before .pre .0) (c .before .before .before .before .pre .1) (c .before .before .name-end .ensures) (c .if1 .taken) .0
+items-at-requires c κs = items-after _ _ (c .before .before .before .before .pre .0) (c .before .before .before .before .pre .1) (c .before .before .name-end .ensures) (omega (arith, c .if1 .taken)) .0
 
 returns : tie.Need-returns
-returns c = c .items-at .ensures ∙ items-after _ _ (c .before .before .before .before .before .pre .0) (c .before .before .before .before .before .pre .1) (c .before .before .before .name-end .ensures) (c .before .if1 .taken) .1
+returns c = c .items-at .ensures ∙ items-after _ _ (c .before .before .before .before .before .pre .0) (c .before .before .before .before .before .pre .1) (c .before .before .before .name-end .ensures) (omega (arith, c .before .if1 .taken)) .1
 
 add-items-at : tie.Need-add-items-at
 add-items-at c = let t = items-after-marks _ _ (c .before .before .before .before .pre .0) (c .before .before .before .before .pre .1) (c .before .before .name-end .ensures) (c .if1 .left) .0 in omega arith

@@ -1,5 +1,6 @@
 -- `parts::items::fields_end` meets its contract. The invariant: the fields that are left end where all of them do. Assumes nothing.
 use mathlib.Core.Path.{_≡_, refl, sym, _∙_}
+use Prim.Native.Nat.{_<_}
 use native.Mathlib.Omega.{arith}
 use Rattle.parts.proofs.Laws.Items.{items-first, items-turn, items-done}
 use Rattle.parts.specs.Promise.{ItemsHere, itemsEnd}
@@ -17,7 +18,9 @@ loop-holds : tie.Need-loop-holds Inv-loop μ-loop
 loop-holds c = (c .before .pre, refl)
 
 field-end-requires : tie.Need-field-end-requires Inv-loop μ-loop
-field-end-requires c κs = items-first _ _ _ _ (c .loop-test .taken) (c .before .loop .inv .0)
+field-end-requires c κs =
+    let l : 0 < c .before .loop .left = omega arith in
+    items-first _ _ _ _ l (c .before .loop .inv .0)
 
 sub-left : tie.Need-sub-left Inv-loop μ-loop
 sub-left c = omega arith
@@ -27,7 +30,8 @@ loop-less c = omega arith
 
 loop-again : tie.Need-loop-again Inv-loop μ-loop
 loop-again c =
-    let t = items-turn _ _ _ _ (c .before .loop-test .taken) (c .before .before .loop .inv .0) _ (c .field-end .ensures) in
+    let l : 0 < c .before .before .loop .left = omega arith in
+    let t = items-turn _ _ _ _ l (c .before .before .loop .inv .0) _ (c .field-end .ensures) in
     (t .0, t .1 ∙ c .before .before .loop .inv .1)
 
 returns : tie.Need-returns Inv-loop μ-loop

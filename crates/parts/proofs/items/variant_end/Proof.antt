@@ -1,6 +1,6 @@
 -- `parts::items::variant_end` meets its contract. Assumes nothing.
 use mathlib.Core.Path.{sym, ap, _∙_}
-use Rattle.parts.proofs.Laws.Items.{variant-parts, variant-items}
+use Rattle.parts.proofs.Laws.Items.{variant-parts, variant-listed}
 use Rattle.parts.specs.Promise.{itemsEnd}
 use Rattle.parts.specs.declared.Run.{Run}
 use Rattle.parts.specs.declared.Shape.{Shape}
@@ -11,7 +11,7 @@ variant-items-requires : tie.Need-variant-items-requires
 variant-items-requires c κs = c .before .pre
 
 fields-end-requires : tie.Need-fields-end-requires
-fields-end-requires c κs = rw (c .variant-items .ensures) (variant-items _ _ (c .before .before .pre))
+fields-end-requires c κs = rw (c .variant-items .ensures) (variant-listed _ _ (c .before .before .pre) .here)
 
 returns : tie.Need-returns
 returns c = c .fields-end .ensures ∙ ap (λ (n : Run). itemsEnd Shape.Field (c .before .before .before .args .image .now) (n .count) (n .start)) (c .before .variant-items .ensures) ∙ sym (variant-parts _ _ (c .before .before .before .pre) .end)

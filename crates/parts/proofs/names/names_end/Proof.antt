@@ -1,5 +1,6 @@
 -- `parts::names::names_end` meets its contract. The invariant: the names that are left end where all of them do. Assumes nothing.
 use mathlib.Core.Path.{_≡_, refl, sym, _∙_}
+use Prim.Native.Nat.{_<_}
 use native.Mathlib.Omega.{arith}
 use Rattle.parts.proofs.Laws.Skips.{names-done, names-first, names-turn}
 use Rattle.parts.specs.Promise.{NamesHere, namesEnd}
@@ -16,7 +17,9 @@ loop-holds : tie.Need-loop-holds Inv-loop μ-loop
 loop-holds c = (c .before .pre, refl)
 
 name-end-requires : tie.Need-name-end-requires Inv-loop μ-loop
-name-end-requires c κs = names-first _ _ _ (c .loop-test .taken) (c .before .loop .inv .0)
+name-end-requires c κs =
+    let l : 0 < c .before .loop .left = omega arith in
+    names-first _ _ _ l (c .before .loop .inv .0)
 
 sub-left : tie.Need-sub-left Inv-loop μ-loop
 sub-left c = omega arith
@@ -26,7 +29,8 @@ loop-less c = omega arith
 
 loop-again : tie.Need-loop-again Inv-loop μ-loop
 loop-again c =
-    let t = names-turn _ _ _ (c .before .loop-test .taken) (c .before .before .loop .inv .0) _ (c .name-end .ensures) in
+    let l : 0 < c .before .before .loop .left = omega arith in
+    let t = names-turn _ _ _ l (c .before .before .loop .inv .0) _ (c .name-end .ensures) in
     (t .0, t .1 ∙ c .before .before .loop .inv .1)
 
 returns : tie.Need-returns Inv-loop μ-loop

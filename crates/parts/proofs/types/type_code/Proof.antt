@@ -9,7 +9,7 @@ add-result : tie.Need-add-result
 add-result c = let h = code-part _ _ (c .pre .0) (c .pre .1) .1 in omega arith
 
 shared-slice-read-result : tie.Need-shared-slice-read-result
-shared-slice-read-result c = code-part _ _ (c .before .pre .0) (c .before .pre .1) .1
+shared-slice-read-result c = let h = code-part _ _ (c .before .pre .0) (c .before .pre .1) .1 in omega arith
 
 returns : tie.Need-returns
 returns c = sym (code-part _ _ (c .before .pre .0) (c .before .pre .1) .0)

@@ -9,7 +9,7 @@ add-number : tie.Need-add-number
 add-number c = let h = size-part _ _ (c .before .pre .0) (c .before .pre .1) .1 in omega arith
 
 number-requires : tie.Need-number-requires
-number-requires c κs = (omega arith, size-part _ _ (c .before .pre .0) (c .before .pre .1) .1)
+number-requires c κs = let h = size-part _ _ (c .before .pre .0) (c .before .pre .1) .1 in (omega arith, omega arith)
 
 returns : tie.Need-returns
 returns c = c .number .ensures .0 ∙ sym (size-part _ _ (c .before .before .pre .0) (c .before .before .pre .1) .0)
