@@ -1,0 +1,117 @@
+-- The searches over the declaration ids: a turn, the ways out. Assumes nothing.
+use mathlib.Core.Path.{_≡_, refl, sym, ap, _∙_}
+use mathlib.Core.Bool.{true, false}
+use mathlib.Core.Option.{Option, none, some, Option·map}
+use mathlib.Core.List.{List, [], _∷_, _++_, flatMap}
+use Prim.Native.Nat.{ℕ, suc, _+_, _-_, _≤_, _<_}
+use native.Mathlib.Numerals.{add-one}
+use lib.ListN.{length, getD, take, drop, drop-of-length-le}
+use lib.Seq.{drop-cons}
+use Rattle.maps.specs.Orders.{same, before}
+use Rattle.maps.specs.Keyed.{lookup}
+use Rattle.maps.specs.Walk.{latest, better, next, least}
+use Rattle.maps.proofs.Names.{byName}
+use Rattle.maps.proofs.Searches.{latest-start, latest-nothing, latest-skips, latest-other, latest-found, lookup-latest, least-cons, least-nil}
+use Rattle.maps.proofs.Walking.{next-least}
+use Rattle.image.specs.Schema.{Name, Decl}
+use Rattle.parts.specs.Promise.{schemaOf, DeclHere, declIn, declOf, EntryHere, Resolved}
+use Rattle.parts.specs.declared.Entry.{Entry}
+use Rattle.parts.specs.declared.Entry.the-variants.{Body, Unresolvable}
+use Rattle.parts.proofs.Promise.{resolved-here, resolved-body, resolved-none}
+use Rattle.rules.specs.Survivors.{Registry, resolved, listed, nameOf, declarations}
+use Rattle.rules.specs.Survivors.{declOf as entryOf}
+use Rattle.survivors.specs.Answers.{named, Survives, Follows, nearest, Nearer}
+
+-- what one id lists
+unfoldable pub declared : Registry → ℕ → List Decl
+declared R id = resolved (entryOf R id) []
+
+listed-flat : (R : Registry) (ids : List ℕ) → listed R ids ≡ flatMap (declared R) ids
+unfolding listed resolved flatMap declared
+listed-flat R [] = refl
+listed-flat R (id ∷ ids) = go (entryOf R id) (listed-flat R ids)
+  where
+    go : (o : Option Decl) → listed R ids ≡ flatMap (declared R) ids → resolved o (listed R ids) ≡ resolved o [] ++ flatMap (declared R) ids
+    go none e = e
+    go (some d) e = rw e
+
+-- ---- from the end
+
+module _ (s : List ℕ) (name : Name) where
+  -- what is found going back from a position
+  unfoldable pub back : ℕ → Option Decl
+  back i = latest nameOf before name (flatMap (declared (schemaOf s .registry)) (take i (schemaOf s .ids)))
+
+  pub back-start : (n : ℕ) → n ≡ length (schemaOf s .ids) → back n ≡ lookup nameOf before name (declarations (schemaOf s))
+  unfolding back declarations
+  back-start n e =
+      let R = schemaOf s .registry in
+      let ids = schemaOf s .ids in
+      ap back e
+      ∙ latest-start nameOf before name (declared R) ids
+      ∙ ap (latest nameOf before name) (sym (listed-flat R ids))
+      ∙ sym (lookup-latest nameOf byName name (listed R ids))
+
+  pub back-end : (i : ℕ) → i ≡ 0 → back i ≡ lookup nameOf before name (declarations (schemaOf s)) → Survives s name Unresolvable
+  unfolding back declOf EntryHere
+  back-end i e p = record { value = sym (latest-nothing nameOf before name (declared (schemaOf s .registry)) (schemaOf s .ids) i e) ∙ p; here = tt }
+
+  -- a turn, at the entry of the id before the position
+  module _ (i : ℕ) (h : 0 < i) (b : i ≤ length (schemaOf s .ids)) {id : ℕ} (e : id ≡ getD (schemaOf s .ids) (i - 1) 0) {r : Entry} (v : Resolved s id r) where
+    entry-is : entryOf (schemaOf s .registry) (getD (schemaOf s .ids) (i - 1) 0) ≡ declOf s r
+    unfolding entryOf
+    entry-is = rw (← e) (sym (v .value))
+
+    pub back-skips : r ≡ Unresolvable → back (i - 1) ≡ back i
+    unfolding back declared resolved declOf
+    back-skips u = sym (latest-skips nameOf before name (declared (schemaOf s .registry)) (schemaOf s .ids) 0 i h b (rw (entry-is, u)))
+
+    module _ {at : ℕ} (u : r ≡ Body at) {own : Name} (w : own ≡ declIn s at .name) where
+      one : declared (schemaOf s .registry) (getD (schemaOf s .ids) (i - 1) 0) ≡ declIn s at ∷ []
+      unfolding declared resolved declOf
+      one = rw (entry-is, u)
+
+      pub back-other : same before name own ≡ false → back (i - 1) ≡ back i
+      unfolding back
+      back-other n = sym (latest-other nameOf before name (declared (schemaOf s .registry)) (schemaOf s .ids) 0 i h b (declIn s at) one (rw w at n))
+
+      pub back-found : same before name own ≡ true → back i ≡ lookup nameOf before name (declarations (schemaOf s)) → Survives s name (Body at)
+      unfolding back declOf EntryHere
+      back-found n p = record {
+        value = sym (latest-found nameOf before name (declared (schemaOf s .registry)) (schemaOf s .ids) 0 i h b (declIn s at) one (rw w at n)) ∙ p;
+        here = resolved-here s id v u;
+      }
+
+-- ---- from the front
+
+module _ (s : List ℕ) (b : Option Name) where
+  -- what is found going on from a position, with the best name so far
+  unfoldable pub ahead : Option Name → ℕ → Option Name
+  ahead best i = least nameOf before b best (listed (schemaOf s .registry) (drop i (schemaOf s .ids)))
+
+  pub ahead-start : ahead none 0 ≡ next nameOf before b (declarations (schemaOf s))
+  unfolding ahead declarations
+  ahead-start = sym (next-least nameOf byName b (listed (schemaOf s .registry) (schemaOf s .ids)))
+
+  pub ahead-end : (best : Option Name) (i : ℕ) {o : Option Name} → length (schemaOf s .ids) ≤ i → ahead best i ≡ o → best ≡ o
+  unfolding ahead listed
+  ahead-end best i h p = sym (rw (drop-of-length-le (schemaOf s .ids) h) (least-nil nameOf before b best)) ∙ p
+
+  least-resolved : (best : Option Name) (o : Option Decl) (ds : List Decl)
+      → least nameOf before b best (resolved o ds) ≡ least nameOf before b (nearest b best (Option·map nameOf o)) ds
+  unfolding resolved nearest
+  least-resolved best none ds = refl
+  least-resolved best (some d) ds = least-cons nameOf before b best d ds
+
+  -- a turn, at the entry of the id at the position
+  pub ahead-turn : (best best′ : Option Name) (i : ℕ) {o : Option Name} → i < length (schemaOf s .ids) → {id : ℕ} → id ≡ getD (schemaOf s .ids) i 0 → {r : Entry} → Resolved s id r
+      → best′ ≡ nearest b best (named s r) → ahead best i ≡ o → ahead best′ (i + 1) ≡ o
+  unfolding ahead listed entryOf named
+  ahead-turn best best′ i h e {r} v q p =
+      let R = schemaOf s .registry in
+      let ids = schemaOf s .ids in
+      let u : getD R (getD ids i 0) none ≡ declOf s r = rw (← e) (sym (v .value)) in
+      rw add-one
+      (ap (λ (k : Option Name). least nameOf before b k (listed R (drop (suc i) ids))) q
+      ∙ sym (rw (drop-cons ids i 0 h, u) (least-resolved best (declOf s r) (listed R (drop (suc i) ids))))
+      ∙ p)

@@ -1,0 +1,135 @@
+-- `survivors::decls::survivor` meets its contract. The search: what is found going back from i is what stands under the name. The nested
+-- loop: the two names agree as far as j. Assumes nothing.
+use mathlib.Core.Path.{_≡_, refl, sym, _∙_}
+use mathlib.Core.Bool.{false}
+use Prim.Native.Nat.{_≤_, _-_}
+use native.Mathlib.Omega.{arith}
+use lib.ListN.{length, drop}
+use Rattle.maps.specs.Orders.{same, orderOf, before}
+use Rattle.maps.specs.Keyed.{lookup}
+use Rattle.maps.proofs.Names.{same-told, ends-same, finds-other, other-length}
+use Rattle.maps.proofs.Names.{goes-on as agrees}
+use Rattle.parts.specs.Promise.{schemaOf}
+use Rattle.parts.proofs.Promise.{resolved-here}
+use Rattle.rules.specs.Survivors.{nameOf, declarations}
+use Rattle.survivors.proofs.Laws.Listed.{back, back-start, back-end, back-skips, back-other, back-found}
+use borrow.Author.Needs.{needs}
+use Rattle.survivors.proofs.decls.survivor.Statement.{statement}
+use Rattle.survivors.proofs.decls.survivor.Tie as tie
+
+abbrev Inv-loop : tie.InvT-loop
+Inv-loop image name i at own j₀ j = (j ≤ length name) × (orderOf name own ≡ orderOf (drop j name) (drop j own))
+
+abbrev μ-loop : tie.MeasureT-loop
+μ-loop image name i at own j₀ j = length name - j
+
+abbrev Inv-search : tie.InvT-search
+Inv-search image name i₀ i = (i ≤ length (schemaOf image .ids)) × (back image name i ≡ lookup nameOf before name (declarations (schemaOf image)))
+
+abbrev μ-search : tie.MeasureT-search
+μ-search image name i₀ i = i
+
+-- the name of the entry is another one
+goes-on : (c : tie.After-decl-name Inv-loop μ-loop Inv-search μ-search) → same before (c .before .before .before .before .before .before .before .before .before .before .before .args .name .now) (c .decl-name .result .now) ≡ false
+    → Inv-search (c .before .before .before .before .before .before .before .before .before .before .before .args .image .now) (c .before .before .before .before .before .before .before .before .before .before .before .args .name .now) (c .before .before .before .before .before .before .before .search .i) (c .before .before .before .before .before .before .before .search .i - 1)
+goes-on c n = (
+  omega (arith, c .before .before .before .before .before .before .before .search .inv .0),
+  back-other _ _ _ (omega (arith, c .before .before .before .before .before .before .if1 .left)) (c .before .before .before .before .before .before .before .search .inv .0) (c .before .before .before .before .before .id-at .ensures) (c .before .before .before .before .entry .ensures) (c .before .before .at .given .1) (c .decl-name .ensures) n ∙ c .before .before .before .before .before .before .before .search .inv .1,
+)
+
+id-count-requires : tie.Need-id-count-requires Inv-loop μ-loop Inv-search μ-search
+id-count-requires c κs = c .before .before .pre
+
+search-holds : tie.Need-search-holds Inv-loop μ-loop Inv-search μ-search
+search-holds c = (omega (arith, c .id-count .ensures), back-start _ _ _ (c .id-count .ensures))
+
+sub-i : tie.Need-sub-i Inv-loop μ-loop Inv-search μ-search
+sub-i c = omega arith
+
+id-at-requires : tie.Need-id-at-requires Inv-loop μ-loop Inv-search μ-search
+id-at-requires c κs = (c .before .before .before .before .before .pre, omega (arith, c .before .search .inv .0))
+
+entry-requires : tie.Need-entry-requires Inv-loop μ-loop Inv-search μ-search
+entry-requires c κs = c .before .before .before .before .before .before .pre
+
+enum-known-at : tie.Need-enum-known-at Inv-loop μ-loop Inv-search μ-search
+enum-known-at c = search needs
+
+enum-told : tie.Need-enum-told Inv-loop μ-loop Inv-search μ-search
+enum-told c = search needs
+
+search-less : tie.Need-search-less Inv-loop μ-loop Inv-search μ-search
+search-less c = omega (arith, c .before .before .before .before .if1 .left)
+
+search-again : tie.Need-search-again Inv-loop μ-loop Inv-search μ-search
+search-again c = (omega (arith, c .before .before .before .before .before .search .inv .0), back-skips _ _ _ (omega (arith, c .before .before .before .before .if1 .left)) (c .before .before .before .before .before .search .inv .0) (c .before .before .before .id-at .ensures) (c .before .before .entry .ensures) (c .enum-told .given .1) ∙ c .before .before .before .before .before .search .inv .1)
+
+decl-name-requires : tie.Need-decl-name-requires Inv-loop μ-loop Inv-search μ-search
+decl-name-requires c κs = resolved-here _ _ (c .before .before .before .entry .ensures) (c .before .at .given .1)
+
+loop-holds : tie.Need-loop-holds Inv-loop μ-loop Inv-search μ-search
+loop-holds c = (omega arith, refl)
+
+shared-slice-read-if4 : tie.Need-shared-slice-read-if4 Inv-loop μ-loop Inv-search μ-search
+shared-slice-read-if4 c = omega (arith, c .before .before .loop .inv .0)
+
+shared-slice-read-if4-2 : tie.Need-shared-slice-read-if4-2 Inv-loop μ-loop Inv-search μ-search
+shared-slice-read-if4-2 c = omega (arith, c .before .before .before .loop .inv .0, c .before .before .before .before .if2 .taken)
+
+search-less-2 : tie.Need-search-less-2 Inv-loop μ-loop Inv-search μ-search
+search-less-2 c = omega (arith, c .before .before .before .before .before .before .before .before .before .before .before .before .if1 .left)
+
+search-again-2 : tie.Need-search-again-2 Inv-loop μ-loop Inv-search μ-search
+search-again-2 c = goes-on (c .before .before .before .before .before .before) (finds-other _ _ _ (c .before .before .before .before .loop .inv .1) (omega (arith, c .before .before .before .before .loop .inv .0, c .before .before .before .if3 .left)) (omega (arith, c .before .before .before .before .loop .inv .0, c .before .before .before .if3 .left, c .before .before .before .before .before .if2 .taken)) (c .if4 .taken))
+
+add-j : tie.Need-add-j Inv-loop μ-loop Inv-search μ-search
+add-j c = omega (arith, c .before .before .before .before .loop .inv .0)
+
+loop-less : tie.Need-loop-less Inv-loop μ-loop Inv-search μ-search
+loop-less c = omega (arith, c .before .before .before .before .loop .inv .0, c .before .before .before .if3 .left)
+
+loop-again : tie.Need-loop-again Inv-loop μ-loop Inv-search μ-search
+loop-again c = (omega (arith, c .before .before .before .before .loop .inv .0, c .before .before .before .if3 .left), agrees _ _ _ (c .before .before .before .before .loop .inv .1) (omega (arith, c .before .before .before .before .loop .inv .0, c .before .before .before .if3 .left)) (omega (arith, c .before .before .before .before .loop .inv .0, c .before .before .before .if3 .left, c .before .before .before .before .before .if2 .taken)) (c .if4 .left))
+
+search-less-3 : tie.Need-search-less-3 Inv-loop μ-loop Inv-search μ-search
+search-less-3 c = omega (arith, c .before .before .before .before .before .before .before .if1 .left)
+
+search-again-3 : tie.Need-search-again-3 Inv-loop μ-loop Inv-search μ-search
+search-again-3 c = goes-on (c .before) (other-length _ _ (c .if2 .left))
+
+returns : tie.Need-returns Inv-loop μ-loop Inv-search μ-search
+returns c = back-end _ _ _ (c .if1 .taken) (c .before .search .inv .1)
+
+returns-2 : tie.Need-returns-2 Inv-loop μ-loop Inv-search μ-search
+returns-2 c = back-found _ _ _ (omega (arith, c .before .before .before .before .before .before .before .before .before .if1 .left)) (c .before .before .before .before .before .before .before .before .before .before .search .inv .0) (c .before .before .before .before .before .before .before .before .id-at .ensures) (c .before .before .before .before .before .before .before .entry .ensures) (c .before .before .before .before .before .at .given .1) (c .before .before .before .decl-name .ensures) (same-told _ _ (sym (ends-same (c .before .before .before .before .before .before .before .before .before .before .before .before .before .before .args .name .now) (c .before .before .before .decl-name .result .now) (c .before .loop .j) (c .before .loop .inv .1) (omega (arith, c .if3 .taken)) (omega (arith, c .if3 .taken, c .before .before .if2 .taken))))) (c .before .before .before .before .before .before .before .before .before .before .search .inv .1)
+
+pub survivor-spec : {M : Type 1} → statement M
+survivor-spec =
+    tie.close
+    (tie.spec
+    Inv-loop
+    μ-loop
+    Inv-search
+    μ-search
+    id-count-requires
+    search-holds
+    sub-i
+    id-at-requires
+    entry-requires
+    enum-known-at
+    enum-told
+    search-less
+    search-again
+    decl-name-requires
+    loop-holds
+    shared-slice-read-if4
+    shared-slice-read-if4-2
+    search-less-2
+    search-again-2
+    add-j
+    loop-less
+    loop-again
+    search-less-3
+    search-again-3
+    returns
+    returns-2)
