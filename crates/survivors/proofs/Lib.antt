@@ -1,2 +1,4 @@
--- Laws: what the proofs of the searches use. Standing: what the crates above may cite of the answers.
+-- Declarations, Runs: what the crates above may cite of the answers. Laws: what they and the proofs of the searches rest on.
 pub mod Laws
+pub mod Declarations
+pub mod Runs

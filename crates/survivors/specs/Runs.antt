@@ -3,13 +3,11 @@
 use mathlib.Core.Path.{_≡_}
 use mathlib.Core.List.{List, map}
 use Prim.Native.Nat.{ℕ}
-use lib.Dec.{ltb}
-use Rattle.maps.specs.Keyed.{survivors}
 use Rattle.parts.specs.Promise.{ItemOf, ItemsHere, placesFrom, fieldIn, bareIn, variantIn}
 use Rattle.parts.specs.declared.Shape.{Shape}
 use Rattle.parts.specs.declared.Shape.the-variants as shape
 use Rattle.parts.specs.declared.Run.{Run}
-use Rattle.rules.specs.Survivors.{ordinalOf, variantOrdinal}
+use Rattle.rules.specs.Survivors.{ordinalOf, fieldMap, variantOrdinal, variantMap}
 
 -- the item at a place
 abbrev pub itemIn : (h : Shape) → List ℕ → ℕ → ItemOf h
@@ -17,17 +15,22 @@ itemIn shape.Field = fieldIn
 itemIn shape.Bare = bareIn
 itemIn shape.Variant = variantIn
 
--- its key
-abbrev pub itemKey : (h : Shape) → ItemOf h → ℕ
-itemKey shape.Field = ordinalOf
-itemKey shape.Bare = variantOrdinal
-itemKey shape.Variant = variantOrdinal
-
--- the run holds these items
-pub record Holds (h : Shape) (s : List ℕ) (n : Run) (xs : List (ItemOf h)) : Type 0 where
-  pub here : ItemsHere h s (n .count) (n .start)
-  pub are : xs ≡ map (itemIn h s) (placesFrom h s (n .count) (n .start))
+abbrev pub itemOrdinal : (h : Shape) → ItemOf h → ℕ
+itemOrdinal shape.Field = ordinalOf
+itemOrdinal shape.Bare = variantOrdinal
+itemOrdinal shape.Variant = variantOrdinal
 
 -- the items that stand
-unfoldable pub itemMap : (h : Shape) → List (ItemOf h) → List (ItemOf h)
-itemMap h xs = survivors (itemKey h) ltb xs
+abbrev pub itemMap : (h : Shape) → List (ItemOf h) → List (ItemOf h)
+itemMap shape.Field = fieldMap
+itemMap shape.Bare = variantMap
+itemMap shape.Variant = variantMap
+
+-- the items of a run
+unfoldable pub itemsOf : (h : Shape) → List ℕ → Run → List (ItemOf h)
+itemsOf h s n = map (itemIn h s) (placesFrom h s (n .count) (n .start))
+
+-- the run is well formed, and holds these items
+pub record Holds (h : Shape) (s : List ℕ) (n : Run) (xs : List (ItemOf h)) : Type 0 where
+  pub here : ItemsHere h s (n .count) (n .start)
+  pub are : xs ≡ itemsOf h s n
