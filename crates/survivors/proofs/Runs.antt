@@ -16,7 +16,7 @@ use Rattle.parts.specs.Promise.{ItemOf, ItemHere, itemEnd, ItemsHere, placesFro
 use Rattle.parts.specs.declared.Shape.{Shape}
 use Rattle.parts.specs.declared.Shape.the-variants as shape
 use Rattle.parts.specs.declared.Run.{Run}
-use Rattle.parts.proofs.Promise.{places-none, places-more, items-first, items-rest, field-ordinal, variant-ordinal, message-items, message-fields, enum-items, enum-variants, flags-items, flags-bits, union-items, union-variants, variant-items, variant-fields}
+use Rattle.parts.proofs.Promise.{places-none, places-more, items-first, items-rest, field-ordinal, variant-ordinal, message-listed, enum-listed, flags-listed, union-listed, variant-listed}
 use Rattle.rules.specs.Survivors.{fieldMap, variantMap}
 use Rattle.survivors.specs.Answers.{placeOf, FoundHere, numberOf, placeMap, ItemSurvives}
 use Rattle.survivors.specs.Runs.{itemIn, itemOrdinal, itemMap, itemsOf, Holds}
@@ -30,23 +30,23 @@ use Rattle.survivors.specs.declared.Ordinal.the-variants as ordinal
 module _ (s : List ℕ) (at : ℕ) (g : DeclHere s at) where
   pub message-holds : declIn s at .kind ≡ 0 → Holds shape.Field s (itemsIn s at) (declIn s at .fields)
   unfolding itemsOf
-  message-holds e = record { here = message-items s at g e; are = message-fields s at g e }
+  message-holds e = record { here = message-listed s at g e .here; are = message-listed s at g e .are }
 
   pub enum-holds : declIn s at .kind ≡ 1 → Holds shape.Bare s (itemsIn s at) (declIn s at .variants)
   unfolding itemsOf
-  enum-holds e = record { here = enum-items s at g e; are = enum-variants s at g e }
+  enum-holds e = record { here = enum-listed s at g e .here; are = enum-listed s at g e .are }
 
   pub flags-holds : declIn s at .kind ≡ 2 → Holds shape.Bare s (itemsIn s at) (declIn s at .variants)
   unfolding itemsOf
-  flags-holds e = record { here = flags-items s at g e; are = flags-bits s at g e }
+  flags-holds e = record { here = flags-listed s at g e .here; are = flags-listed s at g e .are }
 
   pub union-holds : declIn s at .kind ≡ 3 → Holds shape.Variant s (itemsIn s at) (declIn s at .variants)
   unfolding itemsOf
-  union-holds e = record { here = union-items s at g e; are = union-variants s at g e }
+  union-holds e = record { here = union-listed s at g e .here; are = union-listed s at g e .are }
 
 pub variant-holds : (s : List ℕ) (at : ℕ) → ItemHere shape.Variant s at → Holds shape.Field s (variantItems s at) (variantIn s at .fields)
 unfolding itemsOf
-variant-holds s at g = record { here = variant-items s at g; are = variant-fields s at g }
+variant-holds s at g = record { here = variant-listed s at g .here; are = variant-listed s at g .are }
 
 -- any run that is well formed
 pub run-holds : (h : Shape) (s : List ℕ) (n : Run) → ItemsHere h s (n .count) (n .start) → Holds h s n (itemsOf h s n)
