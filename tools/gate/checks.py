@@ -7,6 +7,8 @@ from pathlib import Path
 BUILT = {"logic-built", "libraries-built"}
 # Libraries of the kit whose contracts lean on assumed ones. The verdict of a library above them does not say so.
 ASSUMED = {"libc", "io", "os"}
+# Modules of `image` that the crates above `parts` may not name: all but the values and the words.
+BEHIND = re.compile(r"Rattle\.image\.(?!specs\.Schema\b|specs\.Words\b|specs\.declared\b)\w+(?:\.\w+)*")
 # A proof that no longer fits the code's shape: such a refusal says nothing about a fact.
 UNFIT = re.compile(r"has no `Need-|\.Lts\.[^`]*` has no field|expected type `tie\.Need-|not in scope|expected `[^`]*`, found")
 
@@ -72,6 +74,20 @@ def assumptions(root: Path) -> list[str]:
         for name in crates
         if is_library(root, name)
         for dep in sorted(reached(name, crates) & ASSUMED)
+    ]
+
+
+def unfolded(root: Path) -> list[str]:
+    """Files of crates above `parts` that name the reader's definitions instead of what `parts` promises."""
+    crates = listed_crates(root)
+    return [
+        f"{path.relative_to(root)}: names {match[0]}, which is behind the promise of parts"
+        for name in crates
+        if "parts" in reached(name, crates) and is_library(root, name)
+        for path in sorted((root / "crates" / name).rglob("*"))
+        if path.suffix in (".rt", ".antt")
+        for match in [BEHIND.search(path.read_text())]
+        if match
     ]
 
 

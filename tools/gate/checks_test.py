@@ -86,6 +86,17 @@ class Folders(unittest.TestCase):
         (self.root / "crates.txt").write_text("maps: image\nimage: io\n")
         self.assertEqual(checks.assumptions(self.root), ["maps: a library above io, whose contracts are assumed"])
 
+    def test_a_file_that_names_the_readers_definitions_fails(self):
+        (self.root / "crates.txt").write_text("parts: image\nmaps: parts\n")
+        file = self.root / "crates" / "maps" / "src" / "lib.rt"
+        file.write_text("ghost use Rattle.image.specs.Schema.{Ty};\n")
+        self.assertEqual(checks.unfolded(self.root), [])
+        file.write_text("ghost use Rattle.image.specs.Types.{typeOf};\n")
+        self.assertEqual(
+            checks.unfolded(self.root),
+            ["crates/maps/src/lib.rt: names Rattle.image.specs.Types, which is behind the promise of parts"],
+        )
+
     def test_a_crate_without_a_log_fails(self):
         self.assertEqual(checks.verdicts(self.root), (0, ["maps: no log of its check"]))
 

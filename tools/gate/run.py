@@ -75,7 +75,7 @@ def run(*words) -> tuple[int, list[str]]:
 
 
 def crates(gate: Gate):
-    for faults in (checks.unlisted(ROOT), checks.assumptions(ROOT)):
+    for faults in (checks.unlisted(ROOT), checks.assumptions(ROOT), checks.unfolded(ROOT)):
         gate.count(not faults, faults)
     gate.command("rt fmt --check", "rt", "fmt", "--check")
     gate.suite("rt ci", "rt", "ci")
