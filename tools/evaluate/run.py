@@ -1,0 +1,99 @@
+#!/usr/bin/env python3
+"""run.py [FIRST [COUNT]]: holds the definitions of crates/rules against recorded answers of the Rust, by computation.
+
+Of each recorded pair that is small enough it writes a theorem: the selectors and the report that the definitions give for these bytes
+are the recorded ones, by `refl`. The theorems are checked in a temporary repository, 20 to a file. Not part of the gate: some hundred
+pairs take a minute.
+"""
+
+import re
+import shutil
+import struct
+import subprocess
+import sys
+import tempfile
+from pathlib import Path
+
+ROOT = Path(__file__).resolve().parents[2]
+CRATES = ("maps", "image", "text", "rules")
+IMAGES, REPORT = 1200, 4000  # the most bytes of both images, and of a report
+PER_FILE = 20
+
+
+def recorded():
+    """Name, images, selectors and report of each pair of the recorded answers."""
+    data = (ROOT / "crates" / "replay" / "data" / "answers.bin").read_bytes()
+    at = 8
+
+    def numbers(count, kind="I"):
+        nonlocal at
+        size = struct.calcsize("<" + kind * count)
+        at += size
+        return list(struct.unpack_from("<" + kind * count, data, at - size))
+
+    def text(size):
+        nonlocal at
+        at += size
+        return data[at - size : at]
+
+    pairs, counts, *_ = numbers(5)
+    for _ in range(pairs):
+        name = text(numbers(1, "B")[0]).decode()
+        old, new = (text(numbers(1)[0]) for _ in range(2))
+        numbers(2, "B")
+        selectors = numbers(4, "B") + numbers(1 + counts)
+        yield name, old, new, selectors, text(selectors[4])
+
+
+def opened():
+    """The imports, and the line that unfolds the definitions, of the theorems that crates/rules proves by computation."""
+    lines = (ROOT / "crates" / "rules" / "proofs" / "Pinned.antt").read_text().splitlines()
+    unfolding = next(line for line in lines if line.startswith("unfolding"))
+    uses = [line.replace("·rules·specs.specs.", "·rules.specs.") for line in lines if line.startswith("use ") and "Distance" not in line]
+    uses = [line.replace(", Pinned}", "}") for line in uses if "Core.Path" not in line and "Core.List" not in line]
+    uses += ["use mathlib.Core.Path.{_≡_, refl}", "use mathlib.Core.List.{[], _∷_, flatMap}", "use Prim.Native.Nat.{ℕ}"]
+    return uses, re.sub(r" Verdict distance countIn Steps", "", unfolding)
+
+
+def theorem(place, pair, unfolding):
+    name, old, new, selectors, report = pair
+    old, new, report = ('(hex "' + data.hex(" ") + '")' for data in (old, new, report))
+    if selectors[0] != 0:
+        selectors = selectors[:4]
+    wanted = " ∷ ".join(map(str, selectors)) + " ∷ []"
+    return f"-- {name}\npair-{place} : (selected (checked {old} {new}) ≡ {wanted}) × (told {old} {new} ≡ {report})\n{unfolding}\npair-{place} = (refl, refl)\n"
+
+
+def write(folder, pairs):
+    """A repository with the definitions and a crate of theorems."""
+    for crate in CRATES:
+        shutil.copytree(ROOT / "crates" / crate, folder / "crates" / crate)
+    proofs = folder / "crates" / "evaluated" / "proofs"
+    proofs.mkdir(parents=True)
+    (folder / "crates" / "evaluated" / "src").mkdir()
+    (folder / "crates" / "evaluated" / "src" / "lib.rt").write_text("// Theorems only: see proofs/.\n")
+    listed = [line for line in (ROOT / "crates.txt").read_text().splitlines() if line.partition(":")[0] in CRATES]
+    (folder / "crates.txt").write_text("\n".join(listed) + f"\nevaluated: {' '.join(CRATES)}\n")
+    uses, unfolding = opened()
+    files = range(0, len(pairs), PER_FILE)
+    for number, first in enumerate(files):
+        theorems = (theorem(place, pair, unfolding) for place, pair in enumerate(pairs[first : first + PER_FILE]))
+        (proofs / f"Pairs{number}.antt").write_text("\n".join(uses) + "\n\n" + "\n".join(theorems))
+    (proofs / "Lib.antt").write_text("".join(f"pub mod Pairs{number}\n" for number in range(len(files))))
+
+
+def main():
+    first, count = (int(word) for word in (sys.argv[1:] + ["0", "300"][len(sys.argv) - 1 :])[:2])
+    small = [pair for pair in recorded() if len(pair[1]) + len(pair[2]) < IMAGES and len(pair[4]) < REPORT]
+    pairs = small[first : first + count]
+    with tempfile.TemporaryDirectory() as folder:
+        write(Path(folder), pairs)
+        run = subprocess.run(["rt", "check", "evaluated"], cwd=folder, stdout=subprocess.PIPE, stderr=subprocess.STDOUT, text=True)
+    errors = [line for line in run.stdout.splitlines() if ": error:" in line]
+    print("\n".join(errors))
+    print(f"{len(pairs)} of {len(small)} pairs, from {first} on: {'all as recorded' if run.returncode == 0 else 'NOT all as recorded'}")
+    sys.exit(run.returncode)
+
+
+if __name__ == "__main__":
+    main()
