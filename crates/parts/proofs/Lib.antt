@@ -1,3 +1,3 @@
 -- Promise: the laws that the crates above may cite. Laws: what they and the accessors' proofs rest on.
-pub mod Laws
+mod Laws
 pub mod Promise

@@ -8,7 +8,7 @@ use mathlib.Core.List.{List, [], _∷_, map}
 use Prim.Native.Nat.{ℕ, zero, suc, _+_, _≤_, _<_}
 use lib.Dec.{leb}
 use lib.ListN.{getD, drop}
-use Rattle.image.specs.Schema.{Name, Marks, unmarked, Label, label, Ty, noType, Field, Variant, Decl, decl, Schema}
+use Rattle.image.specs.Schema.{Name, unmarked, Label, label, Ty, noType, Field, Variant, Decl, decl, Schema}
 use Rattle.image.specs.Schema.{Encoding as Coding}
 use Rattle.image.specs.Parse.{Parsed, bind, littleEndian, byteAt, many}
 use Rattle.image.specs.Names.{nameAt, namesAt}

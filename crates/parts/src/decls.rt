@@ -2,7 +2,6 @@
 use crate::names::name_at;
 use crate::names::name_end;
 ghost use mathlib.Core.Path.{_≡_};
-ghost use mathlib.Core.Bool.{Bool};
 ghost use Rattle.image.specs.Fields.{marksOf};
 ghost use Rattle.parts.specs.Promise.{DeclHere, declIn, innerPlace};
 

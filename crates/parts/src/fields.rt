@@ -4,12 +4,12 @@ use crate::Limit;
 use crate::names::name_end;
 use crate::types::type_end;
 ghost use mathlib.Core.Path.{_≡_};
-ghost use mathlib.Core.Bool.{Bool, _&&_};
+ghost use mathlib.Core.Bool.{_&&_};
 ghost use Prim.Native.Nat.{_+_, _<_};
 ghost use lib.Dec.{eqb};
 ghost use lib.ListN.{length, getD};
-ghost use Rattle.image.specs.Fields.{encodingAt, limitAt};
-ghost use Rattle.image.specs.WellFormed.{Good, endOf};
+ghost use Rattle.image.specs.Fields.{encodingAt};
+ghost use Rattle.image.specs.WellFormed.{Good};
 ghost use Rattle.parts.specs.declared.Shape.{Shape};
 ghost use Rattle.parts.specs.Promise.{ItemHere, itemEnd, fieldIn, encodingIn, limitPlace, typePlace, codingOf, limitOf};
 

@@ -1,24 +1,22 @@
 -- The tables of an accepted image: its ids, its namespace, and the bodies of its entries. Assumes nothing.
-use mathlib.Core.Path.{_≡_, refl, sym, ap, ap₂, _∙_}
-use mathlib.Core.Bool.{Bool, true, false}
+use mathlib.Core.Path.{_≡_, refl, sym, ap, _∙_}
 use mathlib.Core.Option.{Option, none, some}
-use mathlib.Core.List.{List, [], _∷_, map}
+use mathlib.Core.List.{List, [], _∷_}
 use Prim.Native.Nat.{ℕ, zero, suc, _+_, _-_, _*_, _≤_, _<_}
 use native.Mathlib.Omega.{arith}
 use native.Mathlib.Nat.{min-le-right}
 use borrow.Author.Tests.{leb-true, ne-eqb}
-use lib.Dec.{leb, eqb}
 use lib.ListN.{length, getD, take, drop, length-take, length-drop, List·getD-eq-default}
-use Rattle.image.specs.Schema.{Name, Decl, Schema}
-use Rattle.image.specs.Parse.{Parsed, ok, no, bind, pick, part, littleEndian, byteAt, many}
+use Rattle.image.specs.Schema.{Decl, Schema}
+use Rattle.image.specs.Parse.{ok, bind, pick, part, littleEndian, byteAt}
 use Rattle.image.specs.Names.{nameAt, namesAt}
 use Rattle.image.specs.Bodies.{bodyOf}
-use Rattle.image.specs.Image.{entryCount, idCount, segmentCount, entryOffset, entryLength, idsAt, segmentsAt, idsFrom, headOf, tablesOf, laid, entryOf, entriesOf, readImage}
-use Rattle.image.specs.WellFormed.{Good, valueOr, endOf}
-use Rattle.image.proofs.Laws.Sure.{Sure, sure-ok, sure-need, names-sure}
-use Rattle.image.proofs.Laws.Good.{sure-good, good-first, many-count}
-use Rattle.parts.specs.Promise.{noDecl, Accepted, schemaOf, NamesHere, NamesListed, namePlaces, nameIn, nameEnd, bodyAt, DeclHere, declIn, segmentsIn}
-use Rattle.parts.proofs.Laws.Kept.{kept-good, kept-value, kept-end, part-of, part-self, names-kept, body-kept}
+use Rattle.image.specs.Image.{entryCount, idCount, segmentCount, entryOffset, entryLength, idsAt, segmentsAt, idsFrom, headOf, tablesOf, entryOf, entriesOf, readImage}
+use Rattle.image.specs.WellFormed.{Good, valueOr}
+use Rattle.image.proofs.Laws.Sure.{Sure, sure-ok, sure-need}
+use Rattle.image.proofs.Laws.Good.{sure-good, good-first}
+use Rattle.parts.specs.Promise.{noDecl, Accepted, schemaOf, NamesHere, NamesListed, namePlaces, nameIn, nameEnd, DeclHere, declIn, segmentsIn}
+use Rattle.parts.proofs.Laws.Kept.{kept-good, kept-value, part-of, part-self, names-kept, body-kept}
 use Rattle.parts.proofs.Laws.Steps.{good-is, then-is, then-good, need-is, need-true, byte-is}
 use Rattle.parts.proofs.Laws.Places.{many-places}
 
@@ -157,7 +155,7 @@ module _ (s : List ℕ) (g : Accepted s) where
   unfolding segmentsAt idsAt
   tables-there = whole s g .tables
 
-  pub ids-are : schemaOf s .ids ≡ idsFrom (idCount s) s (idsAt s)
+  ids-are : schemaOf s .ids ≡ idsFrom (idCount s) s (idsAt s)
   ids-are = ap (λ (c : Schema). c .ids) (whole s g .is)
 
   pub id-count-is : idCount s ≡ length (schemaOf s .ids)
@@ -171,7 +169,7 @@ module _ (s : List ℕ) (g : Accepted s) where
       let t = tables-there in
       (sym (ap (λ (i : List ℕ). getD i k 0) ids-are ∙ ids-at s (idCount s) (idsAt s) k (omega arith)), omega arith)
 
-  pub entries-are : schemaOf s .registry ≡ valueOr [] (entriesOf (entryCount s) s 0)
+  entries-are : schemaOf s .registry ≡ valueOr [] (entriesOf (entryCount s) s 0)
   entries-are = ap (λ (c : Schema). c .registry) (whole s g .is)
 
   pub entry-count-is : entryCount s ≡ length (schemaOf s .registry)

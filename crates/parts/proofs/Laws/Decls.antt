@@ -1,12 +1,10 @@
 -- Declarations at places of the image. Assumes nothing.
-use mathlib.Core.Path.{_≡_, refl, sym, ap, ap₂, _∙_}
-use mathlib.Core.Bool.{Bool, true, false, cond}
+use mathlib.Core.Path.{_≡_, refl, sym, ap, _∙_}
 use mathlib.Core.List.{List, []}
 use Prim.Native.Nat.{ℕ, zero, suc, _+_, _≤_, _<_}
 use native.Mathlib.Omega.{arith}
 use borrow.Author.Tests.{le-leb, lt-leb}
-use lib.Dec.{leb}
-use lib.ListN.{length, getD, drop}
+use lib.ListN.{length, getD}
 use Rattle.image.specs.Schema.{Name, Marks, unmarked, Ty, noType, Field, Variant, Decl, decl}
 use Rattle.image.specs.Parse.{Parsed, ok, no, bind, byteAt, many, counted}
 use Rattle.image.specs.Names.{nameAt}
@@ -14,7 +12,7 @@ use Rattle.image.specs.Types.{typeAt}
 use Rattle.image.specs.Fields.{marksOf, marksAt, fieldAt, bareAt, variantAt}
 use Rattle.image.specs.Bodies.{messageAt, enumAt, flagsAt, unionAt, newtypeAt, otherAt, implAt, declAt}
 use Rattle.image.specs.WellFormed.{Good, valueOr, endOf}
-use Rattle.image.proofs.Laws.Sure.{Sure, sure-ok, sure-no, sure-bind, sure-then, code-sure}
+use Rattle.image.proofs.Laws.Sure.{Sure, sure-ok, sure-no, sure-bind, code-sure}
 use Rattle.image.proofs.Laws.Good.{sure-good, good-first}
 use Rattle.parts.specs.Promise.{noField, noVariant, noDecl, NameHere, nameIn, nameEnd, TypeHere, treeIn, itemAt, itemEnd, ItemsHere, ItemsListed, placesFrom, itemsAt, bareIn, variantIn, fieldIn, bodyAt, DeclHere, declIn, itemsIn, innerPlace}
 use Rattle.parts.specs.declared.Shape.the-variants as shape
@@ -116,11 +114,11 @@ module _ (s : List ℕ) (at : ℕ) (g : DeclHere s at) where
     of-kind : bodyAt s at ≡ declAt k s (at + 1)
     of-kind = body-is ∙ ap (λ (n : ℕ). declAt n s (at + 1)) (sym decl-kind ∙ e)
 
-    pub kind-good : Good (declAt k s (at + 1))
+    kind-good : Good (declAt k s (at + 1))
     unfolding DeclHere
     kind-good = rw of-kind at g
 
-    pub kind-value : declIn s at ≡ valueOr noDecl (declAt k s (at + 1))
+    kind-value : declIn s at ≡ valueOr noDecl (declAt k s (at + 1))
     unfolding declIn
     kind-value = ap (valueOr noDecl) of-kind
 
@@ -165,11 +163,11 @@ module _ {A : Type 0} (p : List ℕ → ℕ → Parsed A) (s : List ℕ) (at : �
         counted-there _ (nameEnd s at) b (ap (λ (q : Parsed Decl). list (valueOr noDecl q)) (then-is _ n ∙ then-is _ e) ∙ l _ _)
 
 -- where a declaration's count stands, by its kind
-pub items-marked : (s : List ℕ) (at : ℕ) → declIn s at .kind ≤ 1 → itemsIn s at ≡ itemsAt s (nameEnd s (at + 1) + 1)
+items-marked : (s : List ℕ) (at : ℕ) → declIn s at .kind ≤ 1 → itemsIn s at ≡ itemsAt s (nameEnd s (at + 1) + 1)
 unfolding itemsIn
 items-marked s at l = rw (le-leb (declIn s at .kind) 1 l)
 
-pub items-plain : (s : List ℕ) (at : ℕ) → 1 < declIn s at .kind → itemsIn s at ≡ itemsAt s (nameEnd s (at + 1))
+items-plain : (s : List ℕ) (at : ℕ) → 1 < declIn s at .kind → itemsIn s at ≡ itemsAt s (nameEnd s (at + 1))
 unfolding itemsIn
 items-plain s at l =
     let z : nameEnd s (at + 1) + 0 ≡ nameEnd s (at + 1) = omega arith in
@@ -201,7 +199,7 @@ module _ (s : List ℕ) (at : ℕ) (g : DeclHere s at) where
       rw (items-plain s at (omega arith), kind-value s at g 3 e)
       (plain-counted variantAt s (at + 1) (λ d. d .variants) (λ x vs. decl 3 x unmarked [] vs noType) (λ x vs. refl) (kind-good s at g 3 e))
 
-  pub items-inside : declIn s at .kind ≤ 3 → itemsIn s at .start ≤ length s
+  items-inside : declIn s at .kind ≤ 3 → itemsIn s at .start ≤ length s
   items-inside l = go (declIn s at .kind) refl l
     where
       go : (k : ℕ) → declIn s at .kind ≡ k → k ≤ 3 → itemsIn s at .start ≤ length s

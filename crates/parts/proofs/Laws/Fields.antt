@@ -1,7 +1,7 @@
 -- Encodings and limits at places of the image. Assumes nothing.
 use mathlib.Core.Path.{_≡_, refl, sym, ap, ap₂, _∙_}
 use mathlib.Core.Bool.{Bool, true, false, _&&_, false≢true}
-use mathlib.Core.Option.{Option, none, some}
+use mathlib.Core.Option.{none, some}
 use mathlib.Core.List.{List}
 use Prim.Native.Nat.{ℕ, zero, suc, _+_, _≤_, _<_}
 use native.Mathlib.Omega.{arith}
@@ -9,7 +9,7 @@ use borrow.Author.Tests.{eqb-true, eqb-false, ne-eqb}
 use lib.Dec.{eqb}
 use lib.ListN.{length, getD, drop}
 use Rattle.image.specs.Schema.{Encoding, Field}
-use Rattle.image.specs.Parse.{Parsed, ok, bind, pick, littleEndian, codeAt, numberAt}
+use Rattle.image.specs.Parse.{ok, bind, pick, littleEndian, codeAt, numberAt}
 use Rattle.image.specs.Fields.{plain, delta, encodingOf, encodingAt, limitAt}
 use Rattle.image.specs.WellFormed.{Good, valueOr, endOf}
 use Rattle.image.proofs.Laws.Sure.{Sure, sure-ok, sure-no, sure-bind, sure-pick, Byte, code-sure}
@@ -19,7 +19,7 @@ use Rattle.parts.specs.Promise.{codingOf}
 use Rattle.parts.specs.declared.Shape.the-variants as shape
 use Rattle.parts.specs.declared.Limit.the-variants.{Most, Unlimited}
 use Rattle.parts.specs.Promise.{limitOf}
-use Rattle.parts.proofs.Laws.Steps.{then-is, then-good, code-is, number-is}
+use Rattle.parts.proofs.Laws.Steps.{then-is, code-is, number-is}
 use Rattle.parts.proofs.Laws.Items.{field-parts}
 
 -- an encoding is as many bytes 3 as it has deltas, and the base
@@ -72,7 +72,7 @@ module _ (s : List ℕ) where
       (λ h. sure-bind _ (encoding-of-sure left n) (λ e m r. sure-ok (one-more at b n m e (q .byte) (eqb-true b 3 h) r)))
       (λ h. sure-ok (base-only at b n (q .byte) (eqb-false b 3 h))))
 
-  pub encoding-stands : (at : ℕ) → Good (encodingAt s at) → Encoded s at (encodingIn s at) (endOf (encodingAt s at))
+  encoding-stands : (at : ℕ) → Good (encodingAt s at) → Encoded s at (encodingIn s at) (endOf (encodingAt s at))
   unfolding encodingIn encodingAt
   encoding-stands at g = sure-good (plain 0) (encoding-of-sure 8 at) g
 
@@ -82,10 +82,10 @@ module _ (s : List ℕ) (at : ℕ) (g : Good (limitAt s at)) where
   unfolding limitAt
   first = code-is s at 0 1 (good-first 0 (codeAt 0 1 s at) _ g)
 
-  pub limit-there : at < length s
+  limit-there : at < length s
   limit-there = first .1
 
-  pub limit-none : getD s at 0 ≡ 0 → limitAt s at ≡ ok none (at + 1)
+  limit-none : getD s at 0 ≡ 0 → limitAt s at ≡ ok none (at + 1)
   unfolding limitAt pick
   limit-none e = then-is _ (first .0) ∙ rw e
 
@@ -93,7 +93,7 @@ module _ (s : List ℕ) (at : ℕ) (g : Good (limitAt s at)) where
   unfolding limitAt pick
   limit-some f = then-is _ (first .0) ∙ rw (ne-eqb (getD s at 0) 0 f)
 
-  pub limit-number : (getD s at 0 ≡ 0 → ⊥) → (limitAt s at ≡ ok (some (littleEndian 8 (drop (at + 1) s))) (at + 1 + 8)) × (at + 1 + 8 ≤ length s)
+  limit-number : (getD s at 0 ≡ 0 → ⊥) → (limitAt s at ≡ ok (some (littleEndian 8 (drop (at + 1) s))) (at + 1 + 8)) × (at + 1 + 8 ≤ length s)
   limit-number f =
       let e = limit-some f in
       let h = number-is s (at + 1) 8 (good-first 0 (numberAt 8 s (at + 1)) _ (rw e at g)) in
@@ -174,7 +174,7 @@ module _ (s : List ℕ) (at : ℕ) (g : ItemHere shape.Field s at) where
         go true false p r h = absurd (false≢true h)
         go false y p r h = absurd (false≢true h)
 
-  pub limit-good : Good (limitAt s (limitPlace s at))
+  limit-good : Good (limitAt s (limitPlace s at))
   limit-good = field-parts s at g .limit
 
   module _ {p : ℕ} (q : p ≡ limitPlace s at) where

@@ -1,14 +1,12 @@
 -- Items at places of the image: ordinal and name, and what each shape has after them. Assumes nothing.
-use mathlib.Core.Path.{_≡_, refl, sym, ap, ap₂, _∙_}
-use mathlib.Core.Bool.{Bool, true, false}
-use mathlib.Core.Option.{Option, none, some}
-use mathlib.Core.List.{List, [], _∷_, map, List·Memᴰ}
-use Prim.Native.Nat.{ℕ, zero, suc, _+_, _-_, _≤_, _<_}
+use mathlib.Core.Path.{_≡_, sym, ap, ap₂, _∙_}
+use mathlib.Core.Option.{none}
+use mathlib.Core.List.{List, [], List·Memᴰ}
+use Prim.Native.Nat.{ℕ, _+_, _-_, _≤_, _<_}
 use native.Mathlib.Omega.{arith}
-use native.Mathlib.Numerals.{sub-one}
 use lib.ListN.{length, getD, drop}
-use Rattle.image.specs.Schema.{Name, Marks, Encoding, Ty, noType, Field, Variant}
-use Rattle.image.specs.Parse.{Parsed, ok, no, bind, littleEndian, numberAt, many, counted}
+use Rattle.image.specs.Schema.{Name, noType, Field, Variant}
+use Rattle.image.specs.Parse.{Parsed, ok, bind, littleEndian, numberAt, many, counted}
 use Rattle.image.specs.Names.{nameAt}
 use Rattle.image.specs.Types.{typeOf, typeAt}
 use Rattle.image.specs.Fields.{marksOf, marksAt, plain, encodingAt, limitAt, fieldAt, bareAt, variantAt}
@@ -133,7 +131,7 @@ bare-there : (s : List ℕ) (at : ℕ) → at + 4 ≤ length s → NameHere s (a
 unfolding bareAt
 bare-there s at l n = then-is _ (number-there s at 4 l) ∙ then-is _ (name-is s (at + 4) n)
 
-pub bare-good : (s : List ℕ) (at : ℕ) → at + 4 ≤ length s → NameHere s (at + 4) → Good (bareAt s at)
+bare-good : (s : List ℕ) (at : ℕ) → at + 4 ≤ length s → NameHere s (at + 4) → Good (bareAt s at)
 unfolding Good
 bare-good s at l n = rw (bare-there s at l n) tt
 

@@ -2,7 +2,7 @@
 -- The refusals may differ, and so may the depth that is left to a type, if the whole's is no less. Assumes nothing.
 use mathlib.Core.Path.{_≡_, refl, sym, ap, ap₂, _∙_}
 use mathlib.Core.Bool.{Bool, true, false}
-use mathlib.Core.List.{List, [], _∷_}
+use mathlib.Core.List.{List}
 use Prim.Native.Nat.{ℕ, zero, suc, _+_, _*_, _≤_, _<_}
 use native.Mathlib.Omega.{arith}
 use native.Mathlib.Nat.{min-le-left, min-le-right}
@@ -85,7 +85,7 @@ part-of from count s h = record {
 pub part-from : (at : ℕ) (s : List ℕ) → at ≤ length s → Part at (drop at s) s
 part-from at s h = record { fits = (let e = length-drop at s in omega arith); same = λ i l. getD-drop at s i 0 }
 
-pub part-drop : (by : ℕ) (t s : List ℕ) (at : ℕ) → Part by t s → Part 0 (drop at t) (drop (by + at) s)
+part-drop : (by : ℕ) (t s : List ℕ) (at : ℕ) → Part by t s → Part 0 (drop at t) (drop (by + at) s)
 part-drop by t s at h = record {
   fits = (let f = h .fits in let e = length-drop at t in let d = length-drop (by + at) s in omega arith);
   same = λ i l. (
@@ -149,7 +149,7 @@ module _ {by : ℕ} {t s : List ℕ} (h : Part by t s) where
   number-kept w at =
       kept-need _ _ _ _ (fits-most at w) (λ e. kept-as (sym (le-part w h at (leb-true (at + w) (length t) e))) (omega arith))
 
-  pub name-kept : (k m at : ℕ) → Kept by (nameAt k t at) (nameAt m s (by + at))
+  name-kept : (k m at : ℕ) → Kept by (nameAt k t at) (nameAt m s (by + at))
   unfolding nameAt
   name-kept k m at =
       kept-bind _ _ (byte-kept k m at) (λ c n.
@@ -204,7 +204,7 @@ module _ {by : ℕ} {t s : List ℕ} (h : Part by t s) where
   inner-kept p q f (suc (suc k)) l at =
       kept-bind _ _ (within-kept p q f h at) (λ u n. kept-bind _ _ (within-kept p q f h n) (λ v m. kept-ok refl))
 
-pub label-kept : (t s : List ℕ) → Part 0 t s → Kept 0 (labelOf t) (labelOf s)
+label-kept : (t s : List ℕ) → Part 0 t s → Kept 0 (labelOf t) (labelOf s)
 unfolding labelOf
 label-kept t s h = kept-bind _ _ (byte-kept h 8 8 0) (λ tag n. after-kept h tag (followsTag tag) n)
 

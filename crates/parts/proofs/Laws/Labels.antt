@@ -1,29 +1,29 @@
 -- Labels at places of the image, by their tags. Assumes nothing.
-use mathlib.Core.Path.{_≡_, refl, sym, ap, ap₂, _∙_}
+use mathlib.Core.Path.{_≡_, refl, sym, ap, _∙_}
 use mathlib.Core.Bool.{Bool, true, false, cond}
-use mathlib.Core.List.{List, [], _∷_, map}
+use mathlib.Core.List.{List, [], map}
 use Prim.Native.Nat.{ℕ, zero, suc, _+_, _-_, _≤_, _<_}
 use native.Mathlib.Omega.{arith}
 use borrow.Author.Tests.{eqb-true, eqb-false, leb-true}
 use lib.Dec.{eqb, leb}
 use lib.ListN.{length, getD, drop, length-drop}
 use lib.Seq.{getD-drop}
-use Rattle.image.specs.Schema.{Name, Label, label}
-use Rattle.image.specs.Parse.{Parsed, ok, no, bind, littleEndian, byteAt, codeAt, numberAt}
+use Rattle.image.specs.Schema.{Label, label}
+use Rattle.image.specs.Parse.{Parsed, ok, bind, littleEndian, byteAt, codeAt, numberAt}
 use Rattle.image.specs.Names.{nameAt, namesAt}
-use Rattle.image.specs.Types.{Follows, code, subByte, identity, size, nothing, bits, unknown, followsTag, innerTypes, afterTag, labelOf}
+use Rattle.image.specs.Types.{Follows, code, subByte, identity, size, nothing, bits, unknown, followsTag, afterTag, labelOf}
 use Rattle.image.specs.WellFormed.{Good, valueOr, endOf}
 use Rattle.image.specs.WellFormed.{labelIn as firstLabel}
 use Rattle.image.proofs.Laws.Good.{good-first}
 use Rattle.image.proofs.Laws.Trees.{label-tag}
-use Rattle.image.proofs.Laws.Types.{follows-nothing, follows-unknown}
+use Rattle.image.proofs.Laws.Types.{follows-nothing}
 use Rattle.parts.specs.Promise.{noLabel, NamesHere, NamesListed, namesEnd, nameEnd, nameIn, namePlaces, LabelHere, labelIn, labelEnd, bitsIn, Defaults}
-use Rattle.parts.proofs.Laws.Kept.{Kept, kept-good, kept-value, kept-end, Part, part-from, byte-kept, after-kept, kept-bind}
+use Rattle.parts.proofs.Laws.Kept.{Kept, kept-good, kept-value, kept-end, part-from, byte-kept, after-kept, kept-bind}
 use Rattle.parts.proofs.Laws.Steps.{good-is, then-is, then-good, byte-is, code-is, number-is}
 use Rattle.parts.proofs.Laws.Places.{many-places}
 
 -- a tag by what follows it
-pub data Tagged : ℕ → Follows → Type 0 where
+data Tagged : ℕ → Follows → Type 0 where
   primitive : Tagged 0 (code 13)
   sub-byte : Tagged 1 subByte
   semantic : Tagged 2 (code 5)
@@ -40,7 +40,7 @@ either tag k x y t rest = go (eqb tag k) refl
     go true e = rw (eqb-true tag k e) t
     go false e = rest (eqb-false tag k e)
 
-pub tagged : (tag : ℕ) → Tagged tag (followsTag tag)
+tagged : (tag : ℕ) → Tagged tag (followsTag tag)
 unfolding followsTag
 tagged tag =
     either tag 0 _ _ primitive (λ n₀. either tag 1 _ _ sub-byte (λ n₁. either tag 2 _ _ semantic (λ n₂. either tag 3 _ _ named (λ n₃.
@@ -125,10 +125,10 @@ module _ (s : List ℕ) (at : ℕ) (g : LabelHere s at) where
       label-tag (drop at s) g .tagged ∙ getD-drop at s 0 0 ∙ ap (λ (i : ℕ). getD s i 0) z
 
   -- by what follows the tag
-  pub label-after : (f : Follows) → followsTag (getD s at 0) ≡ f → After f (getD s at 0) s (at + 1)
+  label-after : (f : Follows) → followsTag (getD s at 0) ≡ f → After f (getD s at 0) s (at + 1)
   label-after f e = after f (getD s at 0) s (at + 1) (rw (tag-at, e) at first)
 
-  pub label-is : (f : Follows) → followsTag (getD s at 0) ≡ f → (l : Label) (n : ℕ) → afterTag (getD s at 0) f s (at + 1) ≡ ok l n → (labelIn s at ≡ l) × (labelEnd s at ≡ n)
+  label-is : (f : Follows) → followsTag (getD s at 0) ≡ f → (l : Label) (n : ℕ) → afterTag (getD s at 0) f s (at + 1) ≡ ok l n → (labelIn s at ≡ l) × (labelEnd s at ≡ n)
   unfolding valueOr endOf
   label-is f e l n q =
       let r = tag-at ∙ ap (λ (k : Follows). afterTag (getD s at 0) k s (at + 1)) e ∙ q in

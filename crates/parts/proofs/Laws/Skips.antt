@@ -1,26 +1,23 @@
 -- How the code skips what it need not read: so many names, and the nodes of a type with those that are still to come. Assumes nothing.
-use mathlib.Core.Path.{_≡_, refl, sym, ap, ap₂, _∙_}
+use mathlib.Core.Path.{_≡_, refl, sym, ap, _∙_}
 use mathlib.Core.Bool.{Bool, true, false, cond, _&&_}
-use mathlib.Core.List.{List, [], _∷_, map}
+use mathlib.Core.List.{List, [], _∷_}
 use Prim.Native.Nat.{ℕ, zero, suc, _+_, _-_, _≤_, _<_}
 use native.Mathlib.Omega.{arith}
-use native.Mathlib.Numerals.{sub-one}
 use lib.Dec.{leb}
 use lib.ListN.{length, getD, drop}
-use Rattle.image.specs.Schema.{Label, label, Ty, leaf, one, two, noType, Field}
-use Rattle.image.specs.Parse.{Parsed, ok, no, bind, shift, within, byteAt, many}
+use Rattle.image.specs.Schema.{Label, Ty, one, two, noType}
+use Rattle.image.specs.Parse.{Parsed, ok, no, bind, shift, within, many}
 use Rattle.image.specs.Names.{nameAt, namesAt}
 use Rattle.image.specs.Types.{Follows, code, subByte, identity, size, nothing, bits, unknown, followsTag, innerTypes, afterTag, labelOf, innerAt, typeOf, typeAt}
-use Rattle.image.specs.WellFormed.{Good, valueOr, endOf}
+use Rattle.image.specs.WellFormed.{Good, endOf}
 use Rattle.image.specs.WellFormed.{labelIn as firstLabel}
 use Rattle.image.specs.Answer.{skip}
 use Rattle.image.proofs.Laws.Answers.{apart}
 use Rattle.image.proofs.Laws.Sure.{Sure, sure-ok, sure-no, sure-bind, sure-then, byte-sure, code-sure, number-sure, name-sure}
 use Rattle.image.proofs.Laws.Good.{sure-good, good-first, bind-is, many-first, many-rest, many-end}
-use Rattle.image.proofs.Laws.Trees.{type-deeper, label-tag}
 use Rattle.parts.specs.Promise.{noLabel, NameHere, nameEnd, NamesHere, namesEnd, LabelHere, labelIn, labelEnd, TypeHere, typeEnd}
-use Rattle.parts.proofs.Laws.Kept.{Kept, kept-good, kept-end, Part, part-from, many-kept, within-kept, type-kept}
-use Rattle.parts.proofs.Laws.Steps.{good-is, then-is}
+use Rattle.parts.proofs.Laws.Kept.{kept-good, kept-end, part-from, many-kept, within-kept, type-kept}
 use Rattle.parts.proofs.Laws.Places.{many-none, many-make, many-append, many-turn, many-done}
 use Rattle.parts.proofs.Laws.Labels.{label-there, label-tag-is}
 use Rattle.parts.proofs.Laws.Trees.{type-label}
@@ -140,7 +137,7 @@ module _ (d : ℕ) (t : List ℕ) (g : Good (typeOf (suc d) t)) where
       (r .0, r .1 ∙ ap endOf (sym e))
 
 module _ (s : List ℕ) (at : ℕ) (h : TypeHere 32 s at) (l : at ≤ length s) where
-  pub node-inner : Good (many typeAt (innerTypes (labelIn s at .tag)) s (labelEnd s at)) × (endOf (many typeAt (innerTypes (labelIn s at .tag)) s (labelEnd s at)) ≡ typeEnd s at)
+  node-inner : Good (many typeAt (innerTypes (labelIn s at .tag)) s (labelEnd s at)) × (endOf (many typeAt (innerTypes (labelIn s at .tag)) s (labelEnd s at)) ≡ typeEnd s at)
   unfolding labelIn firstLabel labelEnd typeEnd typeAt
   node-inner =
       let r = inner-part 31 (drop at s) (h .good) in
@@ -164,7 +161,7 @@ module _ (s : List ℕ) (c at : ℕ) (l : 0 < c) (g : Good (many typeAt c s at))
   first : Good (typeAt s at)
   first = many-first noType typeAt c s at l g
 
-  pub types-first : TypeHere 32 s at
+  types-first : TypeHere 32 s at
   types-first = type-here s at first
 
   pub types-label : LabelHere s at

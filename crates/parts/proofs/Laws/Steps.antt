@@ -1,22 +1,20 @@
 -- Reads that were good, one after the other: each is good, and its value and its end are known. Assumes nothing.
-use mathlib.Core.Path.{_≡_, refl, sym, ap, ap₂, _∙_}
+use mathlib.Core.Path.{_≡_, refl, sym, ap₂, _∙_}
 use mathlib.Core.Bool.{Bool, true, false}
-use mathlib.Core.List.{List, [], _∷_, map}
-use Prim.Native.Nat.{ℕ, zero, suc, _+_, _-_, _*_, _≤_, _<_}
+use mathlib.Core.List.{List, []}
+use Prim.Native.Nat.{ℕ, suc, _+_, _-_, _*_, _≤_, _<_}
 use native.Mathlib.Omega.{arith}
 use native.Mathlib.Nat.{add-sub-cancel-left}
-use native.Mathlib.Numerals.{sub-one}
 use borrow.Author.Tests.{le-leb}
 use lib.ListN.{length, getD, take, drop}
 use lib.Seq.{drop-drop, getD-drop}
-use Rattle.image.specs.Schema.{Marks}
-use Rattle.image.specs.Parse.{Parsed, ok, no, bind, pick, part, littleEndian, byteAt, codeAt, numberAt, many}
-use Rattle.image.specs.Names.{nameAt, namesAt}
+use Rattle.image.specs.Parse.{Parsed, ok, no, bind, pick, part, littleEndian, byteAt, codeAt, numberAt}
+use Rattle.image.specs.Names.{nameAt}
 use Rattle.image.specs.Fields.{marksOf, marksAt}
 use Rattle.image.specs.WellFormed.{Good, valueOr, endOf}
-use Rattle.image.proofs.Laws.Sure.{Byte, Number, Named, byte-sure, code-sure, number-sure, name-sure}
-use Rattle.image.proofs.Laws.Good.{sure-good, good-first, many-first, many-rest, many-are, many-end}
-use Rattle.parts.specs.Promise.{NameHere, nameIn, nameEnd, placesBy}
+use Rattle.image.proofs.Laws.Sure.{Named, byte-sure, code-sure, number-sure, name-sure}
+use Rattle.image.proofs.Laws.Good.{sure-good, good-first}
+use Rattle.parts.specs.Promise.{NameHere, nameIn, nameEnd}
 
 pub good-is : {A : Type 0} (d : A) (p : Parsed A) → Good p → p ≡ ok (valueOr d p) (endOf p)
 unfolding Good valueOr endOf

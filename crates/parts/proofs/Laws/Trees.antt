@@ -1,20 +1,17 @@
 -- Types at places of the image. Assumes nothing.
-use mathlib.Core.Path.{_≡_, refl, sym, ap, ap₂, _∙_}
-use mathlib.Core.List.{List, [], _∷_, map}
-use Prim.Native.Nat.{ℕ, zero, suc, _+_, _-_, _≤_, _<_}
+use mathlib.Core.Path.{_≡_, sym, ap, ap₂, _∙_}
+use mathlib.Core.List.{List}
+use Prim.Native.Nat.{ℕ, _+_, _-_, _≤_, _<_}
 use native.Mathlib.Omega.{arith}
-use native.Mathlib.Numerals.{sub-one}
-use lib.ListN.{length, getD, drop}
+use lib.ListN.{getD, drop}
 use lib.Seq.{drop-drop}
-use Rattle.image.specs.Schema.{Label, label, Ty, leaf, one, two, noType}
-use Rattle.image.specs.Parse.{Parsed, ok, no, bind, within, many}
-use Rattle.image.specs.Types.{innerTypes, labelOf, innerAt, typeOf, typeAt}
-use Rattle.image.specs.WellFormed.{Good, valueOr, endOf}
+use Rattle.image.specs.Schema.{leaf, one, two, noType}
+use Rattle.image.specs.Types.{innerTypes, labelOf, typeOf}
+use Rattle.image.specs.WellFormed.{Good, endOf}
 use Rattle.image.specs.WellFormed.{treeIn as treeOf, labelIn as firstLabel}
-use Rattle.image.proofs.Laws.Good.{good-first, good-second, bind-is, within-good, within-value, within-end}
 use Rattle.image.proofs.Laws.Trees.{type-deeper, type-labelled, label-tag, tree-leaf, tree-one, tree-two, first-good, second-good}
 use Rattle.parts.specs.Promise.{LabelHere, labelIn, labelEnd, TypeHere, treeIn, typeEnd}
-use Rattle.parts.proofs.Laws.Kept.{Kept, kept-good, kept-value, kept-end, Part, part-self, type-kept}
+use Rattle.parts.proofs.Laws.Kept.{kept-good, kept-value, kept-end, part-self, type-kept}
 
 -- what has few nodes on a path is the same with more of them allowed
 module _ (left : ℕ) (s : List ℕ) (l : left ≤ 32) (g : Good (typeOf left s)) where

@@ -1,5 +1,4 @@
 -- `parts::decls::inner_type` meets its contract. Assumes nothing.
-use mathlib.Core.Path.{_∙_, sym}
 use native.Mathlib.Omega.{arith}
 use Rattle.parts.proofs.Laws.Decls.{kind-there, decl-kind, decl-head}
 use Rattle.parts.specs.Promise.{innerPlace}

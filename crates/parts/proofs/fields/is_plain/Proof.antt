@@ -1,5 +1,4 @@
 -- `parts::fields::is_plain` meets its contract. Assumes nothing.
-use mathlib.Core.Path.{_≡_, sym}
 use borrow.Author.Needs.{needs}
 use borrow.Author.Tests.{eq-eqb, ne-eqb}
 use Rattle.parts.proofs.fields.is_plain.Statement.{statement}

@@ -1,5 +1,5 @@
 -- `parts::items::decl_items` meets its contract. Assumes nothing.
-use mathlib.Core.Path.{sym, _∙_}
+use mathlib.Core.Path.{_∙_}
 use native.Mathlib.Omega.{arith}
 use Rattle.parts.proofs.Laws.Decls.{kind-there, decl-kind, decl-head, items-after, items-after-marks}
 use Rattle.parts.proofs.items.decl_items.Statement.{statement}
