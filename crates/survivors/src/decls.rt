@@ -7,7 +7,6 @@ use parts::entries::entry;
 use parts::entries::id_at;
 use parts::entries::id_count;
 ghost use mathlib.Core.Path.{_≡_};
-ghost use mathlib.Core.Bool.{Bool};
 ghost use Rattle.maps.specs.Orders.{before};
 ghost use Rattle.maps.specs.Walk.{past};
 ghost use Rattle.parts.specs.Promise.{Accepted, DeclHere, declIn, EntryHere};

@@ -9,18 +9,18 @@ use lib.ListN.{length, getD, take, drop, drop-of-length-le}
 use lib.Seq.{drop-cons}
 use Rattle.maps.specs.Orders.{same, before}
 use Rattle.maps.specs.Keyed.{lookup}
-use Rattle.maps.specs.Walk.{latest, better, next, least}
+use Rattle.maps.specs.Walk.{latest, next, least}
 use Rattle.maps.proofs.Names.{byName}
 use Rattle.maps.proofs.Searches.{latest-start, latest-nothing, latest-skips, latest-other, latest-found, lookup-latest, least-cons, least-nil}
 use Rattle.maps.proofs.Walking.{next-least}
 use Rattle.image.specs.Schema.{Name, Decl}
-use Rattle.parts.specs.Promise.{schemaOf, DeclHere, declIn, declOf, EntryHere, Resolved}
+use Rattle.parts.specs.Promise.{schemaOf, declIn, declOf, EntryHere, Resolved}
 use Rattle.parts.specs.declared.Entry.{Entry}
 use Rattle.parts.specs.declared.Entry.the-variants.{Body, Unresolvable}
-use Rattle.parts.proofs.Promise.{resolved-here, resolved-body, resolved-none}
+use Rattle.parts.proofs.Promise.{resolved-here}
 use Rattle.rules.specs.Survivors.{Registry, resolved, listed, nameOf, declarations}
 use Rattle.rules.specs.Survivors.{declOf as entryOf}
-use Rattle.survivors.specs.Answers.{named, Survives, Follows, nearest, Nearer}
+use Rattle.survivors.specs.Answers.{named, Survives, nearest}
 
 -- what one id lists
 unfoldable pub declared : Registry → ℕ → List Decl

@@ -1,12 +1,12 @@
 -- A pass over the items of a run, from the front: a turn, the end, and what its start is. Assumes nothing.
-use mathlib.Core.Path.{_≡_, refl, sym, ap, _∙_}
-use mathlib.Core.Option.{Option, none, some}
-use mathlib.Core.List.{List, [], _∷_}
+use mathlib.Core.Path.{_≡_, sym, ap, _∙_}
+use mathlib.Core.Option.{Option, none}
+use mathlib.Core.List.{List}
 use Prim.Native.Nat.{ℕ, _-_, _≤_, _<_}
 use native.Mathlib.Omega.{arith}
 use lib.Dec.{ltb}
 use Rattle.maps.specs.Lists.{pass}
-use Rattle.maps.specs.Keyed.{survivors, lookup}
+use Rattle.maps.specs.Keyed.{lookup}
 use Rattle.maps.specs.Walk.{better, next, least, seen, lastSeen}
 use Rattle.maps.proofs.Orders.{byNumber, eq-same, ne-same}
 use Rattle.maps.proofs.Survivors.{lookup-lastSeen}
@@ -18,7 +18,7 @@ use Rattle.parts.specs.declared.Run.{Run}
 use Rattle.parts.proofs.Promise.{places-none, places-more, items-rest}
 use Rattle.survivors.specs.Answers.{placeOf, FoundHere, placeMap}
 use Rattle.survivors.specs.declared.Found.{Found}
-use Rattle.survivors.specs.declared.Found.the-variants.{At, Nothing}
+use Rattle.survivors.specs.declared.Found.the-variants.{At}
 
 module _ (h : Shape) (s : List ℕ) {S : Type 0} (step : S → ℕ → S) where
   -- what a pass comes to, with so many items left
