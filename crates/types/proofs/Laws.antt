@@ -1,0 +1,6 @@
+-- Names: the names of a run, one at a time. Words: words in one text. Labels: two labels, by what their tag has. Trees: two types, by
+-- their labels and inner types.
+pub mod Names
+pub mod Words
+pub mod Labels
+pub mod Trees

@@ -1,0 +1,24 @@
+-- What the comparison of two types answers. Assumes nothing.
+use mathlib.Core.Path.{_≡_}
+use mathlib.Core.Bool.{Bool, true, false}
+use mathlib.Core.List.{List}
+use Prim.Native.Nat.{ℕ}
+use Rattle.parts.specs.Promise.{typeEnd}
+use Rattle.rules.specs.Types.{sameType}
+use Rattle.types.specs.Resolved.{typeIn}
+use Rattle.types.specs.declared.equal.Equality.{Equality}
+use Rattle.types.specs.declared.equal.Equality.the-variants.{Equal, Different}
+
+unfoldable pub isEqual : Equality → Bool
+isEqual (Equal p q) = true
+isEqual Different = false
+
+-- equal types come with the places after them
+unfoldable pub Ended : List ℕ → ℕ → List ℕ → ℕ → Equality → Type 0
+Ended s i t j (Equal p q) = (p ≡ typeEnd s i) × (q ≡ typeEnd t j)
+Ended s i t j Different = Unit {0}
+
+-- of the types at i in s and at j in t
+pub record Compared (s : List ℕ) (i : ℕ) (t : List ℕ) (j : ℕ) (r : Equality) : Type 0 where
+  pub same : isEqual r ≡ sameType (typeIn s i) (typeIn t j)
+  pub ends : Ended s i t j r

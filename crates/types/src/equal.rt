@@ -1,0 +1,109 @@
+// Whether two types are equal, each at its place in its own image.
+use crate::names::same_name;
+use crate::names::same_names;
+use crate::nodes::inner_types;
+use parts::Entry;
+use parts::decls::decl_name;
+use parts::entries::entry;
+use parts::types::bit_names;
+use parts::types::label_end;
+use parts::types::type_bits;
+use parts::types::type_code;
+use parts::types::type_id;
+use parts::types::type_size;
+use parts::types::type_tag;
+ghost use mathlib.Core.Path.{_≡_};
+ghost use mathlib.Core.Bool.{_&&_};
+ghost use lib.Dec.{eqb};
+ghost use Rattle.parts.specs.Promise.{Accepted, LabelHere, labelIn, TypeHere};
+ghost use Rattle.rules.specs.Equal.{sameNames};
+ghost use Rattle.rules.specs.Types.{equalLabel, sameType};
+ghost use Rattle.types.specs.Resolved.{namedBy, nodeIn, typeIn};
+ghost use Rattle.types.specs.Equality.{Compared};
+
+// Equal, with the places after both types; or different.
+enum Equality {
+    Equal(usize, usize),
+    Different,
+}
+
+// Whether two ids stand for the same name, each in its own registry; two that are unresolvable are equal too.
+fn named_equal(a: &[u8], old: u32, b: &[u8], new: u32) -> bool
+    requires { ⌜ Accepted (now a) × Accepted (now b) ⌝ }
+    ensures { λ r. ⌜ r ≡ sameNames (namedBy (now (a .entry)) old) (namedBy (now (b .entry)) new) ⌝ }
+{
+    let Entry::Body(i) = entry(a, old) else {
+        let Entry::Body(_) = entry(b, new) else {
+            return true;
+        };
+        return false;
+    };
+    let Entry::Body(j) = entry(b, new) else {
+        return false;
+    };
+    same_name(decl_name(a, i), decl_name(b, j))
+}
+
+// Whether two sub-bytes are both signed or both not, and have as many bits.
+fn sub_bytes_equal(a: &[u8], i: usize, b: &[u8], j: usize) -> bool
+    requires { ⌜ LabelHere (now a) i × LabelHere (now b) j × (labelIn (now a) i .tag ≡ 1) × (labelIn (now b) j .tag ≡ 1) ⌝ }
+    ensures { λ r. ⌜ r ≡ (eqb (labelIn (now (a .entry)) i .first) (labelIn (now (b .entry)) j .first) && eqb (labelIn (now (a .entry)) i .second) (labelIn (now (b .entry)) j .second)) ⌝ }
+{
+    if type_code(a, i) != type_code(b, j) {
+        return false;
+    }
+    type_bits(a, i) == type_bits(b, j)
+}
+
+// Two nodes without their inner types.
+fn labels_equal(a: &[u8], i: usize, b: &[u8], j: usize) -> bool
+    requires { ⌜ Accepted (now a) × Accepted (now b) × LabelHere (now a) i × LabelHere (now b) j ⌝ }
+    ensures { λ r. ⌜ r ≡ equalLabel (nodeIn (now (a .entry)) i) (nodeIn (now (b .entry)) j) ⌝ }
+{
+    let tag = type_tag(a, i);
+    if tag != type_tag(b, j) {
+        return false;
+    }
+    match tag {
+        0 | 2 => type_code(a, i) == type_code(b, j),
+        1 => sub_bytes_equal(a, i, b, j),
+        3 => named_equal(a, type_id(a, i), b, type_id(b, j)),
+        6 => type_size(a, i) == type_size(b, j),
+        16 => same_names(a, bit_names(a, i), b, bit_names(b, j)),
+        _ => tag < 10,
+    }
+}
+
+// Two types of at most `left` nodes on a path, walked together.
+fn nodes_equal(a: &[u8], i: usize, b: &[u8], j: usize, left: usize) -> Equality
+    requires { ⌜ Accepted (now a) × Accepted (now b) × TypeHere left (now a) i × TypeHere left (now b) j ⌝ }
+    ensures { λ r. ⌜ Compared (now (a .entry)) i (now (b .entry)) j r ⌝ }
+{
+    if !labels_equal(a, i, b, j) {
+        return Equality::Different;
+    }
+    let inner = inner_types(type_tag(a, i));
+    let p = label_end(a, i);
+    let q = label_end(b, j);
+    if inner == 0 {
+        return Equality::Equal(p, q);
+    }
+    let first = nodes_equal(a, p, b, q, left - 1);
+    if inner == 1 {
+        return first;
+    }
+    let Equality::Equal(k, m) = first else {
+        return first;
+    };
+    nodes_equal(a, k, b, m, left - 1)
+}
+
+pub fn types_equal(a: &[u8], i: usize, b: &[u8], j: usize) -> bool
+    requires { ⌜ Accepted (now a) × Accepted (now b) × TypeHere 32 (now a) i × TypeHere 32 (now b) j ⌝ }
+    ensures { λ r. ⌜ r ≡ sameType (typeIn (now (a .entry)) i) (typeIn (now (b .entry)) j) ⌝ }
+{
+    match nodes_equal(a, i, b, j, 32) {
+        Equality::Equal(_, _) => true,
+        Equality::Different => false,
+    }
+}

@@ -1,0 +1,8 @@
+// How many inner types a tag has.
+ghost use Rattle.types.specs.Nodes.{Inner};
+
+pub fn inner_types(tag: u8) -> usize
+    ensures { λ r. ⌜ Inner tag r ⌝ }
+{
+    image::types::inner_types(tag)
+}
