@@ -21,7 +21,7 @@ ghost use Rattle.rules.specs.Types.{equalLabel, sameType};
 ghost use Rattle.types.specs.Resolved.{namedBy, nodeIn, typeIn};
 ghost use Rattle.types.specs.Equality.{Compared};
 
-// Equal, with the places after both types; or different.
+// Two types are equal, and these are the places after them; or they are different.
 enum Equality {
     Equal(usize, usize),
     Different,
@@ -70,11 +70,13 @@ fn labels_equal(a: &[u8], i: usize, b: &[u8], j: usize) -> bool
         3 => named_equal(a, type_id(a, i), b, type_id(b, j)),
         6 => type_size(a, i) == type_size(b, j),
         16 => same_names(a, bit_names(a, i), b, bit_names(b, j)),
+        // 10 to 15, the vectors, quat and the matrices, are never equal.
         _ => tag < 10,
     }
 }
 
-// Two types of at most `left` nodes on a path, walked together.
+// Two types of at most `left` nodes on a path, walked together: it calls itself on inner types, each from the place where the one before it
+// ended.
 fn nodes_equal(a: &[u8], i: usize, b: &[u8], j: usize, left: usize) -> Equality
     requires { ⌜ Accepted (now a) × Accepted (now b) × TypeHere left (now a) i × TypeHere left (now b) j ⌝ }
     ensures { λ r. ⌜ Compared (now (a .entry)) i (now (b .entry)) j r ⌝ }
@@ -98,6 +100,7 @@ fn nodes_equal(a: &[u8], i: usize, b: &[u8], j: usize, left: usize) -> Equality
     nodes_equal(a, k, b, m, left - 1)
 }
 
+// Whether two types are equal: named types by their names, each from its own registry.
 pub fn types_equal(a: &[u8], i: usize, b: &[u8], j: usize) -> bool
     requires { ⌜ Accepted (now a) × Accepted (now b) × TypeHere 32 (now a) i × TypeHere 32 (now b) j ⌝ }
     ensures { λ r. ⌜ r ≡ sameType (typeIn (now (a .entry)) i) (typeIn (now (b .entry)) j) ⌝ }

@@ -8,7 +8,7 @@ use native.Mathlib.Numerals.{sub-one}
 use lib.ListN.{length, getD}
 use lib.Seq.{ext-getD}
 use Rattle.image.specs.Schema.{Name}
-use Rattle.parts.specs.Promise.{NameHere, nameIn, nameEnd, NamesHere}
+use Rattle.parts.specs.Promise.{NameHere, nameIn, nameEnd}
 use Rattle.parts.proofs.Promise.{names-first, names-rest, name-places-none, name-places-more}
 use Rattle.parts.specs.declared.Run.{Run}
 use Rattle.rules.specs.Equal.{sameList, sameName, sameNames, Sound}
