@@ -29,6 +29,7 @@ pub use Rattle.parts.proofs.Laws.Decls.{message-listed, enum-listed, fl
 pub use Rattle.parts.proofs.Laws.Items.{item-bare, field-ordinal, field-name, field-type-here, field-type, variant-ordinal, variant-name, variant-listed}
 -- a type: at most 32 nodes on a path may be said of any; it has a label; a node by how many inner types its tag has
 pub use Rattle.parts.proofs.Laws.Trees.{type-whole, type-some, type-label, type-first, type-second, node-leaf, node-one, node-two}
+pub use Rattle.parts.proofs.Laws.Ends.{end-leaf, end-one, end-two}
 -- a label: what its tag has not; the names of bits
 pub use Rattle.parts.proofs.Laws.Labels.{defaults, bits-listed}
 

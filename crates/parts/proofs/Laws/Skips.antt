@@ -137,7 +137,7 @@ module _ (d : ℕ) (t : List ℕ) (g : Good (typeOf (suc d) t)) where
       (r .0, r .1 ∙ ap endOf (sym e))
 
 module _ (s : List ℕ) (at : ℕ) (h : TypeHere 32 s at) (l : at ≤ length s) where
-  node-inner : Good (many typeAt (innerTypes (labelIn s at .tag)) s (labelEnd s at)) × (endOf (many typeAt (innerTypes (labelIn s at .tag)) s (labelEnd s at)) ≡ typeEnd s at)
+  pub node-inner : Good (many typeAt (innerTypes (labelIn s at .tag)) s (labelEnd s at)) × (endOf (many typeAt (innerTypes (labelIn s at .tag)) s (labelEnd s at)) ≡ typeEnd s at)
   unfolding labelIn firstLabel labelEnd typeEnd typeAt
   node-inner =
       let r = inner-part 31 (drop at s) (h .good) in

@@ -9,7 +9,7 @@ use borrow.Author.Tests.{eqb-true, eq-eqb, ne-eqb, lt-ltb, le-ltb, le-leb, lt-le
 use lib.Dec.{eqb, ltb, leb}
 use Rattle.image.specs.Schema.{Name, Label, label}
 use Rattle.parts.specs.Promise.{LabelHere, labelIn, Defaults, bitsIn, declIn, Resolved}
-use Rattle.parts.proofs.Promise.{defaults, bits-here, bits-names, resolved-body, resolved-none}
+use Rattle.parts.proofs.Promise.{defaults, bits-listed, resolved-body, resolved-none}
 use Rattle.parts.specs.declared.Entry.{Entry}
 use Rattle.parts.specs.declared.Run.{Run}
 use Rattle.rules.specs.Equal.{sameList, sameName, sameNames}
@@ -161,7 +161,7 @@ module _ (s : List ℕ) (i : ℕ) (t : List ℕ) (j : ℕ) {x y : ℕ} (p : x �
         unfolding namesIn
         by-names l k m c =
             c
-            ∙ rw (k, m, ← bits-names s i g (sym p ∙ l), ← bits-names t j h (sym q ∙ sym e ∙ l)) (sym (as-they-are ∙ names-only _ _ (defaults s i g) (defaults t j h) tags (sym p ∙ l)))
+            ∙ rw (k, m, ← (bits-listed s i g (sym p ∙ l) .are), ← (bits-listed t j h (sym q ∙ sym e ∙ l) .are)) (sym (as-they-are ∙ names-only _ _ (defaults s i g) (defaults t j h) tags (sym p ∙ l)))
 
         pub by-tag : 3 < x → (x ≡ 6 → ⊥) → (x ≡ 16 → ⊥) → ltb x 10 ≡ equalLabel (nodeIn s i) (nodeIn t j)
         by-tag l m k = rw p (sym (as-they-are ∙ tag-only _ _ (defaults s i g) (defaults t j h) tags (omega arith) (λ z. m (p ∙ z)) (λ z. k (p ∙ z))))
@@ -169,4 +169,4 @@ module _ (s : List ℕ) (i : ℕ) (t : List ℕ) (j : ℕ) {x y : ℕ} (p : x �
 -- the names of bits stand in their run
 pub bits-in : (s : List ℕ) (at : ℕ) → LabelHere s at → labelIn s at .tag ≡ 16 → {r : Run} → r ≡ bitsIn s at → NamesIn s r
 unfolding NamesIn
-bits-in s at g t e = rw e (λ _. bits-here s at g t)
+bits-in s at g t e = rw e (λ _. bits-listed s at g t .here)

@@ -11,12 +11,11 @@ use lib.ListN.{length}
 use Rattle.image.specs.Schema.{Name}
 use Rattle.image.specs.Words.{bytes}
 use Rattle.parts.specs.Promise.{Accepted, schemaOf, LabelHere, labelIn, labelEnd, typeEnd, bitsIn, segmentsIn, encodingOf}
-use Rattle.parts.proofs.Promise.{defaults, bits-names, segments-here, segments-are}
+use Rattle.parts.proofs.Promise.{defaults, bits-listed, segments-listed}
 use Rattle.parts.specs.declared.Run.{Run}
 use Rattle.parts.specs.declared.Encoding.{Encoding}
 use Rattle.rules.specs.Types.{resolve}
-use Rattle.rules.specs.Text.{digits, decimal, joined, word, primitiveWord, semanticWord, showName, showLeaf, opening, showSize, showType, deltasAround, showEncoding}
-use Rattle.text.specs.Decimal.{digits as textDigits, decimal as textDecimal}
+use Rattle.rules.specs.Text.{joined, word, primitiveWord, semanticWord, showName, showLeaf, opening, showSize, showType, deltasAround, showEncoding}
 use Rattle.text.specs.Text.{Space, Puts}
 use Rattle.text.specs.declared.Mode.{Mode}
 use Rattle.text.proofs.Writing.{in-nil}
@@ -41,17 +40,6 @@ module _ {m : Mode} {d : List ℕ} {at : ℕ} {xs ys : List ℕ} (e : xs ≡ ys)
 
 pub puts-nothing : {m : Mode} {d : List ℕ} {at : ℕ} → Puts m d at [] at d
 puts-nothing {m} {d} {at} = record { end = omega arith; bytes = sym (in-nil m d at) }
-
--- ---- numbers: the two definitions of a number in decimal agree
-
-digits-same : (d n : ℕ) → textDigits d n ≡ digits d n
-unfolding textDigits digits
-digits-same zero n = refl
-digits-same (suc d) n = rw (digits-same d (n / 10))
-
-decimal-same : (n : ℕ) → textDecimal n ≡ decimal n
-unfolding textDecimal decimal
-decimal-same n = digits-same 20 n
 
 -- ---- words
 
@@ -92,7 +80,7 @@ module _ (s : List ℕ) (t : ℕ) where
   pub leaf-sub-byte : labelIn s t .tag ≡ 1 → {x y : ℕ} → x ≡ labelIn s t .first → y ≡ labelIn s t .second
       → showLeaf (nodeIn s t) ≡ together (wordIn (bytes "u i ") x ∷ textDecimal y ∷ [])
   unfolding showLeaf together
-  leaf-sub-byte e p q = rw (unnamed (λ z. absurd (omega arith)), e, p, q, sign-words (labelIn s t .first), decimal-same (labelIn s t .second))
+  leaf-sub-byte e p q = rw (unnamed (λ z. absurd (omega arith)), e, p, q, sign-words (labelIn s t .first))
 
   pub leaf-semantic : labelIn s t .tag ≡ 2 → {x : ℕ} → x ≡ labelIn s t .first → showLeaf (nodeIn s t) ≡ wordIn (bytes "string bytes rgb uuid timestamp hash ") x
   unfolding showLeaf
@@ -114,7 +102,7 @@ module _ (s : List ℕ) (t : ℕ) where
 
   pub size-some : labelIn s t .tag ≡ 6 → {x : ℕ} → x ≡ labelIn s t .first → showSize (nodeIn s t) ≡ together (bytes ", " ∷ textDecimal x ∷ [])
   unfolding showSize together
-  size-some e q = rw (unnamed (λ z. absurd (omega arith)), e, q, decimal-same (labelIn s t .first))
+  size-some e q = rw (unnamed (λ z. absurd (omega arith)), e, q)
 
 -- the names of a node
 module _ (s : List ℕ) (t : ℕ) (g : LabelHere s t) {x : ℕ} (e : x ≡ labelIn s t .tag) where
@@ -124,7 +112,7 @@ module _ (s : List ℕ) (t : ℕ) (g : LabelHere s t) {x : ℕ} (e : x ≡ label
 
   pub bits-label-names : x ≡ 16 → {r : Run} → r ≡ bitsIn s t → LabelNames s t r
   unfolding namesIn
-  bits-label-names q k = record { here = bits-in s t g (sym e ∙ q) k; are = rw k (sym (bits-names s t g (sym e ∙ q))) }
+  bits-label-names q k = record { here = bits-in s t g (sym e ∙ q) k; are = rw k (sym (bits-listed s t g (sym e ∙ q) .are)) }
 
 -- ---- a node with inner types: what stands after the first of them
 
@@ -188,8 +176,8 @@ repeated-more (suc n) xs l = rw sub-one
 module _ (s : List ℕ) (a : Accepted s) {r : Run} (e : r ≡ segmentsIn s) where
   pub segments-in : NamesIn s r
   unfolding NamesIn
-  segments-in = rw e (λ _. segments-here s a)
+  segments-in = rw e (λ _. segments-listed s a .here)
 
   pub segment-names : schemaOf s .namespace ≡ namesIn s r
   unfolding namesIn
-  segment-names = rw e (segments-are s a)
+  segment-names = rw e (segments-listed s a .are)
