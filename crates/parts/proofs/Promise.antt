@@ -26,12 +26,13 @@ pub use Rattle.parts.proofs.Laws.Items.{items-first, items-rest, items-
 -- a declaration: the items of a message, an enum, flags, a union, and that they are its fields or its variants; a newtype's type
 pub use Rattle.parts.proofs.Laws.Decls.{message-listed, enum-listed, flags-listed, union-listed, inner-here, inner-tree}
 -- an item: what holds of a bare one holds of its start; the values of a field and of a union's variant
+pub use Rattle.parts.proofs.Laws.Fields.{field-coded}
 pub use Rattle.parts.proofs.Laws.Items.{item-bare, field-ordinal, field-name, field-type-here, field-type, variant-ordinal, variant-name, variant-listed}
 -- a type: at most 32 nodes on a path may be said of any; it has a label; a node by how many inner types its tag has
 pub use Rattle.parts.proofs.Laws.Trees.{type-whole, type-some, type-label, type-first, type-second, node-leaf, node-one, node-two}
 pub use Rattle.parts.proofs.Laws.Ends.{end-leaf, end-one, end-two}
--- a label: what its tag has not; the names of bits
-pub use Rattle.parts.proofs.Laws.Labels.{defaults, bits-listed}
+-- a label: what its tag allows; the names of bits
+pub use Rattle.parts.proofs.Laws.Labels.{label-regular, bits-listed}
 
 -- what `read_image` accepted
 pub accepted : (s : List ℕ) {r : Acceptance} → Answers (readImage s) r → r ≡ Acceptance.Accepted → Accepted s

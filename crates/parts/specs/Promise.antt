@@ -83,9 +83,13 @@ LabelHere s at = Good (labelOf (drop at s))
 unfoldable pub labelIn : List ℕ → ℕ → Label
 labelIn s at = valueOr noLabel (labelOf (drop at s))
 
--- what its tag has not is 0 or empty
-pub record Defaults (l : Label) : Type 0 where
+-- what its tag has is within document 01's values, and what it has not is 0 or empty
+pub record Regular (l : Label) : Type 0 where
   pub most : l .tag ≤ 16
+  pub primitive : l .tag ≡ 0 → l .first ≤ 13
+  pub sign : l .tag ≡ 1 → l .first ≤ 1
+  pub bits : l .tag ≡ 1 → (1 ≤ l .second) × (l .second ≤ 64)
+  pub semantic : l .tag ≡ 2 → l .first ≤ 5
   pub first : 3 < l .tag → (l .tag ≡ 6 → ⊥) → l .first ≡ 0
   pub second : (l .tag ≡ 1 → ⊥) → l .second ≡ 0
   pub names : (l .tag ≡ 16 → ⊥) → l .names ≡ []

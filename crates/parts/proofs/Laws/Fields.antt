@@ -12,7 +12,7 @@ use Rattle.image.specs.Schema.{Encoding, Field}
 use Rattle.image.specs.Parse.{ok, bind, pick, littleEndian, codeAt, numberAt}
 use Rattle.image.specs.Fields.{plain, delta, encodingOf, encodingAt, limitAt}
 use Rattle.image.specs.WellFormed.{Good, valueOr, endOf}
-use Rattle.image.proofs.Laws.Sure.{Sure, sure-ok, sure-no, sure-bind, sure-pick, Byte, code-sure}
+use Rattle.image.proofs.Laws.Sure.{Sure, sure-ok, sure-no, sure-bind, sure-pick, Byte, Coded, code-sure}
 use Rattle.image.proofs.Laws.Good.{sure-good, good-first}
 use Rattle.parts.specs.Promise.{nameEnd, ItemHere, fieldIn, marksPlace, encodingPlace, encodingIn, limitPlace, typePlace}
 use Rattle.parts.specs.Promise.{codingOf}
@@ -23,36 +23,42 @@ use Rattle.parts.proofs.Laws.Steps.{then-is, code-is, number-is}
 use Rattle.parts.proofs.Laws.Items.{field-parts}
 
 -- an encoding is as many bytes 3 as it has deltas, and the base
-pub record Encoded (s : List ℕ) (at : ℕ) (e : Encoding) (n : ℕ) : Type 0 where
+pub record Encoded (left : ℕ) (s : List ℕ) (at : ℕ) (e : Encoding) (n : ℕ) : Type 0 where
   pub deltas : (k : ℕ) → k < e .deltas → getD s (at + k) 0 ≡ 3
   pub base : e .base ≡ getD s (at + e .deltas) 0
-  pub other : e .base ≡ 3 → ⊥
+  pub few : e .deltas ≤ left
+  pub low : e .base ≤ 2
   pub next : n ≡ at + e .deltas + 1
   pub inside : n ≤ length s
 
 module _ (s : List ℕ) where
-  base-only : (at b n : ℕ) → Byte s at b n → (b ≡ 3 → ⊥) → Encoded s at (plain b) n
+  base-only : (left at b n : ℕ) → Coded 0 3 s at b n → (b ≡ 3 → ⊥) → Encoded left s at (plain b) n
   unfolding plain
-  base-only at b n q f =
+  base-only left at b n k f =
       let z : at ≡ at + 0 = omega arith in
+      let q = k .byte in
       let e = q .next in
+      let h = k .high in
       record {
         deltas = λ k l. absurd (omega arith);
         base = q .value ∙ ap (λ (i : ℕ). getD s i 0) z;
-        other = f;
+        few = omega arith;
+        low = omega arith;
         next = omega arith;
         inside = q .inside;
       }
 
-  one-more : (at b n m : ℕ) (e : Encoding) → Byte s at b n → b ≡ 3 → Encoded s n e m → Encoded s at (delta e) m
+  one-more : (left at b n m : ℕ) (e : Encoding) → Byte s at b n → b ≡ 3 → Encoded left s n e m → Encoded (suc left) s at (delta e) m
   unfolding delta
-  one-more at b n m e q t r =
+  one-more left at b n m e q t r =
+      let w = r .few in
       let z : n + e .deltas ≡ at + suc (e .deltas) = (let x = q .next in omega arith) in
       let y = r .next in
       record {
         deltas = λ k l. before k l;
         base = r .base ∙ ap (λ (i : ℕ). getD s i 0) z;
-        other = r .other;
+        few = omega arith;
+        low = r .low;
         next = omega arith;
         inside = r .inside;
       }
@@ -61,18 +67,18 @@ module _ (s : List ℕ) where
       before zero l = let z : at + 0 ≡ at = omega arith in ap (λ (i : ℕ). getD s i 0) z ∙ sym (q .value) ∙ t
       before (suc k) l = let z : at + suc k ≡ n + k = (let x = q .next in omega arith) in ap (λ (i : ℕ). getD s i 0) z ∙ r .deltas k (omega arith)
 
-  encoding-of-sure : (left at : ℕ) → Sure (Encoded s at) (encodingOf left s at)
+  encoding-of-sure : (left at : ℕ) → Sure (Encoded left s at) (encodingOf left s at)
   unfolding encodingOf
   encoding-of-sure zero at =
       sure-bind _ (code-sure 0 3 s at) (λ b n q.
-      sure-pick _ (λ h. sure-no) (λ h. sure-ok (base-only at b n (q .byte) (eqb-false b 3 h))))
+      sure-pick _ (λ h. sure-no) (λ h. sure-ok (base-only _ at b n q (eqb-false b 3 h))))
   encoding-of-sure (suc left) at =
       sure-bind _ (code-sure 0 3 s at) (λ b n q.
       sure-pick _
-      (λ h. sure-bind _ (encoding-of-sure left n) (λ e m r. sure-ok (one-more at b n m e (q .byte) (eqb-true b 3 h) r)))
-      (λ h. sure-ok (base-only at b n (q .byte) (eqb-false b 3 h))))
+      (λ h. sure-bind _ (encoding-of-sure left n) (λ e m r. sure-ok (one-more left at b n m e (q .byte) (eqb-true b 3 h) r)))
+      (λ h. sure-ok (base-only _ at b n q (eqb-false b 3 h))))
 
-  encoding-stands : (at : ℕ) → Good (encodingAt s at) → Encoded s at (encodingIn s at) (endOf (encodingAt s at))
+  encoding-stands : (at : ℕ) → Good (encodingAt s at) → Encoded 8 s at (encodingIn s at) (endOf (encodingAt s at))
   unfolding encodingIn encodingAt
   encoding-stands at g = sure-good (plain 0) (encoding-of-sure 8 at) g
 
@@ -80,7 +86,7 @@ module _ (s : List ℕ) where
 module _ (s : List ℕ) (at : ℕ) (g : Good (limitAt s at)) where
   first : (codeAt 0 1 s at ≡ ok (getD s at 0) (at + 1)) × (at < length s)
   unfolding limitAt
-  first = code-is s at 0 1 (good-first 0 (codeAt 0 1 s at) _ g)
+  first = let h = code-is s at 0 1 (good-first 0 (codeAt 0 1 s at) _ g) in (h .0, h .1)
 
   limit-there : at < length s
   limit-there = first .1
@@ -110,7 +116,8 @@ module _ (s : List ℕ) (at : ℕ) (g : Good (encodingAt s at)) (n : ℕ) (l : n
   pub delta-more : getD s (at + n) 0 ≡ 3 → n < encodingIn s at .deltas
   delta-more e =
       let h = encoding-stands s at g in
-      let f : n ≡ encodingIn s at .deltas → ⊥ = λ q. h .other (h .base ∙ ap (λ (k : ℕ). getD s (at + k) 0) (sym q) ∙ e) in
+      let low = h .low in
+      let f : n ≡ encodingIn s at .deltas → ⊥ = λ q. (let b : encodingIn s at .base ≡ 3 = h .base ∙ ap (λ (k : ℕ). getD s (at + k) 0) (sym q) ∙ e in omega arith) in
       omega arith
 
   pub delta-done : (getD s (at + n) 0 ≡ 3 → ⊥) → n ≡ encodingIn s at .deltas
@@ -173,6 +180,15 @@ module _ (s : List ℕ) (at : ℕ) (g : ItemHere shape.Field s at) where
         go true true p r h = no-more (eqb-true (getD s (e + 1) 0) 0 p) (eqb-true (getD s (e + 1 + 1) 0) 0 r)
         go true false p r h = absurd (false≢true h)
         go false y p r h = absurd (false≢true h)
+
+  -- at most 8 deltas around a base of 0 to 2
+  pub field-coded : (fieldIn s at .encoding .deltas ≤ 8) × (fieldIn s at .encoding .base ≤ 2)
+  unfolding encodingIn
+  field-coded =
+      let p = field-parts s at g in
+      let h = encoding-stands s (encodingPlace s at) (p .encoding) in
+      let e = ap (λ (f : Field). f .encoding) (p .value) in
+      rw e (h .few, h .low)
 
   limit-good : Good (limitAt s (limitPlace s at))
   limit-good = field-parts s at g .limit

@@ -17,7 +17,7 @@ use Rattle.image.specs.WellFormed.{labelIn as firstLabel}
 use Rattle.image.proofs.Laws.Good.{good-first}
 use Rattle.image.proofs.Laws.Trees.{label-tag}
 use Rattle.image.proofs.Laws.Types.{follows-nothing}
-use Rattle.parts.specs.Promise.{noLabel, NamesHere, NamesListed, namesEnd, nameEnd, nameIn, namePlaces, LabelHere, labelIn, labelEnd, bitsIn, Defaults}
+use Rattle.parts.specs.Promise.{noLabel, NamesHere, NamesListed, namesEnd, nameEnd, nameIn, namePlaces, LabelHere, labelIn, labelEnd, bitsIn, Regular}
 use Rattle.parts.proofs.Laws.Kept.{Kept, kept-good, kept-value, kept-end, part-from, byte-kept, after-kept, kept-bind}
 use Rattle.parts.proofs.Laws.Steps.{good-is, then-is, then-good, byte-is, code-is, number-is}
 use Rattle.parts.proofs.Laws.Places.{many-places}
@@ -52,8 +52,10 @@ tagged tag =
 
 -- what stands after a tag, at n: the label, its end, and that its bytes are there
 abbrev After : Follows → ℕ → List ℕ → ℕ → Type 0
-After (code most) tag s n = (afterTag tag (code most) s n ≡ ok (label tag (getD s n 0) 0 []) (n + 1)) × (n < length s)
-After subByte tag s n = (afterTag tag subByte s n ≡ ok (label tag (getD s n 0) (getD s (n + 1) 0) []) (n + 1 + 1)) × (n + 1 < length s)
+After (code most) tag s n = (afterTag tag (code most) s n ≡ ok (label tag (getD s n 0) 0 []) (n + 1)) × (n < length s) × (getD s n 0 ≤ most)
+After subByte tag s n =
+    (afterTag tag subByte s n ≡ ok (label tag (getD s n 0) (getD s (n + 1) 0) []) (n + 1 + 1))
+    × (n + 1 < length s) × (getD s n 0 ≤ 1) × ((1 ≤ getD s (n + 1) 0) × (getD s (n + 1) 0 ≤ 64))
 After identity tag s n = (afterTag tag identity s n ≡ ok (label tag (littleEndian 4 (drop n s)) 0 []) (n + 4)) × (n + 4 ≤ length s)
 After size tag s n = (afterTag tag size s n ≡ ok (label tag (littleEndian 8 (drop n s)) 0 []) (n + 8)) × (n + 8 ≤ length s)
 After nothing tag s n = (afterTag tag nothing s n ≡ ok (label tag 0 0 []) n) × Unit {0}
@@ -66,11 +68,11 @@ after : (f : Follows) (tag : ℕ) (s : List ℕ) (n : ℕ) → Good (afterTag ta
 unfolding afterTag Good
 after (code most) tag s n g =
     let h = code-is s n 0 most (good-first 0 (codeAt 0 most s n) _ g) in
-    (then-is _ (h .0), h .1)
+    (then-is _ (h .0), h .1, h .3)
 after subByte tag s n g =
     let h = code-is s n 0 1 (good-first 0 (codeAt 0 1 s n) _ g) in
     let k = code-is s (n + 1) 1 64 (good-first 0 (codeAt 1 64 s (n + 1)) _ (then-good _ (h .0) g)) in
-    (then-is _ (h .0) ∙ then-is _ (k .0), k .1)
+    (then-is _ (h .0) ∙ then-is _ (k .0), k .1, h .3, (k .2, k .3))
 after identity tag s n g =
     let h = number-is s n 4 (good-first 0 (numberAt 4 s n) _ g) in
     (then-is _ (h .0), h .1)
@@ -134,29 +136,64 @@ module _ (s : List ℕ) (at : ℕ) (g : LabelHere s at) where
       let r = tag-at ∙ ap (λ (k : Follows). afterTag (getD s at 0) k s (at + 1)) e ∙ q in
       (label-value ∙ ap (valueOr noLabel) r, label-end ∙ ap endOf r)
 
--- what a tag has not is 0 or empty
-only-first : (t first : ℕ) → t ≤ 16 → (3 < t → (t ≡ 6 → ⊥) → first ≡ 0) → Defaults (label t first 0 [])
-only-first t first l f = record { most = l; first = f; second = λ _. refl; names = λ _. refl }
+-- what a tag has is within its values, and what it has not is 0 or empty
+only-first : (t first : ℕ) → t ≤ 16 → (t ≡ 1 → ⊥) → (t ≡ 0 → first ≤ 13) → (t ≡ 2 → first ≤ 5) → (3 < t → (t ≡ 6 → ⊥) → first ≡ 0) → Regular (label t first 0 [])
+only-first t first l u p q f = record {
+  most = l;
+  primitive = p;
+  sign = λ z. absurd (u z);
+  bits = λ z. absurd (u z);
+  semantic = q;
+  first = f;
+  second = λ _. refl;
+  names = λ _. refl;
+}
 
-pub defaults : (s : List ℕ) (at : ℕ) → LabelHere s at → Defaults (labelIn s at)
-defaults s at g = go (tagged (getD s at 0)) refl refl
+pub label-regular : (s : List ℕ) (at : ℕ) → LabelHere s at → Regular (labelIn s at)
+label-regular s at g = go (tagged (getD s at 0)) refl refl
   where
     tag : ℕ
     tag = getD s at 0
 
-    by : (f : Follows) {l : Label} {n : ℕ} → followsTag tag ≡ f → afterTag tag f s (at + 1) ≡ ok l n → Defaults l → Defaults (labelIn s at)
+    by : (f : Follows) {l : Label} {n : ℕ} → followsTag tag ≡ f → afterTag tag f s (at + 1) ≡ ok l n → Regular l → Regular (labelIn s at)
     by f {l} {n} q e d = rw (label-is s at g f q l n e .0) d
 
-    go : {t : ℕ} {f : Follows} → Tagged t f → tag ≡ t → followsTag tag ≡ f → Defaults (labelIn s at)
-    go primitive z q = by (code 13) q (label-after s at g (code 13) q .0) (only-first tag _ (omega arith) (λ a b. absurd (omega arith)))
-    go semantic z q = by (code 5) q (label-after s at g (code 5) q .0) (only-first tag _ (omega arith) (λ a b. absurd (omega arith)))
-    go named z q = by identity q (label-after s at g identity q .0) (only-first tag _ (omega arith) (λ a b. absurd (omega arith)))
-    go fixed z q = by size q (label-after s at g size q .0) (only-first tag _ (omega arith) (λ a b. absurd (b z)))
-    go (bare n₀ n₁ n₂ n₃ n₆ l) z q = by nothing q (label-after s at g nothing q .0) (only-first tag _ (omega arith) (λ a b. refl))
+    -- of a tag that has nothing but a first number, or nothing
+    other : (first : ℕ) → 2 < tag → tag ≤ 15 → (3 < tag → (tag ≡ 6 → ⊥) → first ≡ 0) → Regular (label tag first 0 [])
+    other first l m f = only-first tag first (omega arith) (λ z. omega arith) (λ z. absurd (omega arith)) (λ z. absurd (omega arith)) f
+
+    go : {t : ℕ} {f : Follows} → Tagged t f → tag ≡ t → followsTag tag ≡ f → Regular (labelIn s at)
+    go primitive z q =
+        let p = label-after s at g (code 13) q in
+        by (code 13) q (p .0) (only-first tag _ (omega arith) (λ y. omega arith) (λ _. p .2) (λ y. absurd (omega arith)) (λ a b. absurd (omega arith)))
+    go semantic z q =
+        let p = label-after s at g (code 5) q in
+        by (code 5) q (p .0) (only-first tag _ (omega arith) (λ y. omega arith) (λ y. absurd (omega arith)) (λ _. p .2) (λ a b. absurd (omega arith)))
+    go named z q = by identity q (label-after s at g identity q .0) (other _ (omega arith) (omega arith) (λ a b. absurd (omega arith)))
+    go fixed z q = by size q (label-after s at g size q .0) (other _ (omega arith) (omega arith) (λ a b. absurd (b z)))
+    go (bare n₀ n₁ n₂ n₃ n₆ l) z q = by nothing q (label-after s at g nothing q .0) (other 0 (omega arith) (omega arith) (λ a b. refl))
     go sub-byte z q =
-        by subByte q (label-after s at g subByte q .0) (record { most = omega arith; first = λ a b. absurd (omega arith); second = λ b. absurd (b z); names = λ _. refl })
-    go of-bits z q =
-        by bits q (label-after s at g bits q .0) (record { most = omega arith; first = λ a b. refl; second = λ _. refl; names = λ b. absurd (b z) })
+        let p = label-after s at g subByte q in
+        by subByte q (p .0) (record {
+          most = omega arith;
+          primitive = λ y. absurd (omega arith);
+          sign = λ _. p .2;
+          bits = λ _. p .3;
+          semantic = λ y. absurd (omega arith);
+          first = λ a b. absurd (omega arith);
+          second = λ b. absurd (b z);
+          names = λ _. refl;
+        })
+    go of-bits z q = by bits q (label-after s at g bits q .0) (record {
+      most = omega arith;
+      primitive = λ y. absurd (omega arith);
+      sign = λ y. absurd (omega arith);
+      bits = λ y. absurd (omega arith);
+      semantic = λ y. absurd (omega arith);
+      first = λ a b. refl;
+      second = λ _. refl;
+      names = λ b. absurd (b z);
+    })
     go none z q = absurd (label-after s at g unknown q)
 
 -- the parts of a label by its tag
@@ -245,7 +282,7 @@ module _ (s : List ℕ) (at : ℕ) (g : LabelHere s at) where
 
   pub ended-bare : (getD s at 0 ≡ 0 → ⊥) → (getD s at 0 ≡ 1 → ⊥) → (getD s at 0 ≡ 2 → ⊥) → (getD s at 0 ≡ 3 → ⊥) → (getD s at 0 ≡ 6 → ⊥) → (getD s at 0 ≡ 16 → ⊥) → Ended nothing s at
   ended-bare a b c d e f =
-      let m = defaults s at g .most in
+      let m = label-regular s at g .most in
       let t = label-tag-is s at g in
       let z : getD s at 0 < 16 = omega arith in
       by-follows nothing (follows-nothing (getD s at 0) a b c d e f (omega arith))

@@ -49,10 +49,11 @@ module _ (s : List ℕ) (at : ℕ) where
       let h = sure-good 0 (byte-sure short s at) g in
       (good-is 0 _ g ∙ ap₂ ok (h .value) (h .next), (let i = h .inside in let j = h .next in omega arith))
 
-  pub code-is : (lo hi : ℕ) → Good (codeAt lo hi s at) → (codeAt lo hi s at ≡ ok (getD s at 0) (at + 1)) × (at < length s)
+  pub code-is : (lo hi : ℕ) → Good (codeAt lo hi s at) → (codeAt lo hi s at ≡ ok (getD s at 0) (at + 1)) × (at < length s) × (lo ≤ getD s at 0) × (getD s at 0 ≤ hi)
   code-is lo hi g =
-      let h = sure-good 0 (code-sure lo hi s at) g .byte in
-      (good-is 0 _ g ∙ ap₂ ok (h .value) (h .next), (let i = h .inside in let j = h .next in omega arith))
+      let k = sure-good 0 (code-sure lo hi s at) g in
+      let h = k .byte in
+      (good-is 0 _ g ∙ ap₂ ok (h .value) (h .next), (let i = h .inside in let j = h .next in omega arith), rw (h .value) at (k .low), rw (h .value) at (k .high))
 
   pub number-is : (w : ℕ) → Good (numberAt w s at) → (numberAt w s at ≡ ok (littleEndian w (drop at s)) (at + w)) × (at + w ≤ length s)
   number-is w g =
