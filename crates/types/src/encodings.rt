@@ -4,7 +4,7 @@ use parts::Encoding;
 use text::Mode;
 use text::put_text;
 ghost use lib.ListN.{length};
-ghost use Rattle.parts.specs.Promise.{encodingOf};
+ghost use Rattle.parts.specs.Promise.{codingOf};
 ghost use Rattle.rules.specs.Text.{showEncoding};
 ghost use Rattle.text.specs.Text.{Space, Puts};
 ghost use Rattle.types.specs.Display.{repeated};
@@ -23,8 +23,8 @@ fn put_times(mode: Mode, out: &mut [u8], at: usize, s: &[u8], times: usize) -> u
 }
 
 pub fn encoding_display(mode: Mode, out: &mut [u8], at: usize, e: Encoding) -> usize
-    requires { ⌜ Space mode (now out) at (length (showEncoding (encodingOf e))) ⌝ }
-    ensures { λ r. ⌜ Puts mode (now (out .entry)) at (showEncoding (encodingOf e)) r (now (out .exit)) ⌝ }
+    requires { ⌜ Space mode (now out) at (length (showEncoding (codingOf e))) ⌝ }
+    ensures { λ r. ⌜ Puts mode (now (out .entry)) at (showEncoding (codingOf e)) r (now (out .exit)) ⌝ }
 {
     let opened = put_times(mode, out, at, b"delta(", e.deltas);
     let based = put_word(mode, out, opened, b"default varint zigzag ", e.base);

@@ -8,8 +8,8 @@ use native.Mathlib.Omega.{arith}
 use borrow.Author.Tests.{eqb-true, eq-eqb, ne-eqb, lt-ltb, le-ltb, le-leb, lt-leb, leb-true, leb-false}
 use lib.Dec.{eqb, ltb, leb}
 use Rattle.image.specs.Schema.{Name, Label, label}
-use Rattle.parts.specs.Promise.{LabelHere, labelIn, Defaults, bitsIn, declIn, Resolved}
-use Rattle.parts.proofs.Promise.{defaults, bits-listed, resolved-body, resolved-none}
+use Rattle.parts.specs.Promise.{LabelHere, labelIn, Regular, bitsIn, declIn, Resolved}
+use Rattle.parts.proofs.Promise.{label-regular, bits-listed, resolved-body, resolved-none}
 use Rattle.parts.specs.declared.Entry.{Entry}
 use Rattle.parts.specs.declared.Run.{Run}
 use Rattle.rules.specs.Equal.{sameList, sameName, sameNames}
@@ -91,7 +91,7 @@ equal-tags R S l m e =
     sym (same-tag R l) ∙ eqb-true _ _ q ∙ same-tag S m
 
 -- of one tag, by what it has: what it has not is 0 or empty in both
-module _ (l m : Label) (D : Defaults l) (E : Defaults m) (t : l .tag ≡ m .tag) where
+module _ (l m : Label) (D : Regular l) (E : Regular m) (t : l .tag ≡ m .tag) where
   first-only : l .tag < 10 → (l .tag ≡ 1 → ⊥) → equalLabel l m ≡ eqb (l .first) (m .first)
   unfolding sameNames sameList
   first-only h n =
@@ -152,19 +152,19 @@ module _ (s : List ℕ) (i : ℕ) (t : List ℕ) (j : ℕ) {x y : ℕ} (p : x �
         as-they-are = rw (not-named _ (labelIn s i) (λ z. n (p ∙ z)), not-named _ (labelIn t j) (λ z. n (e ∙ q ∙ z)))
 
         pub by-first : x < 10 → (x ≡ 1 → ⊥) → {u v : ℕ} → u ≡ labelIn s i .first → v ≡ labelIn t j .first → eqb u v ≡ equalLabel (nodeIn s i) (nodeIn t j)
-        by-first l m k f = rw (k, f) (sym (as-they-are ∙ first-only _ _ (defaults s i g) (defaults t j h) tags (omega arith) (λ z. m (p ∙ z))))
+        by-first l m k f = rw (k, f) (sym (as-they-are ∙ first-only _ _ (label-regular s i g) (label-regular t j h) tags (omega arith) (λ z. m (p ∙ z))))
 
         pub by-numbers : x ≡ 1 → {r : Bool} → r ≡ (eqb (labelIn s i .first) (labelIn t j .first) && eqb (labelIn s i .second) (labelIn t j .second)) → r ≡ equalLabel (nodeIn s i) (nodeIn t j)
-        by-numbers l c = c ∙ sym (as-they-are ∙ both-numbers _ _ (defaults s i g) (defaults t j h) tags (sym p ∙ l))
+        by-numbers l c = c ∙ sym (as-they-are ∙ both-numbers _ _ (label-regular s i g) (label-regular t j h) tags (sym p ∙ l))
 
         pub by-names : x ≡ 16 → {a b : Run} → a ≡ bitsIn s i → b ≡ bitsIn t j → {r : Bool} → r ≡ sameNames (namesIn s a) (namesIn t b) → r ≡ equalLabel (nodeIn s i) (nodeIn t j)
         unfolding namesIn
         by-names l k m c =
             c
-            ∙ rw (k, m, ← (bits-listed s i g (sym p ∙ l) .are), ← (bits-listed t j h (sym q ∙ sym e ∙ l) .are)) (sym (as-they-are ∙ names-only _ _ (defaults s i g) (defaults t j h) tags (sym p ∙ l)))
+            ∙ rw (k, m, ← (bits-listed s i g (sym p ∙ l) .are), ← (bits-listed t j h (sym q ∙ sym e ∙ l) .are)) (sym (as-they-are ∙ names-only _ _ (label-regular s i g) (label-regular t j h) tags (sym p ∙ l)))
 
         pub by-tag : 3 < x → (x ≡ 6 → ⊥) → (x ≡ 16 → ⊥) → ltb x 10 ≡ equalLabel (nodeIn s i) (nodeIn t j)
-        by-tag l m k = rw p (sym (as-they-are ∙ tag-only _ _ (defaults s i g) (defaults t j h) tags (omega arith) (λ z. m (p ∙ z)) (λ z. k (p ∙ z))))
+        by-tag l m k = rw p (sym (as-they-are ∙ tag-only _ _ (label-regular s i g) (label-regular t j h) tags (omega arith) (λ z. m (p ∙ z)) (λ z. k (p ∙ z))))
 
 -- the names of bits stand in their run
 pub bits-in : (s : List ℕ) (at : ℕ) → LabelHere s at → labelIn s at .tag ≡ 16 → {r : Run} → r ≡ bitsIn s at → NamesIn s r

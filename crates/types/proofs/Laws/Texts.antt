@@ -10,11 +10,12 @@ use lib.Dec.{eqb}
 use lib.ListN.{length}
 use Rattle.image.specs.Schema.{Name}
 use Rattle.image.specs.Words.{bytes}
-use Rattle.parts.specs.Promise.{Accepted, schemaOf, LabelHere, labelIn, labelEnd, typeEnd, bitsIn, segmentsIn, encodingOf}
-use Rattle.parts.proofs.Promise.{defaults, bits-listed, segments-listed}
+use Rattle.parts.specs.Promise.{Accepted, schemaOf, LabelHere, labelIn, labelEnd, typeEnd, bitsIn, segmentsIn, codingOf}
+use Rattle.parts.proofs.Promise.{label-regular, bits-listed, segments-listed}
 use Rattle.parts.specs.declared.Run.{Run}
 use Rattle.parts.specs.declared.Encoding.{Encoding}
 use Rattle.rules.specs.Types.{resolve}
+use Rattle.text.specs.Decimal.{decimal}
 use Rattle.rules.specs.Text.{joined, word, primitiveWord, semanticWord, showName, showLeaf, opening, showSize, showType, deltasAround, showEncoding}
 use Rattle.text.specs.Text.{Space, Puts}
 use Rattle.text.specs.declared.Mode.{Mode}
@@ -78,7 +79,7 @@ module _ (s : List ℕ) (t : ℕ) where
   leaf-primitive e q = rw (unnamed (λ z. absurd (omega arith)), e, q) (sym (primitive-words (labelIn s t .first)))
 
   pub leaf-sub-byte : labelIn s t .tag ≡ 1 → {x y : ℕ} → x ≡ labelIn s t .first → y ≡ labelIn s t .second
-      → showLeaf (nodeIn s t) ≡ together (wordIn (bytes "u i ") x ∷ textDecimal y ∷ [])
+      → showLeaf (nodeIn s t) ≡ together (wordIn (bytes "u i ") x ∷ decimal y ∷ [])
   unfolding showLeaf together
   leaf-sub-byte e p q = rw (unnamed (λ z. absurd (omega arith)), e, p, q, sign-words (labelIn s t .first))
 
@@ -100,7 +101,7 @@ module _ (s : List ℕ) (t : ℕ) where
   unfolding showSize
   size-none n = rw (same-tag _ (labelIn s t), ne-eqb (labelIn s t .tag) 6 n)
 
-  pub size-some : labelIn s t .tag ≡ 6 → {x : ℕ} → x ≡ labelIn s t .first → showSize (nodeIn s t) ≡ together (bytes ", " ∷ textDecimal x ∷ [])
+  pub size-some : labelIn s t .tag ≡ 6 → {x : ℕ} → x ≡ labelIn s t .first → showSize (nodeIn s t) ≡ together (bytes ", " ∷ decimal x ∷ [])
   unfolding showSize together
   size-some e q = rw (unnamed (λ z. absurd (omega arith)), e, q)
 
@@ -108,7 +109,7 @@ module _ (s : List ℕ) (t : ℕ) where
 module _ (s : List ℕ) (t : ℕ) (g : LabelHere s t) {x : ℕ} (e : x ≡ labelIn s t .tag) where
   pub no-label-names : (x ≡ 16 → ⊥) → {at : ℕ} → LabelNames s t (run at 0)
   unfolding NamesIn
-  no-label-names n {at} = record { here = λ l. absurd (omega arith); are = names-none s at 0 refl ∙ sym (defaults s t g .names (λ z. n (e ∙ z))) }
+  no-label-names n {at} = record { here = λ l. absurd (omega arith); are = names-none s at 0 refl ∙ sym (label-regular s t g .names (λ z. n (e ∙ z))) }
 
   pub bits-label-names : x ≡ 16 → {r : Run} → r ≡ bitsIn s t → LabelNames s t r
   unfolding namesIn
@@ -158,8 +159,8 @@ deltas-around (suc n) text =
     ∙ ap (λ (l : List ℕ). d ++ l) (append-assoc (repeated n d) (text ++ repeated n c) c ∙ ap (λ (l : List ℕ). repeated n d ++ l) (append-assoc text (repeated n c) c ∙ ap (λ (l : List ℕ). text ++ l) (repeated-last n c)))
     ∙ sym (append-assoc d (repeated n d) (text ++ (c ++ repeated n c)))
 
-pub encoding-text : (e : Encoding) → showEncoding (encodingOf e) ≡ together (repeated (e .deltas) (bytes "delta(") ∷ wordIn (bytes "default varint zigzag ") (e .base) ∷ repeated (e .deltas) (bytes ")") ∷ [])
-unfolding showEncoding encodingOf together
+pub encoding-text : (e : Encoding) → showEncoding (codingOf e) ≡ together (repeated (e .deltas) (bytes "delta(") ∷ wordIn (bytes "default varint zigzag ") (e .base) ∷ repeated (e .deltas) (bytes ")") ∷ [])
+unfolding showEncoding codingOf together
 encoding-text e = rw (base-words (e .base)) (deltas-around (e .deltas) _)
 
 pub repeated-none : (n : ℕ) (xs : List ℕ) → n ≡ 0 → together (repeated n xs ∷ []) ≡ together []
