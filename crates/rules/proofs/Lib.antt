@@ -1,5 +1,5 @@
 -- Equal, Types: the tests are sound. Chain, Self, Swap: the three claims of the distance rule, of the clauses over any views and any sound
--- reading of types. Answer: the four cases of two images. Distance: the distance rule. TurnedBack: when each number is given.
+-- reading of types. Answer: the four cases of two images. Distance: the distance rule. Refusals: when each number is given.
 -- Ordinals: the counts that are always 0. Sizes, Texts, Weights, Held, Bound: how long a report can be.
 -- Edges, Pinned: what is computed from the definitions alone.
 pub mod Equal
@@ -9,7 +9,7 @@ pub mod Self
 pub mod Swap
 pub mod Answer
 pub mod Distance
-pub mod TurnedBack
+pub mod Refusals
 pub mod Ordinals
 pub mod Sizes
 pub mod Texts

@@ -21,7 +21,7 @@ use Rattle.rules.specs.Verdict.{countOf}
 use Rattle.rules.specs.Answer.{Outcome, checked, select, verdictOf}
 use Rattle.rules.specs.Distance.{counted}
 use Rattle.rules.proofs.Answer.{Case, old-refused, new-refused, pair-refused, verdict, case, count-selected}
-use Rattle.rules.proofs.TurnedBack.{refusal-is}
+use Rattle.rules.proofs.Refusals.{refusal-is}
 
 -- ---- what all reported changes have
 

@@ -1,6 +1,6 @@
 -- What is right, in the order of document 01: Survivors, Types, Text (how types are shown), Changes, Clauses (the eight clauses),
 -- Verdict, Report; Answer: both calls over byte lists. Equal: tests of equality.
--- Statements that are proved of them: TurnedBack (when each number is given), Distance (demand 3), Edges (document 01's edges), Pinned (what
+-- Statements that are proved of them: Refusals (when each number is given), Distance (demand 3), Edges (document 01's edges), Pinned (what
 -- the Rust answered).
 pub mod Equal
 pub mod Survivors
@@ -11,7 +11,7 @@ pub mod Clauses
 pub mod Verdict
 pub mod Report
 pub mod Answer
-pub mod TurnedBack
+pub mod Refusals
 pub mod Distance
 pub mod Edges
 pub mod Pinned

@@ -1,4 +1,4 @@
--- When two images get a verdict and when each refusal, exactly as specs/TurnedBack says. Assumes nothing.
+-- When two images get a verdict and when each refusal, exactly as specs/Refusals says. Assumes nothing.
 use mathlib.Core.Path.{_≡_, refl, sym, ap, _∙_}
 use mathlib.Core.Bool.{Bool, true, false, cond, _&&_, _||_}
 use mathlib.Core.Option.{Option, none, some}
@@ -24,7 +24,7 @@ use Rattle.rules.specs.Clauses.{changes}
 use Rattle.rules.specs.Verdict.{alias, isAlias, any, aliasPair}
 use Rattle.rules.specs.Report.{report}
 use Rattle.rules.specs.Answer.{bothSides, Outcome, refused, compared, comparePair, acceptNew, acceptOld, outcome, checked, selected, select, verdictOf, fit, reported, reportLength, written}
-use Rattle.rules.specs.TurnedBack.{Accepted, NewRefused, Alias, AliasPair, Refusal, TurnedBack, ReportTurnedBack}
+use Rattle.rules.specs.Refusals.{Accepted, NewRefused, Alias, AliasPair, Refusal, VerdictRefusals, ReportRefusals}
 use Rattle.rules.proofs.Equal.{both}
 use Rattle.rules.proofs.Answer.{Case, old-refused, new-refused, pair-refused, verdict, case}
 use Rattle.rules.proofs.Distance.{view-rises}
@@ -195,9 +195,9 @@ unfolding select selected
 not-verdict (refused number side) n = refusal-is number side
 not-verdict (compared cs) n = absurd (n refl)
 
-pub turned-back : (old new : List ℕ) → TurnedBack old new
+pub verdict-refusals : (old new : List ℕ) → VerdictRefusals old new
 unfolding verdictOf checked
-turned-back old new = record {
+verdict-refusals old new = record {
   verdict = (verdict-only old new (case viewOf sameType old new), verdict-given old new);
   aliasPair = (alias-only old new (case viewOf sameType old new), alias-given old new);
   oldRefused = λ k. (old-only old new k (case viewOf sameType old new), old-given old new k);
@@ -261,9 +261,9 @@ unfolding select selected written
 nothing-written (refused number side) n out = refl
 nothing-written (compared cs) n out = absurd (n refl)
 
-pub report-turned-back : (old new : List ℕ) (room : ℕ) → ReportTurnedBack old new room
+pub report-refusals : (old new : List ℕ) (room : ℕ) → ReportRefusals old new room
 unfolding verdictOf checked reported select selected
-report-turned-back old new room = record {
+report-refusals old new room = record {
   full = (λ z. full-only room old new (case viewOf sameType old new) z .1, full-given room old new (case viewOf sameType old new));
   bothSides = λ z. ap (λ o. select o 1) (full-only room old new (case viewOf sameType old new) z .0);
   fits = fit-else room (checked old new);

@@ -49,7 +49,7 @@ pub record Refusal (answer : ℕ → ℕ) : Type 0 where
   pub rest : (n : ℕ) → 4 ≤ n → answer n ≡ 0
 
 -- of the verdict call
-pub record TurnedBack (old new : List ℕ) : Type 0 where
+pub record VerdictRefusals (old new : List ℕ) : Type 0 where
   -- "Two images get one exactly if none of 1 to 11 applies to them": the number is 0
   pub verdict : (verdictOf old new 0 ≡ 0) ↔ Accepted old new (λ x y. AliasPair x y → ⊥)
   -- 11
@@ -63,7 +63,7 @@ pub record TurnedBack (old new : List ℕ) : Type 0 where
   pub refusal : (verdictOf old new 0 ≡ 0 → ⊥) → Refusal (verdictOf old new)
 
 -- of the report call, with a buffer of so many bytes
-pub record ReportTurnedBack (old new : List ℕ) (room : ℕ) : Type 0 where
+pub record ReportRefusals (old new : List ℕ) (room : ℕ) : Type 0 where
   -- 12: "report longer than its buffer"
   pub full : (select (reported old new room) 0 ≡ 12) ↔ ((verdictOf old new 0 ≡ 0) × (room < verdictOf old new 4))
   pub bothSides : select (reported old new room) 0 ≡ 12 → select (reported old new room) 1 ≡ 3
