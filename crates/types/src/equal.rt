@@ -33,10 +33,10 @@ fn named_equal(a: &[u8], old: u32, b: &[u8], new: u32) -> bool
     ensures { λ r. ⌜ r ≡ sameNames (namedBy (now (a .entry)) old) (namedBy (now (b .entry)) new) ⌝ }
 {
     let Entry::Body(i) = entry(a, old) else {
-        let Entry::Body(_) = entry(b, new) else {
-            return true;
+        let Entry::Unresolvable = entry(b, new) else {
+            return false;
         };
-        return false;
+        return true;
     };
     let Entry::Body(j) = entry(b, new) else {
         return false;

@@ -26,10 +26,10 @@ enum-told-3 : tie.Need-enum-told-3
 enum-told-3 c = search needs
 
 returns : tie.Need-returns
-returns c = no-names (id-unresolvable _ _ (c .before .before .before .before .before .entry .ensures) (c .before .before .before .enum-told .given .1)) (id-unresolvable _ _ (c .before .before .entry2 .ensures) (c .enum-told3 .given .1))
+returns c = new-name (id-unresolvable _ _ (c .before .before .before .before .before .entry .ensures) (c .before .before .before .enum-told .given .1)) (id-name _ _ (c .before .before .entry2 .ensures) (c .enum-told3 .given .1) refl)
 
 returns-2 : tie.Need-returns-2
-returns-2 c = new-name (id-unresolvable _ _ (c .before .before .before .before .before .entry .ensures) (c .before .before .before .enum-told .given .1)) (id-name _ _ (c .before .before .entry2 .ensures) (c .enum-told2 .given .1) refl)
+returns-2 c = no-names (id-unresolvable _ _ (c .before .before .before .before .before .entry .ensures) (c .before .before .before .enum-told .given .1)) (id-unresolvable _ _ (c .before .before .entry2 .ensures) (c .enum-told2 .given .1))
 
 entry-requires-3 : tie.Need-entry-requires-3
 entry-requires-3 c κs = search needs
