@@ -1,0 +1,49 @@
+-- `lines::reporting::emit` meets its contract: the line is written into the part of the buffer after the lines before it, and counted.
+-- Assumes nothing.
+use mathlib.Core.Path.{refl, sym}
+use Rattle.tally.proofs.Running.{one-lent, one-countable, ran-one, ran-length}
+use Rattle.lines.specs.Sites.{changeOf}
+use Rattle.lines.proofs.Lines.{level-bump}
+use borrow.Author.Needs.{needs}
+use Rattle.lines.proofs.reporting.emit.Statement.{statement}
+use Rattle.lines.proofs.reporting.emit.Tie as tie
+
+start-in-requires : tie.Need-start-in-requires
+start-in-requires c κs = search needs
+
+sub-put-line : tie.Need-sub-put-line
+sub-put-line c = one-lent (c .before .before .before .before .before .pre .1) (c .start-in .ensures) .within
+
+part-put-line-start : tie.Need-part-put-line-start
+part-put-line-start c = one-lent (c .before .before .before .before .before .pre .1) (c .start-in .ensures) .within
+
+part-put-line-end : tie.Need-part-put-line-end
+part-put-line-end c = search needs
+
+put-line-requires : tie.Need-put-line-requires
+put-line-requires c κs = (c .before .before .before .before .before .before .pre .0, one-lent (c .before .before .before .before .before .before .pre .1) (c .before .start-in .ensures) .space)
+
+counted-requires : tie.Need-counted-requires
+counted-requires c κs = one-countable (c .before .before .before .before .before .before .before .before .before .pre .1) (c .before .before .before .before .start-in .ensures) (c .before .before .put-line .ensures) (c .before .before .before .before .before .before .before .before .before .pre .0 .known)
+
+same-length : tie.Need-same-length
+same-length c = search needs
+
+returns : tie.Need-returns
+unfolding changeOf
+returns c =
+    ran-one (c .before .before .before .before .before .before .before .before .before .before .pre .1) (c .before .before .before .before .before .start-in .ensures) (c .before .before .before .put-line .ensures) (c .counted .ensures) refl
+    (sym (level-bump (c .before .before .before .before .before .before .before .before .before .before .args .site .bump .level) (c .before .before .before .before .before .before .before .before .before .before .pre .0 .weighed)))
+
+pub emit-spec : {M : Type 1} → statement M
+emit-spec =
+    tie.close
+    (tie.spec
+    start-in-requires
+    sub-put-line
+    part-put-line-start
+    part-put-line-end
+    put-line-requires
+    counted-requires
+    same-length
+    returns)
