@@ -1,7 +1,7 @@
 -- What the crates above may rest on: everything of an accepted image is well formed at its place, and is this part of its schema.
 -- From `read_image` to `Accepted`; from `entry` to a declaration; from a declaration to its items or its inner type; from an item to its
 -- name, its type, its fields; from a type to its inner types. Assumes nothing.
-use mathlib.Core.Path.{_≡_, sym, ap, _∙_}
+use mathlib.Core.Path.{_≡_, refl, sym, ap, _∙_}
 use mathlib.Core.Option.{none, some}
 use mathlib.Core.List.{List, [], _∷_}
 use Prim.Native.Nat.{ℕ, _-_, _≤_, _<_}
@@ -10,8 +10,8 @@ use lib.ListN.{getD}
 use Rattle.image.specs.Schema.{Schema}
 use Rattle.image.specs.Parse.{Parsed, ok, no}
 use Rattle.image.specs.Image.{readImage}
-use Rattle.image.specs.Answer.{acceptance, Answers}
-use Rattle.image.specs.WellFormed.{Good}
+use Rattle.image.specs.Answer.{acceptance, numberOf, refusal, Answers}
+use Rattle.image.specs.WellFormed.{Good, valueOr}
 use Rattle.image.specs.declared.Acceptance.{Acceptance}
 use Rattle.parts.specs.Promise.{Accepted, schemaOf, nameEnd, namePlaces, itemEnd, placesFrom, DeclHere, declIn, declOf, EntryHere, Resolved}
 use Rattle.parts.specs.declared.Shape.{Shape}
@@ -42,6 +42,28 @@ accepted s {r} a e = go (readImage s) (sym e ∙ a .is)
     go : (p : Parsed Schema) → Acceptance.Accepted ≡ acceptance p → Good p
     go (ok v n) q = tt
     go (no k) q = absurd (let z : _≡_ {A = ℕ} 0 1 = cc in omega arith)
+
+-- what it answered, as a parse: an accepted image holds its schema, and a rejected one has the answer's number
+module _ (s : List ℕ) where
+  pub accepted-read : Accepted s → (n : ℕ) × (readImage s ≡ ok (schemaOf s) n)
+  unfolding Accepted schemaOf Good valueOr
+  accepted-read g = go (readImage s) refl g
+    where
+      go : (p : Parsed Schema) → readImage s ≡ p → Good p → (n : ℕ) × (readImage s ≡ ok (schemaOf s) n)
+      go (ok x n) e g = (n, e ∙ rw e)
+      go (no k) e g = absurd g
+
+  pub read-accepted : {x : Schema} {n : ℕ} → readImage s ≡ ok x n → Accepted s × (schemaOf s ≡ x)
+  unfolding Accepted schemaOf Good valueOr
+  read-accepted e = (rw e tt, rw e)
+
+  pub rejected-read : {r : Acceptance} {k : ℕ} → Answers (readImage s) r → r ≡ Acceptance.Rejected k → readImage s ≡ no k
+  unfolding acceptance numberOf refusal
+  rejected-read {r} {k} a e = go (readImage s) (sym e ∙ a .is) (sym (ap numberOf e) ∙ a .number)
+    where
+      go : (p : Parsed Schema) → Acceptance.Rejected k ≡ acceptance p → k ≡ refusal p → p ≡ no k
+      go (ok x n) q z = absurd (let z : _≡_ {A = ℕ} 0 1 = cc in omega arith)
+      go (no l) q z = ap no (sym z)
 
 -- the two answers of `entry`
 module _ (s : List ℕ) (id : ℕ) {r : Entry} (h : Resolved s id r) where
