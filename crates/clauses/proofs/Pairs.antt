@@ -1,0 +1,201 @@
+-- Two fields, two variants or two declarations under one key: the items of which a clause reports, and its parts. Assumes nothing.
+use mathlib.Core.Path.{_≡_, refl, _∙_}
+use mathlib.Core.Bool.{not, _&&_, Bool·beq}
+use mathlib.Core.Option.{none, some}
+use mathlib.Core.List.{List, [], _∷_, _++_}
+use Prim.Native.Nat.{ℕ}
+use lib.Dec.{eqb, ltb}
+use Rattle.image.specs.Words.{bytes}
+use Rattle.text.proofs.Pieces.{together}
+use Rattle.maps.specs.Compare.{compare}
+use Rattle.parts.specs.Promise.{TypeHere, ItemOf, ItemHere, itemName, fieldIn, variantIn, variantItems, typePlace, declIn, itemsIn, innerPlace}
+use Rattle.parts.specs.declared.Shape.{Shape}
+use Rattle.parts.specs.declared.Run.{Run}
+use Rattle.parts.proofs.Promise.{item-bare, field-type-here, inner-here}
+use Rattle.rules.specs.Equal.{sameOption, sameName}
+use Rattle.rules.specs.Types.{sameType}
+use Rattle.rules.specs.Survivors.{variantOrdinal, variantMap}
+use Rattle.rules.specs.Changes.{Change, quoted}
+use Rattle.rules.specs.Clauses.{compareTypes, fieldText, compareFieldNames, sameEncoding, compareEncodings, compareDeprecated, compareFields, fieldRules, compareFieldSets, compareMessages, enumRules, compareNonExhaustive, compareEnums, flagsRules, compareFlags, unionRules, compareUnions, compareNewtypes}
+use Rattle.survivors.specs.Answers.{ItemSurvives}
+use Rattle.survivors.specs.Runs.{itemOrdinal, itemMap, Holds}
+use Rattle.survivors.specs.declared.Found.{Found}
+use Rattle.survivors.specs.declared.Found.the-variants.{At}
+use Rattle.survivors.proofs.Runs.{message-holds, enum-holds, flags-holds, union-holds, variant-holds}
+use Rattle.lines.specs.Sites.{declarationOf, ScopeHere}
+use Rattle.lines.specs.Clauses.{fieldRenamed, fieldTypeChanged, fieldEncodingChanged, fieldDeprecated, declDeprecated, nonExhaustiveChanged, newtypeChanged}
+use Rattle.lines.specs.declared.Scope.{Scope}
+use Rattle.lines.proofs.Clauses.{Reports, field-renamed, field-type-changed, field-encoding-changed, field-deprecated, decl-deprecated, non-exhaustive-changed, newtype-changed}
+use Rattle.items.specs.Pairs.{reading, BothAccepted, DeclPair, KindPair, ofPair, FieldPair}
+use Rattle.items.specs.Items.{OwnerHere, ItemsIn, fieldItems, unionItems, shape, rules, keptItems, keptAt, itemChanges}
+use Rattle.items.specs.declared.Side.{Side}
+use Rattle.items.specs.declared.Owner.{Owner}
+use Rattle.items.specs.declared.Items.{Items}
+use Rattle.items.proofs.Standing.{item-here, kept-item}
+use Rattle.clauses.proofs.Tests.{typesDiffer}
+use Rattle.clauses.proofs.Sets.{loneParts, lone-parts, kept-silent}
+
+-- ---- two fields
+
+module _ (old new : List ℕ) (c : Scope) (i j : ℕ) where
+  abbrev pub fieldParts : List (List Change)
+  fieldParts =
+      compareFieldNames (declarationOf old new c) (fieldIn old i) (fieldIn new j)
+      ∷ compareTypes (reading old new) (declarationOf old new c) (some (fieldIn new j .name)) (fieldText (fieldIn new j)) (fieldIn old i .type) (fieldIn new j .type)
+      ∷ compareEncodings (declarationOf old new c) (fieldIn old i) (fieldIn new j)
+      ∷ compareDeprecated (declarationOf old new c) (some (fieldIn new j .name)) (bytes "field " ++ quoted (fieldIn new j .name)) (fieldIn old i .marks) (fieldIn new j .marks)
+      ∷ []
+
+  pub field-parts : compareFields (reading old new) (declarationOf old new c) (fieldIn old i) (fieldIn new j) ≡ together fieldParts
+  unfolding compareFields together
+  field-parts = refl
+
+module _ {old new : List ℕ} {c : Scope} {i j : ℕ} (p : FieldPair old new c i j) where
+  pub field-bare : ItemHere Shape.Bare old i × ItemHere Shape.Bare new j
+  field-bare = (item-bare old i Shape.Field (p .here .0), item-bare new j Shape.Field (p .here .1))
+
+  pub renamed : Reports old new (fieldRenamed c i j)
+      (not (sameName (itemName old i) (itemName new j)))
+      (compareFieldNames (declarationOf old new c) (fieldIn old i) (fieldIn new j))
+  renamed = field-renamed old new (p .accepted .0) (p .accepted .1) c (p .scope) i j (p .here .0) (p .here .1)
+
+  pub type-changed : Reports old new (fieldTypeChanged c j (typePlace old i) (typePlace new j))
+      (typesDiffer old new (typePlace old i) (typePlace new j))
+      (compareTypes (reading old new) (declarationOf old new c) (some (fieldIn new j .name)) (fieldText (fieldIn new j)) (fieldIn old i .type) (fieldIn new j .type))
+  type-changed = field-type-changed old new (p .accepted .0) (p .accepted .1) c (p .scope) i j (p .here .0) (p .here .1) sameType
+
+  pub encoding-changed : Reports old new (fieldEncodingChanged c i j)
+      (not (sameEncoding (fieldIn old i .encoding) (fieldIn new j .encoding) && sameOption eqb (fieldIn old i .limit) (fieldIn new j .limit)))
+      (compareEncodings (declarationOf old new c) (fieldIn old i) (fieldIn new j))
+  encoding-changed = field-encoding-changed old new (p .accepted .0) (p .accepted .1) c (p .scope) i j (p .here .0) (p .here .1)
+
+  pub deprecated : Reports old new (fieldDeprecated c j)
+      (not (fieldIn old i .marks .deprecated) && fieldIn new j .marks .deprecated)
+      (compareDeprecated (declarationOf old new c) (some (fieldIn new j .name)) (bytes "field " ++ quoted (fieldIn new j .name)) (fieldIn old i .marks) (fieldIn new j .marks))
+  deprecated = field-deprecated old new (p .accepted .0) (p .accepted .1) c (p .scope) i j (p .here .0) (p .here .1)
+
+  pub types-here : TypeHere 32 old (typePlace old i) × TypeHere 32 new (typePlace new j)
+  types-here = (field-type-here old i (p .here .0), field-type-here new j (p .here .1))
+
+-- ---- a clause over items: they are well formed, and it reports what is reported of them
+
+pub record Over (old new : List ℕ) (x : Items) (cs : List Change) : Type 0 where
+  pub inside : ItemsIn old new x
+  pub are : cs ≡ itemChanges old new x
+
+over : {old new : List ℕ} (x : Items) {xs ys : List (ItemOf (shape old new x))}
+    → BothAccepted old new → OwnerHere old new (x .of) → Holds (shape old new x) old (x .old) xs → Holds (shape old new x) new (x .new) ys
+    → Over old new x (compare (itemOrdinal (shape old new x)) ltb (rules old new x) (itemMap (shape old new x) xs) (itemMap (shape old new x) ys))
+unfolding itemChanges
+over x b o h k = record {
+  inside = record { accepted = b; owner = o; here = (h .here, k .here) };
+  are = rw (h .are, k .are);
+}
+
+-- ---- what stands under an ordinal in two runs
+
+module _ {old new : List ℕ} {k : ℕ} {o u : Found} {i j : ℕ} (e : o ≡ At i) (f : u ≡ At j) {a b : Run} where
+  module _ {c : Scope} (p : ItemsIn old new (fieldItems c a b)) (s : ItemSurvives Shape.Field old a k o) (t : ItemSurvives Shape.Field new b k u) where
+    pub field-pair : FieldPair old new c i j
+    unfolding OwnerHere
+    field-pair = record { accepted = p .accepted; scope = p .owner; here = (item-here p Side.Old k s e, item-here p Side.New k t f) }
+
+    pub field-kept : keptAt old new (fieldItems c a b) k ≡ compareFields (reading old new) (declarationOf old new c) (fieldIn old i) (fieldIn new j)
+    unfolding fieldRules
+    field-kept = kept-item p k s t e f
+
+  module _ {d : ℕ} (p : ItemsIn old new (unionItems d a b)) (s : ItemSurvives Shape.Variant old a k o) (t : ItemSurvives Shape.Variant new b k u) where
+    pub variants-here : ItemHere Shape.Variant old i × ItemHere Shape.Variant new j
+    variants-here = (item-here p Side.Old k s e, item-here p Side.New k t f)
+
+    pub variant-kept : {m n : Run} → m ≡ variantItems old i → n ≡ variantItems new j
+        → Over old new (fieldItems (Scope.Variant d i) m n) (keptAt old new (unionItems d a b) k)
+    unfolding OwnerHere ScopeHere declarationOf compareFieldSets unionRules
+    variant-kept {m} {n} q r =
+        let w = over (fieldItems (Scope.Variant d i) m n) {xs = variantIn old i .fields} {ys = variantIn new j .fields} (p .accepted) (p .owner, variants-here .0)
+        (rw q (variant-holds old i (variants-here .0))) (rw r (variant-holds new j (variants-here .1))) in
+        record { inside = w .inside; are = kept-item p k s t e f ∙ w .are }
+
+-- ---- two declarations
+
+module _ {old new : List ℕ} {i j : ℕ} (p : DeclPair old new i j) where
+  pub decl-marked : Reports old new (declDeprecated i)
+      (not (declIn old i .marks .deprecated) && declIn new j .marks .deprecated)
+      (compareDeprecated (declIn old i .name) none (bytes "declaration") (declIn old i .marks) (declIn new j .marks))
+  decl-marked = decl-deprecated old new (p .accepted .0) (p .accepted .1) i j (p .here .0) (p .here .1)
+
+  pub openness-changed : Reports old new (nonExhaustiveChanged i j)
+      (not (Bool·beq (declIn old i .marks .nonExhaustive) (declIn new j .marks .nonExhaustive)))
+      (compareNonExhaustive (declIn old i .name) (declIn old i .marks) (declIn new j .marks))
+  openness-changed = non-exhaustive-changed old new (p .accepted .0) (p .accepted .1) i j (p .here .0) (p .here .1)
+
+module _ {old new : List ℕ} {i j : ℕ} (p : KindPair 4 old new i j) where
+  pub inner-changed : Reports old new (newtypeChanged i (innerPlace old i) (innerPlace new j))
+      (typesDiffer old new (innerPlace old i) (innerPlace new j))
+      (ofPair compareNewtypes old new i j)
+  inner-changed =
+      newtype-changed old new (p .pair .accepted .0) (p .pair .accepted .1) i j (p .pair .here .0) (p .pair .here .1) (p .kinds .0) (p .kinds .1) sameType
+
+  pub inners-here : TypeHere 32 old (innerPlace old i) × TypeHere 32 new (innerPlace new j)
+  inners-here = (inner-here old i (p .pair .here .0) (p .kinds .0), inner-here new j (p .pair .here .1) (p .kinds .1))
+
+-- ---- two declarations of one kind, whose items are the runs a and b
+
+-- a message's fields, and its own deprecation
+abbrev pub messageParts : List ℕ → List ℕ → ℕ → ℕ → Items → List (List Change)
+messageParts old new i j x =
+    itemChanges old new x ∷ compareDeprecated (declIn old i .name) none (bytes "declaration") (declIn old i .marks) (declIn new j .marks) ∷ []
+
+abbrev pub enumItems : ℕ → ℕ → Run → Run → Items
+enumItems i j a b = record { of = Owner.Enum i j; old = a; new = b }
+
+-- what is reported of an enum's variants
+abbrev pub enumChanges : List ℕ → List ℕ → ℕ → ℕ → List Change
+enumChanges old new i j =
+    compare variantOrdinal ltb (enumRules (declIn old i .name) (declIn new j .marks)) (variantMap (declIn old i .variants)) (variantMap (declIn new j .variants))
+
+pub enum-parts : (old new : List ℕ) (i j : ℕ)
+    → ofPair (λ r. compareEnums) old new i j ≡ together (compareNonExhaustive (declIn old i .name) (declIn old i .marks) (declIn new j .marks) ∷ enumChanges old new i j ∷ [])
+unfolding compareEnums together
+enum-parts old new i j = refl
+
+abbrev pub flagsItems : ℕ → Run → Run → Items
+flagsItems i a b = record { of = Owner.Flags i; old = a; new = b }
+
+module _ {old new : List ℕ} {i j : ℕ} {a b : Run} (e : a ≡ itemsIn old i) (f : b ≡ itemsIn new j) where
+  pub message-fields : KindPair 0 old new i j
+      → Over old new (fieldItems (Scope.Old i) a b) (compareFieldSets (reading old new) (declIn old i .name) (declIn old i .fields) (declIn new j .fields))
+  unfolding OwnerHere ScopeHere declarationOf compareFieldSets
+  message-fields p =
+      over (fieldItems (Scope.Old i) a b) (p .pair .accepted) (p .pair .here .0)
+      (rw e (message-holds old i (p .pair .here .0) (p .kinds .0))) (rw f (message-holds new j (p .pair .here .1) (p .kinds .1)))
+
+  pub message-parts : KindPair 0 old new i j → ofPair compareMessages old new i j ≡ together (messageParts old new i j (fieldItems (Scope.Old i) a b))
+  unfolding compareMessages together
+  message-parts p = rw (message-fields p .are)
+
+  pub enum-variants : KindPair 1 old new i j → Over old new (enumItems i j a b) (enumChanges old new i j)
+  unfolding OwnerHere
+  enum-variants p =
+      over (enumItems i j a b) (p .pair .accepted) (p .pair .here)
+      (rw e (enum-holds old i (p .pair .here .0) (p .kinds .0))) (rw f (enum-holds new j (p .pair .here .1) (p .kinds .1)))
+
+  pub enum-rest : KindPair 1 old new i j → together (enumChanges old new i j ∷ []) ≡ together (loneParts old new (enumItems i j a b))
+  unfolding keptItems enumRules together
+  enum-rest p = enum-variants p .are ∙ lone-parts old new (enumItems i j a b) (kept-silent variantOrdinal ltb _ _)
+
+  pub flags-bits : KindPair 2 old new i j → Over old new (flagsItems i a b) (ofPair (λ r. compareFlags) old new i j)
+  unfolding OwnerHere compareFlags
+  flags-bits p =
+      over (flagsItems i a b) (p .pair .accepted) (p .pair .here .0)
+      (rw e (flags-holds old i (p .pair .here .0) (p .kinds .0))) (rw f (flags-holds new j (p .pair .here .1) (p .kinds .1)))
+
+  pub flags-parts : KindPair 2 old new i j → ofPair (λ r. compareFlags) old new i j ≡ together (loneParts old new (flagsItems i a b))
+  unfolding keptItems flagsRules
+  flags-parts p = flags-bits p .are ∙ lone-parts old new (flagsItems i a b) (kept-silent variantOrdinal ltb _ _)
+
+  pub union-variants : KindPair 3 old new i j → Over old new (unionItems i a b) (ofPair compareUnions old new i j)
+  unfolding OwnerHere compareUnions
+  union-variants p =
+      over (unionItems i a b) (p .pair .accepted) (p .pair .here .0)
+      (rw e (union-holds old i (p .pair .here .0) (p .kinds .0))) (rw f (union-holds new j (p .pair .here .1) (p .kinds .1)))

@@ -1,0 +1,74 @@
+-- Two runs of items by ordinal: what is reported of them part by part, and the walk over those that were kept. Assumes nothing.
+use mathlib.Core.Path.{_≡_, refl, _∙_}
+use mathlib.Core.Bool.{Bool}
+use mathlib.Core.Option.{Option, none, some}
+use mathlib.Core.List.{List, [], _∷_, flatMap, append-nil}
+use Prim.Native.Nat.{ℕ, _<_}
+use Rattle.text.specs.declared.Mode.{Mode}
+use Rattle.text.proofs.Pieces.{together}
+use Rattle.maps.specs.Keyed.{lookup}
+use Rattle.maps.specs.Compare.{matched, between, compare}
+use Rattle.rules.specs.Changes.{Change}
+use Rattle.tally.specs.Reporting.{Ready, Ran}
+use Rattle.tally.specs.declared.Tally.{Tally}
+use Rattle.tally.proofs.Running.{Owed}
+use Rattle.survivors.specs.declared.Ordinal.{Ordinal}
+use Rattle.survivors.specs.declared.Ordinal.the-variants.{Is, Nothing}
+use Rattle.items.specs.Items.{ItemsIn, rules, unmatchedItems, keptItems, keptAt, itemChanges}
+use Rattle.items.specs.declared.Side.{Side}
+use Rattle.items.specs.declared.Items.{Items}
+use Rattle.items.proofs.Walks.{walkRest, walkLeft, NextOn, kept-all, kept-at, walk-less, walk-start, walk-turn, walk-done}
+
+-- ---- part by part
+
+-- what stands on one side only, removed and added
+abbrev pub loneParts : List ℕ → List ℕ → Items → List (List Change)
+loneParts old new x = unmatchedItems old new x Side.Old ∷ unmatchedItems old new x Side.New ∷ []
+
+-- and what was kept
+abbrev pub allParts : List ℕ → List ℕ → Items → List (List Change)
+allParts old new x = unmatchedItems old new x Side.Old ∷ unmatchedItems old new x Side.New ∷ keptItems old new x ∷ []
+
+module _ (old new : List ℕ) (x : Items) where
+  pub all-parts : itemChanges old new x ≡ together (allParts old new x)
+  unfolding itemChanges compare unmatchedItems keptItems together
+  all-parts = refl
+
+  -- where nothing is reported of what was kept
+  pub lone-parts : keptItems old new x ≡ [] → itemChanges old new x ≡ together (loneParts old new x)
+  unfolding together
+  lone-parts e = all-parts ∙ rw (e, append-nil)
+
+-- rules that report nothing of what was kept
+pub kept-silent : {K E C : Type 0} (key : E → K) (lt : K → K → Bool) (m n : List E) → between key lt {C = C} (matched (λ e f. [])) m n ≡ []
+unfolding between flatMap matched
+kept-silent key lt [] n = refl
+kept-silent {E = E} {C = C} key lt (e ∷ m) n = rw (none-matched {E = E} {C = C} e (lookup key lt (key e) n)) (kept-silent key lt m n)
+  where
+    none-matched : {E C : Type 0} (e : E) (o : Option E) → matched {C = C} (λ f g. []) (some e) o ≡ []
+    none-matched e none = refl
+    none-matched e (some f) = refl
+
+-- ---- the walk over what was kept
+
+-- what it has yet to report after an ordinal, and how many items it has yet to meet
+abbrev pub restKept : List ℕ → List ℕ → Items → Ordinal → List Change
+restKept old new x after = walkRest old new x (matched (rules old new x .kept)) Side.Old after
+
+abbrev pub leftKept : List ℕ → List ℕ → Items → Ordinal → ℕ
+leftKept old new x after = walkLeft old new x Side.Old after
+
+module _ {old new : List ℕ} {x : Items} (p : ItemsIn old new x) where
+  pub kept-less : (after : Ordinal) {r : Ordinal} → NextOn old new x Side.Old after r → {k : ℕ} → r ≡ Is k → leftKept old new x (Is k) < leftKept old new x after
+  kept-less after a e = walk-less p Side.Old after a e
+
+  module _ {m : Mode} {d : List ℕ} {t : Tally} where
+    pub kept-start : Ready m d t (keptItems old new x) → Owed m d t (keptItems old new x) t d (restKept old new x Nothing ∷ [])
+    kept-start q = walk-start p Side.Old (matched (rules old new x .kept)) (kept-all old new x) q
+
+    module _ {all : List Change} {t′ : Tally} {d′ : List ℕ} (after : Ordinal) (w : Owed m d t all t′ d′ (restKept old new x after ∷ [])) {r : Ordinal} (a : NextOn old new x Side.Old after r) where
+      pub kept-turn : {k : ℕ} → r ≡ Is k → Owed m d t all t′ d′ (keptAt old new x k ∷ restKept old new x (Is k) ∷ [])
+      kept-turn {k} e = walk-turn p Side.Old (matched (rules old new x .kept)) after w a e (kept-at old new x k)
+
+      pub kept-done : r ≡ Nothing → Ran m d t all t′ d′
+      kept-done e = walk-done p Side.Old (matched (rules old new x .kept)) after w a e

@@ -1,0 +1,55 @@
+-- `clauses::fields::compare_field_sets` meets its contract, part by part. Assumes nothing.
+use mathlib.Core.List.{List}
+use Prim.Native.Nat.{ℕ}
+use lib.ListN.{drop}
+use Rattle.tally.specs.declared.Tally.{Tally}
+use Rattle.tally.proofs.Running.{Owed, owed-start, owed-room, owed-next, owed-end}
+use Rattle.items.specs.Items.{fieldItems, itemChanges}
+use Rattle.items.specs.declared.Items.{Items}
+use Rattle.clauses.proofs.Sets.{allParts, all-parts}
+use borrow.Author.Needs.{needs}
+use Rattle.clauses.proofs.fields.compare_field_sets.Statement.{statement}
+use Rattle.clauses.proofs.fields.compare_field_sets.Tie as tie
+
+abbrev items : tie.Start → Items
+items s = fieldItems (s .args .scope) (s .args .a) (s .args .b)
+
+-- after the first k parts
+abbrev Left : (k : ℕ) (s : tie.Start) (r : Tally) (d : List ℕ) → Type 0
+Left k s r d =
+    Owed (s .args .mode) (s .args .out .now) (s .args .t) (itemChanges (s .args .old .now) (s .args .new .now) (items s)) r d
+    (drop k (allParts (s .args .old .now) (s .args .new .now) (items s)))
+
+o₀ : (s : tie.Start) → Left 0 s (s .args .t) (s .args .out .now)
+o₀ s = owed-start (all-parts _ _ (items s)) (s .pre .1)
+
+o₁ : (c : tie.After-unmatched-items) → Left 1 (c .before .before .before .before .before) (c .unmatched-items .result) (c .unmatched-items .last .1 .1 .1 .0)
+o₁ c = owed-next (o₀ (c .before .before .before .before .before)) (c .unmatched-items .ensures)
+
+o₂ : (c : tie.After-unmatched-items2) → Left 2 (c .before .before .before .before .before .before .before .before .before) (c .unmatched-items2 .result) (c .unmatched-items2 .last .1 .1 .1 .0)
+o₂ c = owed-next (o₁ (c .before .before .before .before)) (c .unmatched-items2 .ensures)
+
+unmatched-items-requires : tie.Need-unmatched-items-requires
+unmatched-items-requires c κs = (c .before .before .before .before .pre .0, owed-room (o₀ (c .before .before .before .before)))
+
+unmatched-items-requires-2 : tie.Need-unmatched-items-requires-2
+unmatched-items-requires-2 c κs = (c .before .before .before .before .before .before .before .before .pre .0, owed-room (o₁ (c .before .before .before)))
+
+kept-fields-requires : tie.Need-kept-fields-requires
+kept-fields-requires c κs = (c .before .before .before .before .before .before .before .before .before .before .before .before .pre .0, owed-room (o₂ (c .before .before .before)))
+
+same-length : tie.Need-same-length
+same-length c = search needs
+
+returns : tie.Need-returns
+returns c = owed-end (owed-next (o₂ (c .before .before .before .before .before .before)) (c .before .before .kept-fields .ensures))
+
+pub compare-field-sets-spec : {M : Type 1} → statement M
+compare-field-sets-spec =
+    tie.close
+    (tie.spec
+    unmatched-items-requires
+    unmatched-items-requires-2
+    kept-fields-requires
+    same-length
+    returns)

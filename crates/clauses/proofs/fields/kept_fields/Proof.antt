@@ -1,0 +1,61 @@
+-- `clauses::fields::kept_fields` meets its contract. The loop's invariant: what is owed is what the walk over the fields has yet to
+-- report. The measure is how many of them it has yet to meet. Assumes nothing.
+use mathlib.Core.List.{[], _∷_}
+use Rattle.tally.proofs.Running.{Owed, owed-room, owed-next, ran-length}
+use Rattle.items.specs.Items.{fieldItems, keptItems}
+use Rattle.clauses.proofs.Sets.{restKept, leftKept, kept-less, kept-start, kept-turn, kept-done}
+use borrow.Author.Needs.{needs}
+use Rattle.clauses.proofs.fields.kept_fields.Statement.{statement}
+use Rattle.clauses.proofs.fields.kept_fields.Tie as tie
+
+abbrev Inv-loop : tie.InvT-loop
+Inv-loop mode old new out₀ scope a b tally₀ after₀ out tally after =
+    Owed mode out₀ tally₀ (keptItems old new (fieldItems scope a b)) tally out (restKept old new (fieldItems scope a b) after ∷ [])
+
+abbrev μ-loop : tie.MeasureT-loop
+μ-loop mode old new out₀ scope a b tally₀ after₀ out tally after = leftKept old new (fieldItems scope a b) after
+
+loop-holds : tie.Need-loop-holds Inv-loop μ-loop
+loop-holds c = kept-start (c .before .before .before .pre .0) (c .before .before .before .pre .1)
+
+next-item-requires : tie.Need-next-item-requires Inv-loop μ-loop
+next-item-requires c κs = c .before .before .before .before .pre .0 .here .0
+
+enum-known-ordinal : tie.Need-enum-known-ordinal Inv-loop μ-loop
+enum-known-ordinal c = search needs
+
+enum-told : tie.Need-enum-told Inv-loop μ-loop
+enum-told c = search needs
+
+returns : tie.Need-returns Inv-loop μ-loop
+returns c = kept-done (c .before .before .before .before .before .before .before .pre .0) _ (c .before .before .before .loop .inv) (c .before .before .next-item .ensures) (c .enum-told .given .1)
+
+same-length : tie.Need-same-length Inv-loop μ-loop
+same-length c = ran-length (returns c) (c .before .before .before .before .before .before .before .pre .1)
+
+kept-field-requires : tie.Need-kept-field-requires Inv-loop μ-loop
+kept-field-requires c κs =
+    (c .before .before .before .before .before .before .before .before .before .pre .0, owed-room (kept-turn (c .before .before .before .before .before .before .before .before .before .pre .0) _ (c .before .before .before .before .before .loop .inv) (c .before .before .before .before .next-item .ensures) (c .before .before .ordinal .given .1)))
+
+loop-less : tie.Need-loop-less Inv-loop μ-loop
+loop-less c = kept-less (c .before .before .before .before .before .before .before .before .before .before .before .before .pre .0) _ (c .before .before .before .before .before .before .before .next-item .ensures) (c .before .before .before .before .before .ordinal .given .1)
+
+loop-again : tie.Need-loop-again Inv-loop μ-loop
+loop-again c =
+    owed-next (kept-turn (c .before .before .before .before .before .before .before .before .before .before .before .before .pre .0) _ (c .before .before .before .before .before .before .before .before .loop .inv) (c .before .before .before .before .before .before .before .next-item .ensures) (c .before .before .before .before .before .ordinal .given .1)) (c .before .before .kept-field .ensures)
+
+pub kept-fields-spec : {M : Type 1} → statement M
+kept-fields-spec =
+    tie.close
+    (tie.spec
+    Inv-loop
+    μ-loop
+    loop-holds
+    next-item-requires
+    enum-known-ordinal
+    enum-told
+    same-length
+    returns
+    kept-field-requires
+    loop-less
+    loop-again)

@@ -1,0 +1,185 @@
+// 4. Field sets, by ordinal.
+use crate::reporting::compare_deprecated;
+use crate::reporting::compare_types;
+use crate::reporting::emit_if;
+use items::Items;
+use items::Owner;
+use items::Side;
+use items::walk::unmatched_items;
+use lines::Scope;
+use lines::sites::field_deprecated;
+use lines::sites::field_encoding_changed;
+use lines::sites::field_renamed;
+use lines::sites::field_type_changed;
+use parts::Limit;
+use parts::Run;
+use parts::Shape;
+use parts::fields;
+use parts::fields::field_encoding;
+use parts::fields::field_limit;
+use parts::fields::field_type;
+use parts::items::item_name;
+use survivors::Found;
+use survivors::Ordinal;
+use survivors::items::next_item;
+use survivors::items::survivor_item;
+use tally::Tally;
+use text::Mode;
+use types::names::same_name;
+ghost use mathlib.Core.Path.{_≡_};
+ghost use mathlib.Core.Bool.{_&&_};
+ghost use lib.Dec.{eqb};
+ghost use Rattle.parts.specs.Promise.{ItemHere, fieldIn, limitOf};
+ghost use Rattle.parts.specs.declared.Shape.{Shape};
+ghost use Rattle.rules.specs.Equal.{sameOption};
+ghost use Rattle.rules.specs.Clauses.{sameEncoding, compareFields};
+ghost use Rattle.tally.specs.Reporting.{Ready, Ran};
+ghost use Rattle.lines.specs.Sites.{declarationOf};
+ghost use Rattle.items.specs.Pairs.{reading, FieldPair};
+ghost use Rattle.items.specs.Items.{ItemsIn, fieldItems, keptItems, keptAt, itemChanges};
+
+fn limits_equal(a: Limit, b: Limit) -> bool
+    ensures { λ r. ⌜ r ≡ sameOption eqb (limitOf a) (limitOf b) ⌝ }
+{
+    let Limit::Most(m) = a else {
+        let Limit::Unlimited = b else {
+            return false;
+        };
+        return true;
+    };
+    let Limit::Most(n) = b else {
+        return false;
+    };
+    m == n
+}
+
+// Whether two fields have the same encoding and the same limit.
+fn encodings_equal(old: &[u8], i: usize, new: &[u8], j: usize) -> bool
+    requires { ⌜ ItemHere Shape.Field (now old) i × ItemHere Shape.Field (now new) j ⌝ }
+    ensures { λ r. ⌜ r ≡ (sameEncoding (fieldIn (now (old .entry)) i .encoding) (fieldIn (now (new .entry)) j .encoding) && sameOption eqb (fieldIn (now (old .entry)) i .limit) (fieldIn (now (new .entry)) j .limit)) ⌝ }
+{
+    let a = field_encoding(old, i);
+    let b = field_encoding(new, j);
+    if a.deltas != b.deltas {
+        return false;
+    }
+    if a.base != b.base {
+        return false;
+    }
+    limits_equal(field_limit(old, i), field_limit(new, j))
+}
+
+// Two fields under one ordinal.
+fn compare_fields(
+    mode: Mode,
+    old: &[u8],
+    new: &[u8],
+    out: &mut [u8],
+    t: Tally,
+    scope: Scope,
+    i: usize,
+    j: usize,
+) -> Tally
+    requires { ⌜ FieldPair (now old) (now new) scope i j × Ready mode (now out) t (compareFields (reading (now old) (now new)) (declarationOf (now old) (now new) scope) (fieldIn (now old) i) (fieldIn (now new) j)) ⌝ }
+    ensures { λ r. ⌜ Ran mode (now (out .entry)) t (compareFields (reading (now (old .entry)) (now (new .entry))) (declarationOf (now (old .entry)) (now (new .entry)) scope) (fieldIn (now (old .entry)) i) (fieldIn (now (new .entry)) j)) r (now (out .exit)) ⌝ }
+{
+    let renamed = !same_name(item_name(old, i), item_name(new, j));
+    let t = emit_if(mode, old, new, out, t, renamed, field_renamed(scope, i, j));
+    let a = field_type(old, i);
+    let b = field_type(new, j);
+    let t = compare_types(
+        mode,
+        old,
+        new,
+        out,
+        t,
+        a,
+        b,
+        field_type_changed(scope, j, a, b),
+    );
+    let coded = !encodings_equal(old, i, new, j);
+    let t = emit_if(
+        mode,
+        old,
+        new,
+        out,
+        t,
+        coded,
+        field_encoding_changed(scope, i, j),
+    );
+    let was = fields::field_deprecated(old, i);
+    let is = fields::field_deprecated(new, j);
+    compare_deprecated(mode, old, new, out, t, was, is, field_deprecated(scope, j))
+}
+
+// One ordinal of the old fields: compared, if a new field stands under it too.
+fn kept_field(
+    mode: Mode,
+    old: &[u8],
+    new: &[u8],
+    out: &mut [u8],
+    t: Tally,
+    scope: Scope,
+    a: Run,
+    b: Run,
+    ordinal: u32,
+) -> Tally
+    requires { ⌜ ItemsIn (now old) (now new) (fieldItems scope a b) × Ready mode (now out) t (keptAt (now old) (now new) (fieldItems scope a b) ordinal) ⌝ }
+    ensures { λ r. ⌜ Ran mode (now (out .entry)) t (keptAt (now (old .entry)) (now (new .entry)) (fieldItems scope a b) ordinal) r (now (out .exit)) ⌝ }
+{
+    let Found::At(i) = survivor_item(old, Shape::Field, a, ordinal) else {
+        return t;
+    };
+    let Found::At(j) = survivor_item(new, Shape::Field, b, ordinal) else {
+        return t;
+    };
+    compare_fields(mode, old, new, out, t, scope, i, j)
+}
+
+fn kept_fields(
+    mode: Mode,
+    old: &[u8],
+    new: &[u8],
+    out: &mut [u8],
+    t: Tally,
+    scope: Scope,
+    a: Run,
+    b: Run,
+) -> Tally
+    requires { ⌜ ItemsIn (now old) (now new) (fieldItems scope a b) × Ready mode (now out) t (keptItems (now old) (now new) (fieldItems scope a b)) ⌝ }
+    ensures { λ r. ⌜ Ran mode (now (out .entry)) t (keptItems (now (old .entry)) (now (new .entry)) (fieldItems scope a b)) r (now (out .exit)) ⌝ }
+{
+    let mut tally = t;
+    let mut after = Ordinal::Nothing;
+    loop {
+        let Ordinal::Is(ordinal) = next_item(old, Shape::Field, a, after) else {
+            return tally;
+        };
+        tally = kept_field(mode, old, new, out, tally, scope, a, b, ordinal);
+        after = Ordinal::Is(ordinal);
+    }
+}
+
+// The fields of what a scope names: removed, added, kept.
+pub fn compare_field_sets(
+    mode: Mode,
+    old: &[u8],
+    new: &[u8],
+    out: &mut [u8],
+    t: Tally,
+    scope: Scope,
+    a: Run,
+    b: Run,
+) -> Tally
+    requires { ⌜ ItemsIn (now old) (now new) (fieldItems scope a b) × Ready mode (now out) t (itemChanges (now old) (now new) (fieldItems scope a b)) ⌝ }
+    ensures { λ r. ⌜ Ran mode (now (out .entry)) t (itemChanges (now (old .entry)) (now (new .entry)) (fieldItems scope a b)) r (now (out .exit)) ⌝ }
+{
+    let items = Items {
+        of: Owner::Fields(scope),
+        old: a,
+        new: b,
+    };
+    let t = unmatched_items(mode, old, new, out, t, Side::Old, items);
+    let t = unmatched_items(mode, old, new, out, t, Side::New, items);
+    kept_fields(mode, old, new, out, t, scope, a, b)
+}

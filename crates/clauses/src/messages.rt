@@ -1,0 +1,32 @@
+// 4. A message: its fields, then its own `FieldDeprecated`.
+use crate::fields::compare_field_sets;
+use crate::reporting::compare_deprecated;
+use lines::Scope;
+use lines::sites::decl_deprecated;
+use parts::decls::deprecated;
+use parts::items::decl_items;
+use tally::Tally;
+use text::Mode;
+ghost use Rattle.rules.specs.Clauses.{compareMessages};
+ghost use Rattle.tally.specs.Reporting.{Ready, Ran};
+ghost use Rattle.items.specs.Pairs.{KindPair, ofPair};
+
+pub fn compare_messages(
+    mode: Mode,
+    old: &[u8],
+    new: &[u8],
+    out: &mut [u8],
+    t: Tally,
+    i: usize,
+    j: usize,
+) -> Tally
+    requires { ⌜ KindPair 0 (now old) (now new) i j × Ready mode (now out) t (ofPair compareMessages (now old) (now new) i j) ⌝ }
+    ensures { λ r. ⌜ Ran mode (now (out .entry)) t (ofPair compareMessages (now (old .entry)) (now (new .entry)) i j) r (now (out .exit)) ⌝ }
+{
+    let a = decl_items(old, i);
+    let b = decl_items(new, j);
+    let t = compare_field_sets(mode, old, new, out, t, Scope::Old(i), a, b);
+    let was = deprecated(old, i);
+    let is = deprecated(new, j);
+    compare_deprecated(mode, old, new, out, t, was, is, decl_deprecated(i))
+}

@@ -1,0 +1,95 @@
+// 7. Unions: shared ordinals compare fields, under the declaration's name, two colons and the old variant's name.
+use crate::fields::compare_field_sets;
+use items::Items;
+use items::Owner;
+use items::Side;
+use items::walk::unmatched_items;
+use lines::Scope;
+use parts::Run;
+use parts::Shape;
+use parts::items::decl_items;
+use parts::items::variant_items;
+use survivors::Found;
+use survivors::Ordinal;
+use survivors::items::next_item;
+use survivors::items::survivor_item;
+use tally::Tally;
+use text::Mode;
+ghost use Rattle.rules.specs.Clauses.{compareUnions};
+ghost use Rattle.tally.specs.Reporting.{Ready, Ran};
+ghost use Rattle.items.specs.Pairs.{KindPair, ofPair};
+ghost use Rattle.items.specs.Items.{ItemsIn, unionItems, keptItems, keptAt};
+
+// One ordinal of the old variants: their fields are compared, if a new variant stands under it too.
+fn kept_variant(
+    mode: Mode,
+    old: &[u8],
+    new: &[u8],
+    out: &mut [u8],
+    t: Tally,
+    decl: usize,
+    a: Run,
+    b: Run,
+    ordinal: u32,
+) -> Tally
+    requires { ⌜ ItemsIn (now old) (now new) (unionItems decl a b) × Ready mode (now out) t (keptAt (now old) (now new) (unionItems decl a b) ordinal) ⌝ }
+    ensures { λ r. ⌜ Ran mode (now (out .entry)) t (keptAt (now (old .entry)) (now (new .entry)) (unionItems decl a b) ordinal) r (now (out .exit)) ⌝ }
+{
+    let Found::At(i) = survivor_item(old, Shape::Variant, a, ordinal) else {
+        return t;
+    };
+    let Found::At(j) = survivor_item(new, Shape::Variant, b, ordinal) else {
+        return t;
+    };
+    let m = variant_items(old, i);
+    let n = variant_items(new, j);
+    compare_field_sets(mode, old, new, out, t, Scope::Variant(decl, i), m, n)
+}
+
+fn kept_variants(
+    mode: Mode,
+    old: &[u8],
+    new: &[u8],
+    out: &mut [u8],
+    t: Tally,
+    decl: usize,
+    a: Run,
+    b: Run,
+) -> Tally
+    requires { ⌜ ItemsIn (now old) (now new) (unionItems decl a b) × Ready mode (now out) t (keptItems (now old) (now new) (unionItems decl a b)) ⌝ }
+    ensures { λ r. ⌜ Ran mode (now (out .entry)) t (keptItems (now (old .entry)) (now (new .entry)) (unionItems decl a b)) r (now (out .exit)) ⌝ }
+{
+    let mut tally = t;
+    let mut after = Ordinal::Nothing;
+    loop {
+        let Ordinal::Is(ordinal) = next_item(old, Shape::Variant, a, after) else {
+            return tally;
+        };
+        tally = kept_variant(mode, old, new, out, tally, decl, a, b, ordinal);
+        after = Ordinal::Is(ordinal);
+    }
+}
+
+pub fn compare_unions(
+    mode: Mode,
+    old: &[u8],
+    new: &[u8],
+    out: &mut [u8],
+    t: Tally,
+    i: usize,
+    j: usize,
+) -> Tally
+    requires { ⌜ KindPair 3 (now old) (now new) i j × Ready mode (now out) t (ofPair compareUnions (now old) (now new) i j) ⌝ }
+    ensures { λ r. ⌜ Ran mode (now (out .entry)) t (ofPair compareUnions (now (old .entry)) (now (new .entry)) i j) r (now (out .exit)) ⌝ }
+{
+    let a = decl_items(old, i);
+    let b = decl_items(new, j);
+    let items = Items {
+        of: Owner::Union(i),
+        old: a,
+        new: b,
+    };
+    let t = unmatched_items(mode, old, new, out, t, Side::Old, items);
+    let t = unmatched_items(mode, old, new, out, t, Side::New, items);
+    kept_variants(mode, old, new, out, t, i, a, b)
+}
