@@ -1,0 +1,73 @@
+-- `checking::decls::kept_decls` meets its contract: a walk over the old declarations. Assumes nothing.
+use Rattle.maps.specs.Compare.{matched}
+use Rattle.rules.specs.Clauses.{declRules}
+use Rattle.tally.proofs.Running.{ran-length}
+use Rattle.survivors.proofs.Declarations.{follows-here}
+use Rattle.survivors.proofs.Walks.{declsLeft, decls-less}
+use Rattle.checking.proofs.Turns.{Walked, walk-start, walk-done, walk-room, walk-turn}
+use Rattle.items.specs.Pairs.{reading}
+use Rattle.items.specs.declared.Side.{Side}
+use Rattle.checking.specs.Decls.{standing, keptDecls, keptDecl}
+use Rattle.checking.proofs.decls.kept_decls.Statement.{statement}
+use Rattle.checking.proofs.decls.kept_decls.Tie as tie
+
+abbrev Inv-loop : tie.InvT-loop
+Inv-loop mode old new out₀ tally₀ after₀ out tally after =
+    Walked (matched (declRules (reading old new) .kept)) old (standing old new Side.New) mode out₀ tally₀ after tally out
+
+abbrev μ-loop : tie.MeasureT-loop
+μ-loop mode old new out₀ tally₀ after₀ out tally after = declsLeft old after
+
+loop-holds : tie.Need-loop-holds Inv-loop μ-loop
+unfolding keptDecls
+loop-holds c = walk-start (c .before .before .before .pre .1)
+
+next-decl-requires : tie.Need-next-decl-requires Inv-loop μ-loop
+next-decl-requires c κs = (c .before .before .before .before .pre .0 .0, c .loop .inv .here)
+
+enum-known-at : tie.Need-enum-known-at Inv-loop μ-loop
+enum-known-at c = c .match .keys1
+
+enum-told : tie.Need-enum-told Inv-loop μ-loop
+enum-told c = c .match .keys2
+
+returns : tie.Need-returns Inv-loop μ-loop
+unfolding keptDecls
+returns c = walk-done (c .before .before .before .loop .inv) (c .before .before .next-decl .ensures) (c .enum-told .given .1)
+
+same-length : tie.Need-same-length Inv-loop μ-loop
+same-length c = ran-length (returns c) (c .before .before .before .before .before .before .before .pre .1)
+
+kept-decl-requires : tie.Need-kept-decl-requires Inv-loop μ-loop
+unfolding keptDecl
+kept-decl-requires c κs =
+    let n = c .before .before .before .before in (
+      n .before .before .before .before .before .pre .0,
+      follows-here _ _ (n .next-decl .ensures) (c .before .before .at .given .1),
+      walk-room (n .before .loop .inv) (n .next-decl .ensures) (c .before .before .at .given .1),
+    )
+
+loop-less : tie.Need-loop-less Inv-loop μ-loop
+loop-less c = decls-less _ _ (c .before .before .before .before .before .before .before .next-decl .ensures) (c .before .before .before .before .before .at .given .1)
+
+loop-again : tie.Need-loop-again Inv-loop μ-loop
+unfolding keptDecl
+loop-again c =
+    let n = c .before .before .before .before .before .before .before in
+    walk-turn (n .before .loop .inv) (n .next-decl .ensures) (c .before .before .before .before .before .at .given .1) (c .before .before .kept-decl .ensures)
+
+pub kept-decls-spec : {M : Type 1} → statement M
+kept-decls-spec =
+    tie.close
+    (tie.spec
+    Inv-loop
+    μ-loop
+    loop-holds
+    next-decl-requires
+    enum-known-at
+    enum-told
+    same-length
+    returns
+    kept-decl-requires
+    loop-less
+    loop-again)

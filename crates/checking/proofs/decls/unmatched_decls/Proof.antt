@@ -1,0 +1,71 @@
+-- `checking::decls::unmatched_decls` meets its contract: a walk over the declarations of the side. Assumes nothing.
+use Rattle.maps.specs.Compare.{unmatched}
+use Rattle.tally.proofs.Running.{ran-length}
+use Rattle.survivors.proofs.Declarations.{follows-here}
+use Rattle.survivors.proofs.Walks.{declsLeft, decls-less}
+use Rattle.checking.proofs.Turns.{Walked, walk-start, walk-done, walk-room, walk-turn}
+use Rattle.items.specs.Sides.{on}
+use Rattle.checking.specs.Decls.{standingOff, lone, unmatchedDecls, unmatchedDecl}
+use Rattle.checking.proofs.decls.unmatched_decls.Statement.{statement}
+use Rattle.checking.proofs.decls.unmatched_decls.Tie as tie
+
+abbrev Inv-loop : tie.InvT-loop
+Inv-loop mode old new out₀ side tally₀ after₀ out tally after =
+    Walked (unmatched (lone old new side)) (on side old new) (standingOff old new side) mode out₀ tally₀ after tally out
+
+abbrev μ-loop : tie.MeasureT-loop
+μ-loop mode old new out₀ side tally₀ after₀ out tally after = declsLeft (on side old new) after
+
+loop-holds : tie.Need-loop-holds Inv-loop μ-loop
+unfolding unmatchedDecls
+loop-holds c = walk-start (c .before .before .before .pre .1)
+
+next-on-requires : tie.Need-next-on-requires Inv-loop μ-loop
+next-on-requires c κs = (c .before .before .before .before .pre .0, c .loop .inv .here)
+
+enum-known-at : tie.Need-enum-known-at Inv-loop μ-loop
+enum-known-at c = c .match .keys1
+
+enum-told : tie.Need-enum-told Inv-loop μ-loop
+enum-told c = c .match .keys2
+
+returns : tie.Need-returns Inv-loop μ-loop
+unfolding unmatchedDecls
+returns c = walk-done (c .before .before .before .loop .inv) (c .before .before .next-on .ensures) (c .enum-told .given .1)
+
+same-length : tie.Need-same-length Inv-loop μ-loop
+same-length c = ran-length (returns c) (c .before .before .before .before .before .before .before .pre .1)
+
+unmatched-decl-requires : tie.Need-unmatched-decl-requires Inv-loop μ-loop
+unfolding unmatchedDecl
+unmatched-decl-requires c κs =
+    let n = c .before .before .before .before in (
+      n .before .before .before .before .before .pre .0,
+      follows-here _ _ (n .next-on .ensures) (c .before .before .at .given .1),
+      walk-room (n .before .loop .inv) (n .next-on .ensures) (c .before .before .at .given .1),
+    )
+
+loop-less : tie.Need-loop-less Inv-loop μ-loop
+loop-less c = decls-less _ _ (c .before .before .before .before .before .before .before .next-on .ensures) (c .before .before .before .before .before .at .given .1)
+
+loop-again : tie.Need-loop-again Inv-loop μ-loop
+unfolding unmatchedDecl
+loop-again c =
+    let n = c .before .before .before .before .before .before .before in
+    walk-turn (n .before .loop .inv) (n .next-on .ensures) (c .before .before .before .before .before .at .given .1) (c .before .before .unmatched-decl .ensures)
+
+pub unmatched-decls-spec : {M : Type 1} → statement M
+unmatched-decls-spec =
+    tie.close
+    (tie.spec
+    Inv-loop
+    μ-loop
+    loop-holds
+    next-on-requires
+    enum-known-at
+    enum-told
+    same-length
+    returns
+    unmatched-decl-requires
+    loop-less
+    loop-again)
