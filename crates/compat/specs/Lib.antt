@@ -1,0 +1,2 @@
+-- A verdict, and what the two calls answer.
+pub mod Verdicts
