@@ -1,6 +1,14 @@
-// Replays the recorded answers: each image of each pair is read, and the reader's answer compared with the recorded one.
+// Replays the recorded answers: each image of each pair is read, both calls are asked for the pair, and what they answer is compared with
+// what is recorded.
+mod counting;
 mod file;
+mod reports;
+mod verdicts;
 
+use counting::Step;
+use counting::Tally;
+use counting::compared;
+use counting::more;
 use file::Number;
 use image::Acceptance;
 use libc::STDOUT_FILENO;
@@ -9,26 +17,6 @@ use libc::STDOUT_FILENO;
 const IMAGE_ROOM: usize = 40960;
 // The most counts that an answer may have.
 const COUNTS: usize = 64;
-// Of so many pairs false answers are compared too, each of which must be counted as a difference.
-const FALSIFIED: u64 = 8;
-
-// What a run has counted.
-pub struct Tally {
-    pub pairs: u64,
-    pub differences: u64,
-    pub falsified: u64,
-    pub caught: u64,
-}
-
-pub enum Step {
-    Next(Tally),
-    // The file is not as it should be.
-    Broken,
-}
-
-fn more(x: u64) -> u64 {
-    std::num::wrapping_add_u64(x, 1)
-}
 
 // The number that the reader gives an image: 0, or its refusal.
 fn number_of(bytes: &[u8]) -> usize {
@@ -39,72 +27,88 @@ fn number_of(bytes: &[u8]) -> usize {
     }
 }
 
-// The number that the reader gives the file's next image.
-fn next_image(fd: i32) -> Number {
+// The reader's number of an image beside the recorded one.
+fn replay_image(fd: i32, bytes: &[u8], t: Tally) -> Step {
+    let byte = file::read_u8(fd);
+    let Number::Is(recorded) = byte else {
+        return Step::Broken;
+    };
+    Step::Next(compared(t, number_of(bytes) as u64, recorded as u64))
+}
+
+// The report of a pair that has one, beside the recorded one.
+fn replay_text(fd: i32, old: &[u8], new: &[u8], length: usize, t: Tally) -> Step {
+    let mut bytes = reports::blank();
+    if !file::fill(fd, &mut bytes, length) {
+        return Step::Broken;
+    }
+    Step::Next(reports::replay_report(old, new, length, &mut bytes, t))
+}
+
+// The answer of a pair: number, side, bump, result, length, counts and report.
+fn replay_answer(fd: i32, counts: usize, old: &[u8], new: &[u8], t: Tally) -> Step {
+    let byte = file::read_u8(fd);
+    let Number::Is(number) = byte else {
+        return Step::Broken;
+    };
+    let next = verdicts::replay_value(old, new, 0, number, t);
+    let step = verdicts::replay_bytes(fd, old, new, next);
+    let Step::Next(after) = step else {
+        return step;
+    };
+    let size = file::read_u32(fd);
+    let Number::Is(length) = size else {
+        return Step::Broken;
+    };
+    let next = verdicts::replay_value(old, new, 4, length, after);
+    let step = verdicts::replay_counts(fd, old, new, counts, next);
+    let Step::Next(after) = step else {
+        return step;
+    };
+    if number != 0 {
+        return Step::Next(reports::replay_refused(old, new, after));
+    }
+    replay_text(fd, old, new, length, after)
+}
+
+// Both images of a pair, each beside what is recorded of it, and then their answer.
+fn replay_images(fd: i32, counts: usize, old: &[u8], new: &[u8], t: Tally) -> Step {
+    let step = replay_image(fd, old, t);
+    let Step::Next(after) = step else {
+        return step;
+    };
+    let step = replay_image(fd, new, after);
+    let Step::Next(after) = step else {
+        return step;
+    };
+    replay_answer(fd, counts, old, new, after)
+}
+
+// An image of the file: so many bytes at the start of a buffer.
+fn read_image_bytes(fd: i32, buf: &mut [u8]) -> Number {
     let size = file::read_u32(fd);
     let Number::Is(n) = size else {
         return size;
     };
-    let mut bytes = [0u8; IMAGE_ROOM];
-    if !file::fill(fd, &mut bytes, n) {
+    if !file::fill(fd, buf, n) {
         return Number::Ended;
     }
-    Number::Is(number_of(file::first(&bytes, n)))
+    Number::Is(n)
 }
 
-// A number beside the recorded one, and of the first pairs beside a false one.
-fn compared(t: Tally, got: usize, recorded: usize) -> Tally {
-    let mut next = t;
-    if got != recorded {
-        next.differences = more(t.differences);
-    }
-    if t.pairs < FALSIFIED {
-        next.falsified = more(t.falsified);
-        if got != if recorded == 0 { 1 } else { 0 } {
-            next.caught = more(t.caught);
-        }
-    }
-    next
-}
-
-// Passes over the pair's own answer: number, side, bump, result, length, counts and report.
-fn pass_answer(fd: i32, counts: usize) -> bool {
-    if COUNTS < counts {
-        return false;
-    }
-    if !file::pass(fd, 4) {
-        return false;
-    }
-    let size = file::read_u32(fd);
-    let Number::Is(length) = size else {
-        return false;
-    };
-    if !file::pass(fd, 4 * counts) {
-        return false;
-    }
-    file::pass(fd, length)
-}
-
-// Both images of a pair beside what is recorded of them.
-fn replay_images(fd: i32, t: Tally) -> Step {
-    let old = next_image(fd);
-    let Number::Is(old_number) = old else {
+// Two images, and what is recorded of them.
+fn replay_recorded(fd: i32, counts: usize, t: Tally) -> Step {
+    let mut old = [0u8; IMAGE_ROOM];
+    let first = read_image_bytes(fd, &mut old);
+    let Number::Is(m) = first else {
         return Step::Broken;
     };
-    let new = next_image(fd);
-    let Number::Is(new_number) = new else {
+    let mut new = [0u8; IMAGE_ROOM];
+    let second = read_image_bytes(fd, &mut new);
+    let Number::Is(n) = second else {
         return Step::Broken;
     };
-    let first = file::read_u8(fd);
-    let Number::Is(old_recorded) = first else {
-        return Step::Broken;
-    };
-    let second = file::read_u8(fd);
-    let Number::Is(new_recorded) = second else {
-        return Step::Broken;
-    };
-    let half = compared(t, old_number, old_recorded);
-    Step::Next(compared(half, new_number, new_recorded))
+    replay_images(fd, counts, file::first(&old, m), file::first(&new, n), t)
 }
 
 // One pair: its name, its images, its answer.
@@ -117,13 +121,10 @@ fn replay_pair(fd: i32, counts: usize, t: Tally) -> Step {
     if !file::fill(fd, &mut name, n) {
         return Step::Broken;
     }
-    let images = replay_images(fd, t);
-    let Step::Next(after) = images else {
-        return images;
+    let step = replay_recorded(fd, counts, t);
+    let Step::Next(after) = step else {
+        return step;
     };
-    if !pass_answer(fd, counts) {
-        return Step::Broken;
-    }
     if t.differences != after.differences {
         io::write_all(STDOUT_FILENO, b"differs: ");
         io::write_all(STDOUT_FILENO, file::first(&name, n));
@@ -181,6 +182,9 @@ fn replay_file(fd: i32) -> Step {
     let Number::Is(counts) = second else {
         return Step::Broken;
     };
+    if COUNTS < counts {
+        return Step::Broken;
+    }
     if !file::pass(fd, 12) {
         return Step::Broken;
     }
