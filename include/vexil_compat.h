@@ -1,0 +1,115 @@
+/*
+ * Whether a new Vexil schema may be loaded where an old one runs: the verdict on two images, and its report.
+ * The library is libcompat.a, for x86-64. docs/FORMAT.md describes images, refusals and reports.
+ *
+ * Any bytes may be lent as images: faulty ones are refused by number, and every call returns.
+ *
+ *   - Lengths are in bytes. Every pointer is valid for its length and is not NULL, even where its length is 0.
+ *   - Both images are only read. They may overlap each other, or be the same.
+ *   - The report buffer overlaps neither image.
+ *   - Nothing is allocated and nothing is kept from one call to the next, so that threads may call at the same time.
+ */
+#ifndef VEXIL_COMPAT_H
+#define VEXIL_COMPAT_H
+
+#include <stddef.h>
+#include <stdint.h>
+
+#ifdef __cplusplus
+extern "C" {
+#endif
+
+/* The longest image that is not refused by VEXIL_COMPAT_LONG. */
+#define VEXIL_COMPAT_IMAGE_BYTES 32768
+
+/* What the verdict is asked for. */
+enum vexil_compat_selector {
+    VEXIL_COMPAT_NUMBER = 0, /* the refusal, VEXIL_COMPAT_NOT_REFUSED if there is a verdict */
+    VEXIL_COMPAT_SIDE = 1,   /* the image that is refused */
+    VEXIL_COMPAT_BUMP = 2,   /* the largest bump of a change */
+    VEXIL_COMPAT_RESULT = 3, /* whether the new schema may be loaded */
+    VEXIL_COMPAT_LENGTH = 4, /* the length of the report */
+    VEXIL_COMPAT_COUNTS = 5  /* VEXIL_COMPAT_COUNTS + a kind of change: how many there are of it */
+};
+
+enum vexil_compat_refusal {
+    VEXIL_COMPAT_NOT_REFUSED = 0,
+    VEXIL_COMPAT_LONG = 1,        /* image over 32,768 bytes */
+    VEXIL_COMPAT_SHORT_HEAD = 2,  /* head, contents, ids or namespace run past the end */
+    VEXIL_COMPAT_FORMAT = 3,      /* not 1 */
+    VEXIL_COMPAT_CROWDED = 4,     /* over 512 entries or ids, or over 16 namespace segments */
+    VEXIL_COMPAT_CONTENTS = 5,    /* an entry that is not laid out as it must be, or bytes after the last body */
+    VEXIL_COMPAT_KIND = 6,        /* a declaration's kind over 8 */
+    VEXIL_COMPAT_NAME = 7,        /* a byte in a name that is not allowed */
+    VEXIL_COMPAT_BODY = 8,        /* a body that ends early or has bytes left */
+    VEXIL_COMPAT_CODE = 9,        /* another coded byte outside its values */
+    VEXIL_COMPAT_DEEP = 10,       /* a 33rd node or a 9th delta */
+    VEXIL_COMPAT_ALIAS_PAIR = 11, /* of the pair: one name is a generic alias in both images */
+    VEXIL_COMPAT_FULL = 12        /* of the report only: it is longer than its buffer. No selector gives this number. */
+};
+
+enum vexil_compat_side {
+    VEXIL_COMPAT_NO_SIDE = 0,
+    VEXIL_COMPAT_OLD = 1, /* also if both images are faulty */
+    VEXIL_COMPAT_NEW = 2,
+    VEXIL_COMPAT_BOTH = 3 /* of VEXIL_COMPAT_ALIAS_PAIR and VEXIL_COMPAT_FULL */
+};
+
+enum vexil_compat_bump {
+    VEXIL_COMPAT_PATCH = 0,
+    VEXIL_COMPAT_MINOR = 1,
+    VEXIL_COMPAT_MAJOR = 2
+};
+
+enum vexil_compat_result {
+    VEXIL_COMPAT_COMPATIBLE = 0,
+    VEXIL_COMPAT_BREAKING = 1
+};
+
+enum vexil_compat_kind {
+    VEXIL_COMPAT_FIELD_ADDED = 0,
+    VEXIL_COMPAT_FIELD_REMOVED = 1,
+    VEXIL_COMPAT_FIELD_TYPE_CHANGED = 2,
+    VEXIL_COMPAT_FIELD_ORDINAL_CHANGED = 3, /* always 0 */
+    VEXIL_COMPAT_FIELD_RENAMED = 4,
+    VEXIL_COMPAT_FIELD_DEPRECATED = 5,
+    VEXIL_COMPAT_FIELD_ENCODING_CHANGED = 6,
+    VEXIL_COMPAT_VARIANT_ADDED = 7,
+    VEXIL_COMPAT_VARIANT_REMOVED = 8,
+    VEXIL_COMPAT_VARIANT_ORDINAL_CHANGED = 9, /* always 0 */
+    VEXIL_COMPAT_DECLARATION_ADDED = 10,
+    VEXIL_COMPAT_DECLARATION_REMOVED = 11,
+    VEXIL_COMPAT_DECLARATION_KIND_CHANGED = 12,
+    VEXIL_COMPAT_NAMESPACE_CHANGED = 13,
+    VEXIL_COMPAT_NON_EXHAUSTIVE_CHANGED = 14,
+    VEXIL_COMPAT_FLAGS_BIT_ADDED = 15,
+    VEXIL_COMPAT_FLAGS_BIT_REMOVED = 16,
+    VEXIL_COMPAT_FLAGS_BIT_ORDINAL_CHANGED = 17, /* always 0 */
+    VEXIL_COMPAT_KINDS = 18                      /* how many kinds there are */
+};
+
+/*
+ * One value of the verdict on two images. Each call compares anew.
+ * Of a refusal the bump is Major and the result Breaking; its length and counts are 0. A selector beyond the counts gives 0.
+ */
+uint64_t vexil_compat_verdict(const uint8_t *old_image, size_t old_len,
+                              const uint8_t *new_image, size_t new_len,
+                              uint64_t selector);
+
+/*
+ * Writes the report at the start of `out` and returns its length; bytes past that length stay as they were. A report is
+ * never empty, and it is not ended by a zero byte.
+ *
+ * 0 is a refusal, and then `out` is as it was. VEXIL_COMPAT_NUMBER tells which; if it tells VEXIL_COMPAT_NOT_REFUSED, the
+ * report is longer than `out_len`: that is VEXIL_COMPAT_FULL, of both sides. To size the buffer, ask VEXIL_COMPAT_LENGTH
+ * first: names repeat in the lines, so that a report may be many times as long as the images.
+ */
+uint64_t vexil_compat_report(const uint8_t *old_image, size_t old_len,
+                             const uint8_t *new_image, size_t new_len,
+                             uint8_t *out, size_t out_len);
+
+#ifdef __cplusplus
+}
+#endif
+
+#endif
