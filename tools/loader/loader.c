@@ -1,0 +1,143 @@
+/*
+ * The loading tool: compares two image files and prints the report or the refusal.
+ *
+ *   loader [--counts] OLD NEW
+ *
+ * Exit status: 0 Compatible, 1 Breaking or refused, 2 bad usage, or no memory or no output.
+ */
+#define _DEFAULT_SOURCE /* MAP_ANONYMOUS */
+
+#include "vexil_compat.h"
+
+#include <inttypes.h>
+#include <stdbool.h>
+#include <stdio.h>
+#include <stdlib.h>
+#include <string.h>
+#include <sys/mman.h>
+#include <unistd.h>
+
+enum { REPORT_BYTES = 65536 };
+enum { LOAD = 0, DO_NOT_LOAD = 1, FAILED = 2 };
+
+struct image {
+    const uint8_t *bytes;
+    size_t length;
+};
+
+struct pair {
+    struct image old;
+    struct image new;
+};
+
+static void fail(const char *what)
+{
+    perror(what);
+    exit(FAILED);
+}
+
+/* So many bytes before a page that nobody may touch: whoever runs past their end faults. */
+static uint8_t *guarded(size_t length)
+{
+    size_t page = (size_t)sysconf(_SC_PAGESIZE);
+    size_t room = (length + page - 1) / page * page;
+    uint8_t *start = mmap(NULL, room + page, PROT_READ | PROT_WRITE, MAP_PRIVATE | MAP_ANONYMOUS, -1, 0);
+    if (start == MAP_FAILED || mprotect(start + room, page, PROT_NONE) != 0)
+        fail("loader: memory");
+    return start + room - length;
+}
+
+/* The file as far as its bytes decide anything. One that can't be opened or read counts as empty. */
+static struct image read_image(const char *path)
+{
+    static uint8_t bytes[VEXIL_COMPAT_IMAGE_BYTES + 1];
+    size_t length = 0;
+    FILE *file = fopen(path, "rb");
+    if (file != NULL) {
+        length = fread(bytes, 1, sizeof bytes, file);
+        if (ferror(file))
+            length = 0;
+        fclose(file);
+    }
+    uint8_t *copy = guarded(length);
+    memcpy(copy, bytes, length);
+    return (struct image){copy, length};
+}
+
+static uint64_t verdict(const struct pair *pair, uint64_t selector)
+{
+    return vexil_compat_verdict(pair->old.bytes, pair->old.length, pair->new.bytes, pair->new.length, selector);
+}
+
+static int refuse(uint64_t number, uint64_t side)
+{
+    static const char *const words[] = {
+        [VEXIL_COMPAT_NO_SIDE] = "none",
+        [VEXIL_COMPAT_OLD] = "old",
+        [VEXIL_COMPAT_NEW] = "new",
+        [VEXIL_COMPAT_BOTH] = "both",
+    };
+    printf("refused %" PRIu64 " %s\n", number, words[side]);
+    return DO_NOT_LOAD;
+}
+
+/* A line for each kind of change that there is. */
+static void print_counts(const struct pair *pair)
+{
+    static const char *const names[VEXIL_COMPAT_KINDS] = {
+        [VEXIL_COMPAT_FIELD_ADDED] = "FieldAdded",
+        [VEXIL_COMPAT_FIELD_REMOVED] = "FieldRemoved",
+        [VEXIL_COMPAT_FIELD_TYPE_CHANGED] = "FieldTypeChanged",
+        [VEXIL_COMPAT_FIELD_ORDINAL_CHANGED] = "FieldOrdinalChanged",
+        [VEXIL_COMPAT_FIELD_RENAMED] = "FieldRenamed",
+        [VEXIL_COMPAT_FIELD_DEPRECATED] = "FieldDeprecated",
+        [VEXIL_COMPAT_FIELD_ENCODING_CHANGED] = "FieldEncodingChanged",
+        [VEXIL_COMPAT_VARIANT_ADDED] = "VariantAdded",
+        [VEXIL_COMPAT_VARIANT_REMOVED] = "VariantRemoved",
+        [VEXIL_COMPAT_VARIANT_ORDINAL_CHANGED] = "VariantOrdinalChanged",
+        [VEXIL_COMPAT_DECLARATION_ADDED] = "DeclarationAdded",
+        [VEXIL_COMPAT_DECLARATION_REMOVED] = "DeclarationRemoved",
+        [VEXIL_COMPAT_DECLARATION_KIND_CHANGED] = "DeclarationKindChanged",
+        [VEXIL_COMPAT_NAMESPACE_CHANGED] = "NamespaceChanged",
+        [VEXIL_COMPAT_NON_EXHAUSTIVE_CHANGED] = "NonExhaustiveChanged",
+        [VEXIL_COMPAT_FLAGS_BIT_ADDED] = "FlagsBitAdded",
+        [VEXIL_COMPAT_FLAGS_BIT_REMOVED] = "FlagsBitRemoved",
+        [VEXIL_COMPAT_FLAGS_BIT_ORDINAL_CHANGED] = "FlagsBitOrdinalChanged",
+    };
+    for (uint64_t kind = 0; kind < VEXIL_COMPAT_KINDS; kind++) {
+        uint64_t count = verdict(pair, VEXIL_COMPAT_COUNTS + kind);
+        if (count != 0)
+            printf("%s %" PRIu64 "\n", names[kind], count);
+    }
+}
+
+static int compare(const struct pair *pair, bool counts)
+{
+    uint64_t number = verdict(pair, VEXIL_COMPAT_NUMBER);
+    if (number != VEXIL_COMPAT_NOT_REFUSED)
+        return refuse(number, verdict(pair, VEXIL_COMPAT_SIDE));
+    uint8_t *out = guarded(REPORT_BYTES);
+    uint64_t length = vexil_compat_report(pair->old.bytes, pair->old.length, pair->new.bytes, pair->new.length, out, REPORT_BYTES);
+    if (length == 0)
+        return refuse(VEXIL_COMPAT_FULL, VEXIL_COMPAT_BOTH);
+    if (counts)
+        print_counts(pair);
+    fwrite(out, 1, length, stdout);
+    return verdict(pair, VEXIL_COMPAT_RESULT) == VEXIL_COMPAT_COMPATIBLE ? LOAD : DO_NOT_LOAD;
+}
+
+int main(int count, char **words)
+{
+    bool counts = count > 1 && strcmp(words[1], "--counts") == 0;
+    int first = counts ? 2 : 1;
+    if (count - first != 2) {
+        fputs("usage: loader [--counts] OLD NEW\n", stderr);
+        return FAILED;
+    }
+    struct pair pair = {read_image(words[first]), read_image(words[first + 1])};
+    int status = compare(&pair, counts);
+    /* A report that nobody gets is no answer. */
+    if (fflush(stdout) != 0 || ferror(stdout))
+        fail("loader: output");
+    return status;
+}

@@ -1,0 +1,24 @@
+/* A library that reads or writes one byte too many, at the place that OVERRUN names: the loading tool must fault on it. */
+#include "vexil_compat.h"
+
+enum { OLD_IMAGE, NEW_IMAGE, REPORT_BUFFER };
+
+static volatile uint8_t seen;
+
+uint64_t vexil_compat_verdict(const uint8_t *old_image, size_t old_len, const uint8_t *new_image, size_t new_len, uint64_t selector)
+{
+    (void)selector;
+    if (OVERRUN == OLD_IMAGE)
+        seen = old_image[old_len];
+    if (OVERRUN == NEW_IMAGE)
+        seen = new_image[new_len];
+    return 0;
+}
+
+uint64_t vexil_compat_report(const uint8_t *old_image, size_t old_len, const uint8_t *new_image, size_t new_len, uint8_t *out, size_t out_len)
+{
+    (void)old_image, (void)old_len, (void)new_image, (void)new_len;
+    if (OVERRUN == REPORT_BUFFER)
+        out[out_len] = 0;
+    return 0;
+}
