@@ -1,16 +1,22 @@
 #!/usr/bin/env bash
-# Times the proved reader of images against the oracle's, in one run, on the recorded images of 32,768 bytes that are accepted.
-# It proves the crate `image` first, in a temporary folder, to build a static library of it.
+# Times the proved code against the Rust, both in one process and on the same bytes. It proves first what it links.
+#
+#   tools/bench/run.sh reader   the reader of images against the oracle's, on the accepted recorded images of 32,768 bytes
+#   tools/bench/run.sh verdict  the library's verdict against `check`, on the recorded pairs and on generated ones
+#   tools/bench/run.sh          both
 set -euo pipefail
 here=$(cd "$(dirname "${BASH_SOURCE[0]}")" && pwd)
 repo=$(cd "$here/../.." && pwd)
-work=$(mktemp -d)
-trap 'rm -rf "$work"' EXIT
+answers=$repo/crates/replay/data/answers.bin
 
-mkdir -p "$work/crates/exports/src"
-cp -r "$repo/crates/image" "$work/crates/"
-printf 'image:\nexports: image\n' > "$work/crates.txt"
-cat > "$work/crates/exports/src/lib.rt" <<'RATTLE'
+# The crate `image` is proved in a temporary folder, below a crate that exports its reader.
+reader() (
+    work=$(mktemp -d)
+    trap 'rm -rf "$work"' EXIT
+    mkdir -p "$work/crates/exports/src"
+    cp -r "$repo/crates/image" "$work/crates/"
+    printf 'image:\nexports: image\n' > "$work/crates.txt"
+    cat > "$work/crates/exports/src/lib.rt" <<'RATTLE'
 // The reader of images for a caller in another language.
 use image::Acceptance;
 
@@ -24,7 +30,20 @@ pub extern "C" fn read_image_number(bytes: &[u8]) -> u8 {
     }
 }
 RATTLE
-(cd "$work" && rt staticlib exports > "$work/log" 2>&1) || { tail -20 "$work/log"; exit 1; }
-rustc --edition 2021 -O -D warnings -A dead_code -o "$work/bench" "$here/reader.rs" \
-    -L "native=$work/target/staticlib" -l static=exports
-"$work/bench" "$repo/crates/replay/data/answers.bin"
+    (cd "$work" && rt staticlib exports > "$work/log" 2>&1) || { tail -20 "$work/log"; exit 1; }
+    rustc --edition 2021 -O -D warnings -A dead_code -o "$work/bench" "$here/reader.rs" \
+        -L "native=$work/target/staticlib" -l static=exports
+    "$work/bench" "$answers"
+)
+
+verdict() {
+    library=$(bash "$repo/tools/loader/library.sh")
+    bash "$repo/tools/oracle/build.sh" --with-library "$library" >&2
+    "$repo/target/oracle/oracle-library" bench "$answers"
+}
+
+case "${1-both}" in
+    reader | verdict) "$1" ;;
+    both) reader; verdict ;;
+    *) echo 'usage: tools/bench/run.sh [reader | verdict]' >&2; exit 2 ;;
+esac

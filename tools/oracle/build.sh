@@ -1,8 +1,10 @@
 #!/usr/bin/env bash
 # Builds the oracle into target/oracle/oracle of this repository.
 #
-#   tools/oracle/build.sh                  with the real `check`
-#   tools/oracle/build.sh --without-vexil  without it: the reader and the model only
+#   tools/oracle/build.sh                     with the real `check`
+#   tools/oracle/build.sh --without-vexil     without it: the reader and the model only
+#   tools/oracle/build.sh --with-library DIR  target/oracle/oracle-library instead, which DIR/libcompat.a is linked into;
+#                                             with or without the real `check`
 #
 # The Vexil sources come from $VEXIL_SRC, or else from ../shared/docs/src beside
 # this repository. They are copied below target/, held against the committed
@@ -12,17 +14,29 @@ set -euo pipefail
 here=$(cd "$(dirname "${BASH_SOURCE[0]}")" && pwd)
 repo=$(cd "$here/../.." && pwd)
 out=$repo/target/oracle
+name=oracle
 cfg=(--cfg vexil)
+library=()
 
-case "${1-}" in
-  '') ;;
-  --without-vexil) cfg=() ;;
-  *) echo "build.sh: unknown word: $1" >&2; exit 2 ;;
-esac
+while [ $# -gt 0 ]; do
+  case $1 in
+    --without-vexil) cfg=() ;;
+    --with-library)
+      if [ ! -f "${2-}/libcompat.a" ]; then
+        echo "build.sh: --with-library: no libcompat.a in '${2-}'" >&2
+        exit 2
+      fi
+      name=oracle-library
+      library=(--cfg library -L "native=$2" -l static=compat)
+      shift ;;
+    *) echo "build.sh: unknown word: $1" >&2; exit 2 ;;
+  esac
+  shift
+done
 
 mkdir -p "$out"
 # A build that fails leaves no older oracle behind.
-rm -f "$out/oracle"
+rm -f "$out/$name"
 
 if [ ${#cfg[@]} -gt 0 ]; then
   src=${VEXIL_SRC:-$repo/../shared/docs/src}/crates/vexil-lang/src
@@ -44,6 +58,6 @@ fi
 
 rust=(rustc --edition 2021 -O -D warnings)
 "${rust[@]}" --crate-type rlib --crate-name smol_str --out-dir "$out" "$here/stand_ins/smol_str.rs"
-"${rust[@]}" --check-cfg 'cfg(vexil)' "${cfg[@]}" --crate-name oracle \
-  --extern "smol_str=$out/libsmol_str.rlib" -o "$out/oracle" "$here/src/main.rs"
-echo "built $out/oracle${cfg[0]:+ with the real check}"
+"${rust[@]}" --check-cfg 'cfg(vexil, library)' "${cfg[@]}" "${library[@]}" --crate-name oracle \
+  --extern "smol_str=$out/libsmol_str.rlib" -o "$out/$name" "$here/src/main.rs"
+echo "built $out/$name${cfg[0]:+ with the real check}"

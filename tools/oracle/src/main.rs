@@ -10,6 +10,8 @@ mod commands;
 mod coverage;
 mod cursor;
 mod edits;
+#[cfg(library)]
+mod library;
 mod limits;
 mod make;
 mod model;
@@ -40,7 +42,9 @@ const USAGE: &str = "usage: oracle report OLD NEW
        oracle generate FILE [--seed N]
        oracle verify FILE
        oracle random SEED COUNT
-       oracle selftest";
+       oracle selftest
+built with the library also:
+       oracle-library bench FILE";
 
 fn main() {
     let words: Vec<String> = std::env::args().skip(1).collect();
@@ -64,6 +68,8 @@ fn run(words: &[&str]) -> Outcome {
         ["verify", path] => record::verify(path),
         ["random", seed, count] => commands::random(number(seed)?, number(count)?),
         ["selftest"] => selftest::run(),
+        #[cfg(all(library, vexil))]
+        ["bench", path] => library::bench::run(path),
         _ => Err(USAGE.to_string()),
     }
 }

@@ -26,7 +26,7 @@ pub mod canonical;
 use crate::changes::Comparison;
 use crate::schema::Schema;
 use compat::CompatReport;
-use compile::compile;
+pub use compile::compile;
 
 pub const CHECK_IS_RUN: bool = true;
 

@@ -1,0 +1,205 @@
+//! Times a verdict of the library beside the Rust on the same pairs, in markdown
+//! tables.
+
+use super::realistic::releases;
+use crate::answer::judge;
+use crate::answers;
+use crate::commands::Outcome;
+use crate::ir::CompiledSchema;
+use crate::reader::read_image;
+use crate::record::SEED;
+use crate::rng::Rng;
+use crate::vexil::compat::check;
+use crate::vexil::compile;
+use std::hint::black_box;
+use std::time::Instant;
+
+/// The selector of the bump; each of them makes the whole comparison.
+const BUMP: u64 = 2;
+/// Classes of the larger image: its length is below the number.
+const CLASSES: [(&str, usize); 5] = [
+    ("under 256 B", 256),
+    ("under 1 KiB", 1 << 10),
+    ("under 4 KiB", 4 << 10),
+    ("under 16 KiB", 16 << 10),
+    ("16 KiB and over", usize::MAX),
+];
+const DECLARATIONS: [usize; 4] = [5, 20, 100, 400];
+const PAIRS_OF_EACH: usize = 12;
+const RUNS: usize = 15;
+/// A run goes over its pairs until so much time has passed.
+const RUN_NANOSECONDS: f64 = 20e6;
+
+struct Pair {
+    name: String,
+    old: Vec<u8>,
+    new: Vec<u8>,
+    built: [CompiledSchema; 2],
+}
+
+impl Pair {
+    /// A pair that gets a verdict, the same from the library as from the Rust.
+    fn of(name: String, old: Vec<u8>, new: Vec<u8>) -> Option<Pair> {
+        let pair = judge(&old, &new);
+        let found = super::verdict(&old, &new, BUMP);
+        assert_eq!(found, pair.answer.select(BUMP), "the bump of {name}");
+        let (Ok(older), Ok(newer), 0) = (pair.old, pair.new, pair.answer.number) else {
+            return None;
+        };
+        let built = [compile(&older), compile(&newer)];
+        Some(Pair {
+            name,
+            old,
+            new,
+            built,
+        })
+    }
+
+    fn larger(&self) -> usize {
+        self.old.len().max(self.new.len())
+    }
+}
+
+/// What is timed on a pair, in the order of the tables' columns.
+const SIDES: [fn(&Pair); 3] = [library_verdict, check_built, check_images];
+
+fn library_verdict(pair: &Pair) {
+    black_box(super::verdict(&pair.old, &pair.new, BUMP));
+}
+
+fn check_built(pair: &Pair) {
+    black_box(check(&pair.built[0], &pair.built[1]));
+}
+
+fn check_images(pair: &Pair) {
+    let [old, new] =
+        [&pair.old, &pair.new].map(|image| compile(&read_image(image).expect("it was read")));
+    black_box(check(&old, &new));
+}
+
+/// Nanoseconds a pair, of so many passes over all of them.
+fn time(side: fn(&Pair), pairs: &[&Pair], passes: usize) -> f64 {
+    let start = Instant::now();
+    for _ in 0..passes {
+        pairs.iter().for_each(|pair| side(black_box(pair)));
+    }
+    start.elapsed().as_nanos() as f64 / (passes * pairs.len()) as f64
+}
+
+/// The median and the best of the runs, for each side. The sides take turns, so
+/// that other work on the machine meets all of them.
+fn measure(pairs: &[&Pair]) -> [(f64, f64); 3] {
+    let passes = SIDES.map(|side| {
+        let pass = time(side, pairs, 1) * pairs.len() as f64;
+        (RUN_NANOSECONDS / pass) as usize + 1
+    });
+    let mut runs = [const { Vec::new() }; 3];
+    for _ in 0..RUNS {
+        for (side, times) in runs.iter_mut().enumerate() {
+            times.push(time(SIDES[side], pairs, passes[side]));
+        }
+    }
+    runs.map(|mut times| {
+        times.sort_by(f64::total_cmp);
+        (times[RUNS / 2], times[0])
+    })
+}
+
+/// The rest of a row: how many pairs, the three times and the two ratios.
+fn print_times(pairs: &[&Pair]) {
+    let times = measure(pairs);
+    let shown = times.map(|(median, best)| format!("{median:.0} ({best:.0})"));
+    let [verdict, built, images] = times.map(|(median, _)| median);
+    println!(
+        "{} | {} | {:.2} | {:.2} |",
+        pairs.len(),
+        shown.join(" | "),
+        verdict / built,
+        verdict / images
+    );
+}
+
+fn print_head(first: &str) {
+    println!("\n| {first} | pairs | library's verdict | `check`, schemas built | read, build, `check` | verdict to `check` | verdict to all |");
+    println!("|---|---|---|---|---|---|---|");
+}
+
+fn print_classes(pairs: &[Pair]) {
+    print_head("larger image");
+    for (name, class) in classes(pairs) {
+        print!("| {name} | ");
+        print_times(&class);
+    }
+}
+
+fn print_growth(pairs: &[Vec<Pair>]) {
+    print_head("declarations");
+    for (declarations, pairs) in DECLARATIONS.iter().zip(pairs) {
+        print!("| {declarations} | ");
+        print_times(&pairs.iter().collect::<Vec<_>>());
+    }
+}
+
+/// In each class the pair on which the library is slowest beside the Rust from
+/// the bytes on, each side at the best of five calls.
+fn print_slowest(pairs: &[Pair]) {
+    println!("\n| larger image | slowest pair | bytes | library's verdict | read, build, `check` | ratio |");
+    println!("|---|---|---|---|---|---|");
+    for (name, class) in classes(pairs) {
+        let timed = class.iter().map(|pair| {
+            let [verdict, images] = [library_verdict, check_images].map(|side| {
+                let calls = (0..5).map(|_| time(side, &[pair], 1));
+                calls.fold(f64::INFINITY, f64::min)
+            });
+            (verdict / images, verdict, images, pair)
+        });
+        if let Some((ratio, verdict, images, pair)) = timed.max_by(|a, b| a.0.total_cmp(&b.0)) {
+            let (slowest, bytes) = (&pair.name, pair.larger());
+            println!("| {name} | {slowest} | {bytes} | {verdict:.0} | {images:.0} | {ratio:.2} |");
+        }
+    }
+}
+
+fn classes(pairs: &[Pair]) -> Vec<(&'static str, Vec<&Pair>)> {
+    let mut least = 0;
+    let class = CLASSES.map(|(name, below)| {
+        let range = least..below;
+        least = below;
+        let pairs = pairs.iter().filter(|pair| range.contains(&pair.larger()));
+        (name, pairs.collect::<Vec<_>>())
+    });
+    class.into_iter().filter(|(_, p)| !p.is_empty()).collect()
+}
+
+/// The generated pairs, for each number of declarations.
+fn generated() -> Vec<Vec<Pair>> {
+    let mut rng = Rng::new(SEED);
+    let mut next = |declarations: usize, place: usize| loop {
+        let (old, new) = releases(&mut rng, declarations);
+        let name = format!("generated {declarations}, {place}");
+        if let Some(pair) = Pair::of(name, old, new) {
+            return pair;
+        }
+    };
+    let pairs = |n| (0..PAIRS_OF_EACH).map(|place| next(n, place)).collect();
+    DECLARATIONS.map(pairs).into()
+}
+
+fn recorded(path: &str) -> Result<Vec<Pair>, String> {
+    let bytes = std::fs::read(path).map_err(|error| format!("{path}: {error}"))?;
+    let list = answers::read(&bytes)?.into_iter();
+    let pairs = list.filter_map(|pair| Pair::of(pair.name, pair.old, pair.new));
+    Ok(pairs.collect())
+}
+
+/// The recorded pairs of a file that get a verdict, and generated ones.
+pub fn run(path: &str) -> Outcome {
+    let generated = generated();
+    let mut all = recorded(path)?;
+    println!("Nanoseconds a pair: the median of {RUNS} runs, and the best.");
+    print_growth(&generated);
+    all.extend(generated.into_iter().flatten());
+    print_classes(&all);
+    print_slowest(&all);
+    Ok(())
+}
