@@ -76,7 +76,8 @@ pub fn random(seed: u64, count: u64) -> Outcome {
     Ok(())
 }
 
-fn random_pair(rng: &mut Rng) -> (Vec<u8>, Vec<u8>) {
+/// A release and the next one, or another; some of them damaged.
+pub fn random_pair(rng: &mut Rng) -> (Vec<u8>, Vec<u8>) {
     let most = *rng.pick(&[1, 3, 8, 24]);
     let old = random_schema(rng, most);
     let mut new = match rng.once_in(8) {

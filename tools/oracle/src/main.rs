@@ -44,7 +44,8 @@ const USAGE: &str = "usage: oracle report OLD NEW
        oracle random SEED COUNT
        oracle selftest
 built with the library also:
-       oracle-library bench FILE";
+       oracle-library bench FILE
+       oracle-library hammer FILE SEED COUNT SECONDS FOLDER";
 
 fn main() {
     let words: Vec<String> = std::env::args().skip(1).collect();
@@ -70,6 +71,14 @@ fn run(words: &[&str]) -> Outcome {
         ["selftest"] => selftest::run(),
         #[cfg(all(library, vexil))]
         ["bench", path] => library::bench::run(path),
+        #[cfg(library)]
+        ["hammer", path, seed, count, seconds, folder] => library::hammer::run(
+            path,
+            number(seed)?,
+            number(count)?,
+            number(seconds)?,
+            folder,
+        ),
         _ => Err(USAGE.to_string()),
     }
 }

@@ -3,6 +3,8 @@
 
 #[cfg(vexil)]
 pub mod bench;
+mod guarded;
+pub mod hammer;
 #[cfg(vexil)]
 mod realistic;
 
@@ -15,9 +17,32 @@ extern "C" {
         new_len: usize,
         selector: u64,
     ) -> u64;
+    fn vexil_compat_report(
+        old_image: *const u8,
+        old_len: usize,
+        new_image: *const u8,
+        new_len: usize,
+        out: *mut u8,
+        out_len: usize,
+    ) -> u64;
 }
 
 pub fn verdict(old: &[u8], new: &[u8], selector: u64) -> u64 {
     // A slice's pointer is valid for its length and never null; the callee only reads.
     unsafe { vexil_compat_verdict(old.as_ptr(), old.len(), new.as_ptr(), new.len(), selector) }
+}
+
+pub fn report(old: &[u8], new: &[u8], out: &mut [u8]) -> u64 {
+    let (place, room) = (out.as_mut_ptr(), out.len());
+    // As above; `out` overlaps neither image, for it is borrowed alone.
+    unsafe {
+        vexil_compat_report(
+            old.as_ptr(),
+            old.len(),
+            new.as_ptr(),
+            new.len(),
+            place,
+            room,
+        )
+    }
 }
