@@ -14,6 +14,7 @@ import checks
 ROOT = Path(__file__).resolve().parents[2]
 ORACLE = ROOT / "target" / "oracle" / "oracle"
 ANSWERS = ROOT / "crates" / "replay" / "data" / "answers.bin"
+HAMMER_SEED, HAMMER_PAIRS, HAMMER_SECONDS = 20_261_115, 20_000, 300
 SUMMARY = re.compile(r"^(\d+) passed, (\d+) failed$")
 
 
@@ -106,13 +107,37 @@ def oracle(gate: Gate):
     gate.command("the recorded answers are what the generator writes", "cmp", again, ANSWERS)
 
 
+def is_left_out(gate: Gate, what: str, *tools: str) -> bool:
+    """Whether a stage on the library can't run, for want of these tools or of the crate `compat`; it is named then."""
+    reasons = [f"there is no {tool}" for tool in tools if not shutil.which(tool)]
+    if "compat" not in checks.listed_crates(ROOT):
+        reasons.append("crates.txt lists no crate compat")
+    gate.left_out += [f"{what}: {reason}" for reason in reasons]
+    return bool(reasons)
+
+
+def loader(gate: Gate):
+    if not is_left_out(gate, "tools/loader", "gcc", "rustc"):
+        gate.command("tools/loader/build.sh", "bash", "tools/loader/build.sh")
+        gate.suite("tools/loader/test.py", sys.executable, "tools/loader/test.py")
+
+
+def hammer(gate: Gate):
+    if not is_left_out(gate, "tools/hammer", "rustc"):
+        gate.suite("tools/hammer/run.sh", "bash", "tools/hammer/run.sh", HAMMER_SEED, HAMMER_PAIRS, HAMMER_SECONDS)
+
+
 def main() -> int:
     gate = Gate()
     if len(sys.argv) > 1:
         sys.exit(__doc__)
+    # Only the library that was proved here counts.
+    os.environ.pop("VEXIL_COMPAT_LIB", None)
     gate.stage("crates", lambda: crates(gate))
     gate.stage("gate", lambda: gate_tests(gate))
     gate.stage("oracle", lambda: oracle(gate))
+    gate.stage("loader", lambda: loader(gate))
+    gate.stage("hammer", lambda: hammer(gate))
     return gate.finish()
 
 
