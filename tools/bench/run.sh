@@ -9,21 +9,21 @@ here=$(cd "$(dirname "${BASH_SOURCE[0]}")" && pwd)
 repo=$(cd "$here/../.." && pwd)
 answers=$repo/crates/replay/data/answers.bin
 
-# The crate `image` is proved in a temporary folder, below a crate that exports its reader.
+# The crates `image` and `reader` are proved in a temporary folder, below a crate that exports the reader.
 reader() (
     work=$(mktemp -d)
     trap 'rm -rf "$work"' EXIT
     mkdir -p "$work/crates/exports/src"
-    cp -r "$repo/crates/image" "$work/crates/"
-    printf 'image:\nexports: image\n' > "$work/crates.txt"
+    cp -r "$repo/crates/image" "$repo/crates/reader" "$work/crates/"
+    printf 'image:\nreader: image\nexports: image reader\n' > "$work/crates.txt"
     cat > "$work/crates/exports/src/lib.rt" <<'RATTLE'
 // The reader of images for a caller in another language.
-use image::Acceptance;
+use reader::Acceptance;
 
 // 0 for an image that is accepted, else its refusal.
 #[no_mangle]
 pub extern "C" fn read_image_number(bytes: &[u8]) -> u8 {
-    let answer = image::read_image(bytes);
+    let answer = reader::read_image(bytes);
     match answer {
         Acceptance::Accepted => 0,
         Acceptance::Rejected(number) => number,

@@ -15,7 +15,7 @@ import tempfile
 from pathlib import Path
 
 ROOT = Path(__file__).resolve().parents[2]
-CRATES = ("maps", "image", "text", "rules")
+CRATES = ("maps", "image", "refusals", "text", "rules")
 IMAGES, REPORT = 1200, 4000  # the most bytes of both images, and of a report
 PER_FILE = 20
 

@@ -7,8 +7,12 @@ from pathlib import Path
 BUILT = {"logic-built", "libraries-built"}
 # Libraries of the kit whose contracts lean on assumed ones. The verdict of a library above them does not say so.
 ASSUMED = {"libc", "io", "os"}
-# Modules of `image` that the crates above `parts` may not name: all but the values and the words.
-BEHIND = re.compile(r"Rattle\.image\.(?!specs\.Schema\b|specs\.Words\b|specs\.declared\b)\w+(?:\.\w+)*")
+# What the crates above `parts` may not name: the modules of `image`, and of the crates between it and `parts`, but for the values and the
+# words; and the laws that the promise of `parts` rests on. `members` reads parts of an accepted image, as `parts` does, and rests on both.
+BEHIND = re.compile(
+    r"Rattle·(?:(?:image|refusals|written|reader)\.(?!specs\.Schema\b|specs\.Words\b|specs\.declared\b)\w+|parts\.proofs\.Laws\b)(?:\.\w+)*"
+)
+INSIDE = {"members"}
 # A proof that no longer fits the code's shape: such a refusal says nothing about a fact.
 UNFIT = re.compile(r"has no `Need-|\.Lts\.[^`]*` has no field|expected type `tie\.Need-|not in scope|expected `[^`]*`, found")
 
@@ -83,7 +87,7 @@ def unfolded(root: Path) -> list[str]:
     return [
         f"{path.relative_to(root)}: names {match[0]}, which is behind the promise of parts"
         for name in crates
-        if "parts" in reached(name, crates) and is_library(root, name)
+        if "parts" in reached(name, crates) and name not in INSIDE and is_library(root, name)
         for path in sorted((root / "crates" / name).rglob("*"))
         if path.suffix in (".rt", ".antt")
         for match in [BEHIND.search(path.read_text())]

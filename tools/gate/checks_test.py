@@ -87,15 +87,20 @@ class Folders(unittest.TestCase):
         self.assertEqual(checks.assumptions(self.root), ["maps: a library above io, whose contracts are assumed"])
 
     def test_a_file_that_names_the_readers_definitions_fails(self):
-        (self.root / "crates.txt").write_text("parts: image\nmaps: parts\n")
+        (self.root / "crates.txt").write_text("reader: image\nparts: image reader\nmaps: parts\n")
         file = self.root / "crates" / "maps" / "src" / "lib.rt"
-        file.write_text("ghost use Rattle.image.specs.Schema.{Ty};\n")
+        for module in ("image.specs.Schema", "image.specs.declared.Read", "reader.specs.declared.Acceptance", "parts.proofs.Promise"):
+            file.write_text(f"ghost use Rattle.{module}.{{Ty}};\n")
+            self.assertEqual(checks.unfolded(self.root), [])
+        for module in ("image.specs.Types", "reader.specs.Answer", "refusals.proofs.Refusals", "written.specs.Limits", "parts.proofs.Laws.Fields"):
+            file.write_text(f"ghost use Rattle.{module}.{{typeOf}};\n")
+            self.assertEqual(
+                checks.unfolded(self.root),
+                [f"crates/maps/src/lib.rt: names Rattle.{module}, which is behind the promise of parts"],
+            )
+        (self.root / "crates" / "maps").rename(self.root / "crates" / "members")
+        (self.root / "crates.txt").write_text("reader: image\nparts: image reader\nmembers: parts\n")
         self.assertEqual(checks.unfolded(self.root), [])
-        file.write_text("ghost use Rattle.image.specs.Types.{typeOf};\n")
-        self.assertEqual(
-            checks.unfolded(self.root),
-            ["crates/maps/src/lib.rt: names Rattle.image.specs.Types, which is behind the promise of parts"],
-        )
 
     def test_a_crate_without_a_log_fails(self):
         self.assertEqual(checks.verdicts(self.root), (0, ["maps: no log of its check"]))

@@ -22,9 +22,9 @@ use Rattle.survivors.specs.Runs.{itemOrdinal, itemMap, Holds}
 use Rattle.survivors.specs.declared.Found.{Found}
 use Rattle.survivors.specs.declared.Found.the-variants.{At}
 use Rattle.survivors.proofs.Runs.{message-holds, enum-holds, flags-holds, union-holds, variant-holds}
-use Rattle.lines.specs.Sites.{declarationOf, ScopeHere}
+use Rattle.details.specs.Details.{declarationOf, ScopeHere}
 use Rattle.lines.specs.Clauses.{fieldRenamed, fieldTypeChanged, fieldEncodingChanged, fieldDeprecated, declDeprecated, nonExhaustiveChanged, newtypeChanged}
-use Rattle.lines.specs.declared.Scope.{Scope}
+use Rattle.details.specs.declared.Scope.{Scope}
 use Rattle.lines.proofs.Clauses.{Reports, field-renamed, field-type-changed, field-encoding-changed, field-deprecated, decl-deprecated, non-exhaustive-changed, newtype-changed}
 use Rattle.items.specs.Pairs.{reading, BothAccepted, DeclPair, KindPair, ofPair, FieldPair}
 use Rattle.items.specs.Items.{OwnerHere, ItemsIn, fieldItems, unionItems, shape, rules, keptItems, keptAt, itemChanges}

@@ -12,7 +12,6 @@ use Rattle.image.specs.Schema.{Name, Encoding}
 use Rattle.parts.specs.Promise.{TypeHere, codingOf, limitOf}
 use Rattle.parts.specs.declared.Encoding.{Encoding as Coded}
 use Rattle.parts.specs.declared.Limit.{Limit}
-use Rattle.parts.specs.declared.Limit.the-variants.{Most, Unlimited}
 use Rattle.rules.specs.Equal.{sameOption, sameName}
 use Rattle.rules.specs.Types.{sameType}
 use Rattle.rules.specs.Changes.{Change, only}
@@ -59,11 +58,11 @@ names-differ e f g = cc
 -- ---- a mark that is gained
 
 module _ {was : Bool} (is : Bool) where
-  pub kept-mark : was ≡ true → (not was && is) ≡ false
-  kept-mark e = rw e
+  pub was-marked : was ≡ true → (not was && is) ≡ false
+  was-marked e = rw e
 
-  pub new-mark : was ≡ false → is ≡ (not was && is)
-  new-mark e = rw e
+  pub was-unmarked : was ≡ false → is ≡ (not was && is)
+  was-unmarked e = rw e
 
 pub same-marks : {a b c d : Bool} → a ≡ b → c ≡ d → (not a && c) ≡ (not b && d)
 same-marks e f = cc
@@ -74,22 +73,8 @@ marks-differ e f = cc
 
 -- ---- encodings and limits
 
-module _ {a b : Limit} where
-  pub limit-gone : {n : ℕ} → a ≡ Most n → b ≡ Unlimited → false ≡ sameOption eqb (limitOf a) (limitOf b)
-  unfolding sameOption limitOf
-  limit-gone e f = rw (e, f)
-
-  pub limit-came : {n : ℕ} → a ≡ Unlimited → b ≡ Most n → false ≡ sameOption eqb (limitOf a) (limitOf b)
-  unfolding sameOption limitOf
-  limit-came e f = rw (e, f)
-
-  pub no-limits : a ≡ Unlimited → b ≡ Unlimited → true ≡ sameOption eqb (limitOf a) (limitOf b)
-  unfolding sameOption limitOf
-  no-limits e f = rw (e, f)
-
-  pub both-limits : {m n : ℕ} → a ≡ Most m → b ≡ Most n → eqb m n ≡ sameOption eqb (limitOf a) (limitOf b)
-  unfolding sameOption limitOf
-  both-limits e f = rw (e, f)
+pub same-limits : {a b x y : Limit} → a ≡ x → b ≡ y → sameOption eqb (limitOf x) (limitOf y) ≡ sameOption eqb (limitOf a) (limitOf b)
+same-limits e f = rw (e, f)
 
 module _ (a b : Coded) {x y : Encoding} (e : codingOf a ≡ x) (f : codingOf b ≡ y) where
   pub other-deltas : (a .deltas ≡ b .deltas → ⊥) → (l : Bool) → false ≡ (sameEncoding x y && l)
@@ -101,6 +86,7 @@ module _ (a b : Coded) {x y : Encoding} (e : codingOf a ≡ x) (f : codingOf b �
     unfolding sameEncoding codingOf
     other-base n l = rw (← e, ← f, eq-eqb (a .deltas) (b .deltas) p, ne-eqb (a .base) (b .base) n)
 
-    pub same-base : a .base ≡ b .base → {l : Bool} {k n u v : Option ℕ} → k ≡ u → n ≡ v → l ≡ sameOption eqb k n → l ≡ (sameEncoding x y && sameOption eqb u v)
+    pub same-base : a .base ≡ b .base → {l : Bool} {k n u v : Option ℕ} → k ≡ u → n ≡ v → l ≡ sameOption eqb k n
+        → l ≡ (sameEncoding x y && sameOption eqb u v)
     unfolding sameEncoding codingOf
     same-base q g h r = rw (← e, ← f, eq-eqb (a .deltas) (b .deltas) p, eq-eqb (a .base) (b .base) q, ← g, ← h) r

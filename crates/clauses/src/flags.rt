@@ -3,7 +3,7 @@ use items::Items;
 use items::Owner;
 use items::Side;
 use items::walk::unmatched_items;
-use parts::items::decl_items;
+use members::items::decl_items;
 use tally::Tally;
 use text::Mode;
 ghost use Rattle.rules.specs.Clauses.{compareFlags};

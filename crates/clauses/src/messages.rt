@@ -1,10 +1,10 @@
 // 4. A message: its fields, then its own `FieldDeprecated`.
 use crate::fields::compare_field_sets;
 use crate::reporting::compare_deprecated;
-use lines::Scope;
+use details::Scope;
 use lines::sites::decl_deprecated;
+use members::items::decl_items;
 use parts::decls::deprecated;
-use parts::items::decl_items;
 use tally::Tally;
 use text::Mode;
 ghost use Rattle.rules.specs.Clauses.{compareMessages};

@@ -1,14 +1,14 @@
 // 7. Unions: shared ordinals compare fields, under the declaration's name, two colons and the old variant's name.
 use crate::fields::compare_field_sets;
+use details::Scope;
 use items::Items;
 use items::Owner;
 use items::Side;
 use items::walk::unmatched_items;
-use lines::Scope;
+use members::items::decl_items;
+use members::items::variant_items;
 use parts::Run;
 use parts::Shape;
-use parts::items::decl_items;
-use parts::items::variant_items;
 use survivors::Found;
 use survivors::Ordinal;
 use survivors::items::next_item;

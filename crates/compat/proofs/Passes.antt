@@ -18,7 +18,7 @@ use Rattle.tally.specs.declared.Tally.{Tally}
 use Rattle.tally.proofs.Running.{ready-start, ran-tally, ran-lines}
 use Rattle.lines.specs.Last.{resultAt, lastLineOf}
 use Rattle.lines.proofs.Lines.{last-line}
-use Rattle.lines.proofs.Writers.{space-as, puts-as}
+use Rattle.details.proofs.Writers.{space-as, puts-as}
 use Rattle.compat.specs.Verdicts.{ofTally, verdictIs, Passed}
 use Rattle.compat.specs.declared.verdicts.Verdict.{Verdict}
 

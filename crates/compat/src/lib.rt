@@ -1,12 +1,12 @@
 // Whether a new schema may be loaded where an old one runs: the verdict on two images and its report, for all bytes.
 pub mod verdicts;
 
+use crate::verdicts::Verdict;
 use checking::aliases::alias_pair;
 use checking::check;
-use crate::verdicts::Verdict;
-use image::Acceptance;
-use image::read_image;
 use lines::reporting::put_last_line;
+use reader::Acceptance;
+use reader::read_image;
 use text::Mode;
 ghost use mathlib.Core.Path.{_≡_};
 ghost use lib.ListN.{length};

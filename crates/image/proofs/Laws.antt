@@ -1,7 +1,7 @@
 -- What the proofs of the reader's functions cite, and the crates above may.
--- Answers: how one read follows another, and the public answer. Sure: what holds of every value that is read. Good: values that were
+-- Answers: how one read follows another. Sure: what holds of every value that is read. Good: values that were
 -- read, part by part. Repeats: so many of a kind.
--- Numbers, Names, Types, Fields, Bodies, Contents: each part of the format, case by case. Trees: well-formed labels and types.
+-- Numbers, Names, Types, Fields: each part of the format, case by case. Trees: well-formed labels and types.
 pub mod Answers
 pub mod Sure
 pub mod Good
@@ -11,5 +11,3 @@ pub mod Names
 pub mod Types
 pub mod Trees
 pub mod Fields
-pub mod Bodies
-pub mod Contents

@@ -1,7 +1,6 @@
 -- The image format, to be read beside document 01's section "Image reader" and its table of refusals.
 -- Schema: what an image holds. Parse: how one read follows another. Names, Types, Fields, Bodies, Image: the format, from the inside out.
--- WellFormed: the values of what was accepted. Answer: what the code's answers say of these. Words: the word of each kind.
--- Refusals: the table's "Given exactly if", apart from the reader. Writer: the format from the other side. Limits: the schemas that it holds.
+-- WellFormed: the values of what was accepted. Reads: what the answers of the code's reads say of these. Words: the word of each kind.
 pub mod Schema
 pub mod Parse
 pub mod Names
@@ -10,8 +9,5 @@ pub mod Fields
 pub mod Bodies
 pub mod Image
 pub mod WellFormed
-pub mod Answer
+pub mod Reads
 pub mod Words
-pub mod Refusals
-pub mod Writer
-pub mod Limits

@@ -8,10 +8,10 @@ use crate::types::read_type_at;
 ghost use mathlib.Core.Path.{_≡_};
 ghost use Rattle.image.specs.Parse.{counted};
 ghost use Rattle.image.specs.Fields.{marksAt, encodingAt, limitAt, fieldAt, bareAt, variantAt};
-ghost use Rattle.image.specs.Answer.{skip};
+ghost use Rattle.image.specs.Reads.{skip};
 
 // Bit 0 deprecated, bit 1 non-exhaustive, others 0.
-pub(crate) fn read_marks(s: &[u8], at: usize) -> Read
+pub fn read_marks(s: &[u8], at: usize) -> Read
     ensures { λ r. ⌜ r ≡ skip (marksAt (now (s .entry)) at) ⌝ }
 {
     read_code(s, at, 0, 3)
@@ -88,7 +88,7 @@ pub(crate) fn read_field(s: &[u8], at: usize) -> Read
 }
 
 // A count and as many fields.
-pub(crate) fn read_fields(s: &[u8], at: usize) -> Read
+pub fn read_fields(s: &[u8], at: usize) -> Read
     ensures { λ r. ⌜ r ≡ skip (counted fieldAt (now (s .entry)) at) ⌝ }
 {
     let count = read_number(s, at, 2);
@@ -109,7 +109,7 @@ pub(crate) fn read_fields(s: &[u8], at: usize) -> Read
 }
 
 // A count and as many variants of an enum or bits of flags.
-pub(crate) fn read_bares(s: &[u8], at: usize) -> Read
+pub fn read_bares(s: &[u8], at: usize) -> Read
     ensures { λ r. ⌜ r ≡ skip (counted bareAt (now (s .entry)) at) ⌝ }
 {
     let count = read_number(s, at, 2);
@@ -141,7 +141,7 @@ pub(crate) fn read_variant(s: &[u8], at: usize) -> Read
 }
 
 // A count and as many variants of a union.
-pub(crate) fn read_variants(s: &[u8], at: usize) -> Read
+pub fn read_variants(s: &[u8], at: usize) -> Read
     ensures { λ r. ⌜ r ≡ skip (counted variantAt (now (s .entry)) at) ⌝ }
 {
     let count = read_number(s, at, 2);

@@ -2,7 +2,7 @@
 use crate::Read;
 ghost use mathlib.Core.Path.{_≡_};
 ghost use Rattle.image.specs.Names.{nameByte, nameAt, namesAt};
-ghost use Rattle.image.specs.Answer.{skip};
+ghost use Rattle.image.specs.Reads.{skip};
 
 pub(crate) fn is_name_byte(b: u8) -> bool
     ensures { λ r. ⌜ r ≡ nameByte b ⌝ }
@@ -23,7 +23,7 @@ pub(crate) fn is_name_byte(b: u8) -> bool
 }
 
 // The length is judged before the bytes. short is the refusal where the list ends before the name does.
-pub(crate) fn read_name(s: &[u8], at: usize, short: u8) -> Read
+pub fn read_name(s: &[u8], at: usize, short: u8) -> Read
     ensures { λ r. ⌜ r ≡ skip (nameAt short (now (s .entry)) at) ⌝ }
 {
     if s.len() <= at {
@@ -46,7 +46,7 @@ pub(crate) fn read_name(s: &[u8], at: usize, short: u8) -> Read
 }
 
 // So many names, one after the other.
-pub(crate) fn read_names(s: &[u8], at: usize, count: usize, short: u8) -> Read
+pub fn read_names(s: &[u8], at: usize, count: usize, short: u8) -> Read
     ensures { λ r. ⌜ r ≡ skip (namesAt short count (now (s .entry)) at) ⌝ }
 {
     let mut next = at;

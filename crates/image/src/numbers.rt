@@ -4,9 +4,9 @@ ghost use mathlib.Core.Path.{_≡_};
 ghost use Prim.Native.Nat.{_+_, _^_, _≤_, _<_};
 ghost use lib.ListN.{length, drop};
 ghost use Rattle.image.specs.Parse.{byteAt, codeAt, numberAt, littleEndian};
-ghost use Rattle.image.specs.Answer.{skip};
+ghost use Rattle.image.specs.Reads.{skip};
 
-pub(crate) fn read_byte(s: &[u8], at: usize) -> Read
+pub fn read_byte(s: &[u8], at: usize) -> Read
     ensures { λ r. ⌜ r ≡ skip (byteAt 8 (now (s .entry)) at) ⌝ }
 {
     if s.len() <= at {

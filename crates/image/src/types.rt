@@ -8,7 +8,7 @@ ghost use mathlib.Core.Path.{_≡_};
 ghost use Prim.Native.Nat.{_≤_};
 ghost use lib.ListN.{length};
 ghost use Rattle.image.specs.Types.{subByte, bits, afterTag, labelOf, innerTypes, typeOf, typeAt};
-ghost use Rattle.image.specs.Answer.{skip};
+ghost use Rattle.image.specs.Reads.{skip};
 
 // Whether a sub-byte is signed, and its bits.
 fn read_sub_byte(s: &[u8], at: usize) -> Read
@@ -108,7 +108,7 @@ pub(crate) fn read_type(s: &[u8], left: usize) -> Read
 }
 
 // A whole type, at a position of a body.
-pub(crate) fn read_type_at(s: &[u8], at: usize) -> Read
+pub fn read_type_at(s: &[u8], at: usize) -> Read
     requires { ⌜ at ≤ length (now s) ⌝ }
     ensures { λ r. ⌜ r ≡ skip (typeAt (now (s .entry)) at) ⌝ }
 {

@@ -10,9 +10,9 @@ use Rattle.parts.specs.declared.Run.{Run}
 use Rattle.rules.specs.Changes.{Change, level}
 use Rattle.rules.specs.Clauses.{fieldRules, enumBump, enumRules, flagsRules, unionRules}
 use Rattle.survivors.specs.Runs.{itemOrdinal, itemMap, itemsOf}
-use Rattle.lines.specs.Sites.{declarationOf, ScopeHere}
+use Rattle.details.specs.Details.{declarationOf, ScopeHere}
 use Rattle.lines.specs.Clauses.{fieldRemoved, fieldAdded, variantRemoved, variantAdded, bitRemoved, bitAdded}
-use Rattle.lines.specs.declared.Scope.{Scope}
+use Rattle.details.specs.declared.Scope.{Scope}
 use Rattle.lines.specs.declared.Site.{Site}
 use Rattle.items.specs.Pairs.{reading, BothAccepted}
 use Rattle.items.specs.Sides.{on, off}

@@ -8,8 +8,8 @@ use Rattle.parts.specs.declared.Shape.{Shape}
 use Rattle.rules.specs.Types.{sameType}
 use Rattle.rules.specs.Changes.{Change}
 use Rattle.rules.specs.Clauses.{Reader, reader}
-use Rattle.lines.specs.Sites.{ScopeHere}
-use Rattle.lines.specs.declared.Scope.{Scope}
+use Rattle.details.specs.Details.{ScopeHere}
+use Rattle.details.specs.declared.Scope.{Scope}
 
 -- types are read as document 01 says, each with its own image's registry
 abbrev pub reading : List ℕ → List ℕ → Reader

@@ -4,7 +4,7 @@ pub mod sides;
 mod sites;
 pub mod walk;
 
-use lines::Scope;
+use details::Scope;
 use parts::Run;
 
 pub enum Side {

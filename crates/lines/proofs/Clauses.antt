@@ -22,10 +22,11 @@ use Rattle.text.specs.declared.Mode.{Mode}
 use Rattle.tally.specs.Reporting.{Ready, Ran}
 use Rattle.tally.specs.declared.Tally.{Tally}
 use Rattle.tally.proofs.Running.{ran-none}
-use Rattle.lines.specs.Sites.{bumpAt, declarationOf, itemOf, wordText, itemText, newtypeText, fieldNameText, fieldOrdinalText, subjectText, verbText, valueText, valuesText, detailText, changeOf, ScopeHere, ItemOfHere, SubjectHere, ValueHere, ValuesHere, DetailHere, SiteHere}
+use Rattle.lines.specs.Sites.{bumpAt, changeOf, SiteHere}
+use Rattle.details.specs.Details.{declarationOf, itemOf, wordText, itemText, newtypeText, fieldNameText, fieldOrdinalText, subjectText, verbText, valueText, valuesText, detailText, ScopeHere, ItemOfHere, SubjectHere, ValueHere, ValuesHere, DetailHere}
 use Rattle.lines.specs.Clauses.{namespaceChanged, declRemoved, declAdded, kindChanged, fieldRemoved, fieldAdded, fieldRenamed, fieldTypeChanged, fieldEncodingChanged, fieldDeprecated, declDeprecated, nonExhaustiveChanged, variantRemoved, variantAdded, bitRemoved, bitAdded, newtypeChanged}
-use Rattle.lines.specs.declared.Scope.{Scope}
-use Rattle.lines.specs.declared.Word.{Word}
+use Rattle.details.specs.declared.Scope.{Scope}
+use Rattle.details.specs.declared.Word.{Word}
 use Rattle.lines.specs.declared.Site.{Site}
 
 -- a clause reports the change of a site if a test passes, and nothing else

@@ -1,13 +1,13 @@
 -- A site for each change that a clause reports, by clause; i and j are places in the old and in the new image. Assumes nothing.
 use Prim.Native.Nat.{ℕ}
 use Rattle.rules.specs.Changes.{FieldAdded, FieldRemoved, FieldTypeChanged, FieldRenamed, FieldDeprecated, FieldEncodingChanged, VariantAdded, VariantRemoved, DeclarationAdded, DeclarationRemoved, DeclarationKindChanged, NamespaceChanged, NonExhaustiveChanged, FlagsBitAdded, FlagsBitRemoved}
-use Rattle.lines.specs.declared.Scope.{Scope}
-use Rattle.lines.specs.declared.Item.{Item}
-use Rattle.lines.specs.declared.Word.{Word}
-use Rattle.lines.specs.declared.Subject.{Subject}
-use Rattle.lines.specs.declared.Verb.{Verb}
-use Rattle.lines.specs.declared.Value.{Value}
-use Rattle.lines.specs.declared.Values.{Values}
+use Rattle.details.specs.declared.Scope.{Scope}
+use Rattle.details.specs.declared.Item.{Item}
+use Rattle.details.specs.declared.Word.{Word}
+use Rattle.details.specs.declared.Subject.{Subject}
+use Rattle.details.specs.declared.Verb.{Verb}
+use Rattle.details.specs.declared.Value.{Value}
+use Rattle.details.specs.declared.Values.{Values}
 use Rattle.lines.specs.declared.Site.{Site}
 
 -- of a kind and a level

@@ -1,11 +1,11 @@
 // The lines of a report: a change is counted and its line measured or written after the lines before it; the last line.
 use crate::Site;
-use crate::details::put_detail;
-use crate::names::put_declaration;
-use crate::names::put_field;
-use crate::words::BUMPS;
-use crate::words::RESULTS;
-use crate::words::put_word;
+use details::names::put_declaration;
+use details::names::put_field;
+use details::put_detail;
+use details::words::BUMPS;
+use details::words::RESULTS;
+use details::words::put_word;
 use tally::Bump;
 use tally::Tally;
 use text::Mode;

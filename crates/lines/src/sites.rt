@@ -1,14 +1,14 @@
 // A site for each change that a clause reports. i and j are places in the old and in the new image, t and u those of types in them; `decl`
 // is the place of a body in the old image.
-use crate::Detail;
-use crate::Item;
-use crate::Scope;
 use crate::Site;
-use crate::Subject;
-use crate::Value;
-use crate::Values;
-use crate::Verb;
-use crate::Word;
+use details::Detail;
+use details::Item;
+use details::Scope;
+use details::Subject;
+use details::Value;
+use details::Values;
+use details::Verb;
+use details::Word;
 use tally::Bump;
 ghost use mathlib.Core.Path.{_≡_};
 ghost use Rattle.lines.specs.Clauses.{namespaceChanged, declRemoved, declAdded, kindChanged, fieldRemoved, fieldAdded, fieldRenamed, fieldTypeChanged, fieldEncodingChanged, fieldDeprecated, declDeprecated, nonExhaustiveChanged, variantRemoved, variantAdded, bitRemoved, bitAdded, newtypeChanged};

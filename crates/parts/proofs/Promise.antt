@@ -10,9 +10,10 @@ use lib.ListN.{getD}
 use Rattle.image.specs.Schema.{Schema}
 use Rattle.image.specs.Parse.{Parsed, ok, no}
 use Rattle.image.specs.Image.{readImage}
-use Rattle.image.specs.Answer.{acceptance, numberOf, refusal, Answers}
+use Rattle.image.specs.Reads.{refusal}
 use Rattle.image.specs.WellFormed.{Good, valueOr}
-use Rattle.image.specs.declared.Acceptance.{Acceptance}
+use Rattle.reader.specs.Answer.{acceptance, numberOf, Answers}
+use Rattle.reader.specs.declared.Acceptance.{Acceptance}
 use Rattle.parts.specs.Promise.{Accepted, schemaOf, nameEnd, namePlaces, itemEnd, placesFrom, DeclHere, declIn, declOf, EntryHere, Resolved}
 use Rattle.parts.specs.declared.Shape.{Shape}
 use Rattle.parts.specs.declared.Entry.{Entry}

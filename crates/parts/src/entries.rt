@@ -12,7 +12,7 @@ pub fn entry_count(image: &[u8]) -> usize
     requires { ⌜ Accepted (now image) ⌝ }
     ensures { λ r. ⌜ r ≡ length (schemaOf (now (image .entry)) .registry) ⌝ }
 {
-    image::contents::entry_count(image)
+    reader::contents::entry_count(image)
 }
 
 // How many declaration ids are listed.
@@ -20,7 +20,7 @@ pub fn id_count(image: &[u8]) -> usize
     requires { ⌜ Accepted (now image) ⌝ }
     ensures { λ r. ⌜ r ≡ length (schemaOf (now (image .entry)) .ids) ⌝ }
 {
-    image::contents::id_count(image)
+    reader::contents::id_count(image)
 }
 
 // The k-th declaration id.
@@ -28,7 +28,7 @@ pub fn id_at(image: &[u8], k: usize) -> u32
     requires { ⌜ Accepted (now image) × (k < length (schemaOf (now image) .ids)) ⌝ }
     ensures { λ r. ⌜ r ≡ getD (schemaOf (now (image .entry)) .ids) k 0 ⌝ }
 {
-    let ids = 8 + 4 * image::contents::entry_count(image);
+    let ids = 8 + 4 * reader::contents::entry_count(image);
     u32_at(image, ids + 4 * k)
 }
 
@@ -38,13 +38,13 @@ pub fn entry(image: &[u8], id: u32) -> Entry
     ensures { λ r. ⌜ Resolved (now (image .entry)) id r ⌝ }
 {
     let i = id as usize;
-    if image::contents::entry_count(image) <= i {
+    if reader::contents::entry_count(image) <= i {
         return Entry::Unresolvable;
     }
-    if image::contents::entry_length(image, i) == 0 {
+    if reader::contents::entry_length(image, i) == 0 {
         return Entry::Unresolvable;
     }
-    Entry::Body(image::contents::entry_offset(image, i))
+    Entry::Body(reader::contents::entry_offset(image, i))
 }
 
 // The namespace's names.
@@ -52,10 +52,10 @@ pub fn segments(image: &[u8]) -> Run
     requires { ⌜ Accepted (now image) ⌝ }
     ensures { λ r. ⌜ r ≡ segmentsIn (now (image .entry)) ⌝ }
 {
-    let n = image::contents::entry_count(image);
-    let m = image::contents::id_count(image);
+    let n = reader::contents::entry_count(image);
+    let m = reader::contents::id_count(image);
     Run {
         start: 8 + 4 * n + 4 * m,
-        count: image::contents::segment_count(image),
+        count: reader::contents::segment_count(image),
     }
 }

@@ -1,12 +1,10 @@
-// The parts of an accepted image: the entry of an id, and what stands in its declaration, down to the names and the types. Each accessor
-// takes the image and a place in it, which the promise (specs/Promise.antt, proofs/Promise.antt) shows to be well formed, and reads no
-// more than it must: nothing is validated again.
+// The parts of an accepted image: the entry of an id, and what stands in its declaration, down to the names and the types. Its items are
+// read by the crate `members`. Each accessor takes the image and a place in it, which the promise (specs/Promise.antt, proofs/Promise.antt)
+// shows to be well formed, and reads no more than it must: nothing is validated again.
 pub mod decls;
 pub mod entries;
-pub mod fields;
-pub mod items;
 pub mod names;
-mod numbers;
+pub mod numbers;
 pub mod types;
 
 // What an id stands for: a declaration whose body starts at a place, or nothing.

@@ -10,8 +10,8 @@ use counting::Tally;
 use counting::compared;
 use counting::more;
 use file::Number;
-use image::Acceptance;
 use libc::STDOUT_FILENO;
+use reader::Acceptance;
 
 // The largest image that the file may hold.
 const IMAGE_ROOM: usize = 40960;
@@ -20,7 +20,7 @@ const COUNTS: usize = 64;
 
 // The number that the reader gives an image: 0, or its refusal.
 fn number_of(bytes: &[u8]) -> usize {
-    let answer = image::read_image(bytes);
+    let answer = reader::read_image(bytes);
     match answer {
         Acceptance::Accepted => 0,
         Acceptance::Rejected(k) => file::wide(k),

@@ -9,7 +9,7 @@ use lib.Seq.{getD-append-add}
 use Rattle.image.specs.Schema.{Schema}
 use Rattle.image.specs.Parse.{Parsed, ok, no}
 use Rattle.image.specs.Image.{readImage}
-use Rattle.image.proofs.Theorems.Refusals.{only-ten}
+use Rattle.refusals.proofs.Refusals.{only-ten}
 use Rattle.rules.specs.Survivors.{View}
 use Rattle.rules.specs.Types.{Reading}
 use Rattle.rules.specs.Changes.{Change, kindCount}

@@ -2,10 +2,10 @@
 // size, so both searches pass from the front.
 use crate::Found;
 use crate::Ordinal;
+use members::items::item_end;
+use members::items::ordinal_at;
 use parts::Run;
 use parts::Shape;
-use parts::items::item_end;
-use parts::items::ordinal_at;
 ghost use mathlib.Core.Path.{_≡_};
 ghost use lib.Dec.{ltb};
 ghost use Rattle.maps.specs.Walk.{past, better, next};

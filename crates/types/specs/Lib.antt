@@ -1,9 +1,6 @@
--- Names: the names that stand one after the other in an image. Words: words by their number, in one text. Nodes: a type by the number of
--- its inner types. Resolved: what stands at a place, with names in the place of ids. Equality: what the comparison of two types answers.
--- Display: what the writer of a type answers.
+-- Names: the names that stand one after the other in an image. Nodes: a type by the number of its inner types. Resolved: what stands at a
+-- place, with names in the place of ids. Equality: what the comparison of two types answers.
 pub mod Names
-pub mod Words
 pub mod Nodes
 pub mod Resolved
 pub mod Equality
-pub mod Display

@@ -1,8 +1,5 @@
-// Types at places of accepted images: whether two are equal, and how a type, an encoding and a namespace are shown.
-pub mod display;
-pub mod encodings;
+// Types at places of accepted images, and the names in them and in namespaces: whether two are equal.
 pub mod equal;
 pub mod names;
 pub mod namespaces;
-mod nodes;
-mod words;
+pub mod nodes;

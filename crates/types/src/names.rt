@@ -1,14 +1,9 @@
-// Names: whether two are equal, whether two lists of them are, and how a list is shown.
+// Names: whether two are equal, and whether two lists of them are.
 use parts::Run;
 use parts::names::name_at;
 use parts::names::name_end;
-use text::Mode;
-use text::put_text;
 ghost use mathlib.Core.Path.{_≡_};
-ghost use lib.ListN.{length};
 ghost use Rattle.rules.specs.Equal.{sameName, sameNames};
-ghost use Rattle.rules.specs.Text.{joined};
-ghost use Rattle.text.specs.Text.{Space, Puts};
 ghost use Rattle.types.specs.Names.{NamesIn, namesIn};
 
 pub fn same_name(a: &[u8], b: &[u8]) -> bool
@@ -47,31 +42,4 @@ pub fn same_names(a: &[u8], old: Run, b: &[u8], new: Run) -> bool
         left -= 1;
     }
     true
-}
-
-// The names of a run, with a text between each two.
-pub fn names_display(
-    mode: Mode,
-    image: &[u8],
-    out: &mut [u8],
-    at: usize,
-    run: Run,
-    between: &[u8],
-) -> usize
-    requires { ⌜ NamesIn (now image) run × Space mode (now out) at (length (joined (now between) (namesIn (now image) run))) ⌝ }
-    ensures { λ r. ⌜ Puts mode (now (out .entry)) at (joined (now (between .entry)) (namesIn (now (image .entry)) run)) r (now (out .exit)) ⌝ }
-{
-    let mut done = at;
-    let mut next = run.start;
-    let mut left = run.count;
-    while 1 < left {
-        done = put_text(mode, out, done, name_at(image, next));
-        done = put_text(mode, out, done, between);
-        next = name_end(image, next);
-        left -= 1;
-    }
-    if left == 0 {
-        return done;
-    }
-    put_text(mode, out, done, name_at(image, next))
 }

@@ -11,7 +11,7 @@ use Rattle.image.specs.Parse.{Parsed, ok, no, bind, pick, codeAt, number
 use Rattle.image.specs.Names.{nameAt}
 use Rattle.image.specs.Types.{typeAt}
 use Rattle.image.specs.Fields.{marksAt, delta, encodingOf, encodingAt, limitAt, fieldAt, bareAt, variantAt}
-use Rattle.image.specs.Answer.{skip}
+use Rattle.image.specs.Reads.{skip}
 use Rattle.image.specs.declared.Read.{Read}
 use Rattle.image.specs.declared.Read.the-variants.{At, Refused}
 use Rattle.image.proofs.Laws.Answers.{got, next, stop, skip-ok}

@@ -11,7 +11,7 @@ use lib.ListN.{length, getD, take, drop}
 use lib.Seq.{drop-cons}
 use Rattle.image.specs.Parse.{bind, pick, part, byteAt}
 use Rattle.image.specs.Names.{nameByte, nameBytes, nameAt}
-use Rattle.image.specs.Answer.{skip}
+use Rattle.image.specs.Reads.{skip}
 use Rattle.image.specs.declared.Read.the-variants.{At, Refused}
 
 -- the length is past the end; the bytes run past the end; one is not allowed; all are

@@ -9,7 +9,7 @@ use borrow.Author.Tests.{le-leb, lt-leb, lt-ltb, le-ltb}
 use lib.ListN.{length, getD, drop}
 use lib.Seq.{drop-drop, getD-drop}
 use Rattle.image.specs.Parse.{Parsed, ok, bind, pick, littleEndian, byteAt, codeAt, numberAt}
-use Rattle.image.specs.Answer.{skip}
+use Rattle.image.specs.Reads.{skip}
 use Rattle.image.specs.declared.Read.{Read}
 use Rattle.image.specs.declared.Read.the-variants.{At, Refused}
 use Rattle.image.proofs.Laws.Sure.{sure-at, byte-sure, code-sure, number-sure}

@@ -7,7 +7,7 @@ use native.Mathlib.Omega.{arith}
 use native.Mathlib.Numerals.{sub-one}
 use lib.ListN.{drop}
 use Rattle.image.specs.Parse.{Parsed, littleEndian, numberAt, many, counted}
-use Rattle.image.specs.Answer.{skip}
+use Rattle.image.specs.Reads.{skip}
 use Rattle.image.specs.declared.Read.{Read}
 use Rattle.image.specs.declared.Read.the-variants.{At, Refused}
 use Rattle.image.proofs.Laws.Answers.{got, next, next-is, stop, skip-ok}

@@ -13,7 +13,7 @@ use Rattle.image.specs.Parse.{Parsed, ok, no, bind, pick, shift, within,
 use Rattle.image.specs.Names.{nameBytes, nameAt, namesAt}
 use Rattle.image.specs.Types.{Follows, code, subByte, identity, size, nothing, bits, unknown, followsTag, innerTypes, afterTag, labelOf, innerAt, typeOf, typeAt}
 use Rattle.image.specs.Fields.{marksAt, encodingOf, encodingAt, limitAt, fieldAt, bareAt, variantAt}
-use Rattle.image.specs.Answer.{skip}
+use Rattle.image.specs.Reads.{skip}
 use Rattle.image.specs.declared.Read.{Read}
 use Rattle.image.specs.declared.Read.the-variants.{At}
 use Rattle.image.proofs.Laws.Answers.{apart}

@@ -13,7 +13,7 @@ use Rattle.image.specs.Schema.{Label, Ty}
 use Rattle.image.specs.Parse.{Parsed, bind, within, byteAt}
 use Rattle.image.specs.Names.{namesAt}
 use Rattle.image.specs.Types.{Follows, nothing, bits, unknown, followsTag, innerTypes, afterTag, labelOf, innerAt, typeOf}
-use Rattle.image.specs.Answer.{skip}
+use Rattle.image.specs.Reads.{skip}
 use Rattle.image.specs.declared.Read.{Read}
 use Rattle.image.specs.declared.Read.the-variants.{At, Refused}
 use Rattle.image.proofs.Laws.Answers.{got, next, next-is, stop, skip-ok, within-at, within-no}

@@ -12,7 +12,7 @@ use Rattle.image.specs.Names.{nameAt, namesAt}
 use Rattle.image.specs.Types.{Follows, code, subByte, identity, size, nothing, bits, unknown, followsTag, innerTypes, afterTag, labelOf, innerAt, typeOf, typeAt}
 use Rattle.image.specs.WellFormed.{Good, endOf}
 use Rattle.image.specs.WellFormed.{labelIn as firstLabel}
-use Rattle.image.specs.Answer.{skip}
+use Rattle.image.specs.Reads.{skip}
 use Rattle.image.proofs.Laws.Answers.{apart}
 use Rattle.image.proofs.Laws.Sure.{Sure, sure-ok, sure-no, sure-bind, sure-then, byte-sure, code-sure, number-sure, name-sure}
 use Rattle.image.proofs.Laws.Good.{sure-good, good-first, bind-is, many-first, many-rest, many-end}

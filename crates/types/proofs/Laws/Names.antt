@@ -1,4 +1,4 @@
--- The names of a run, one at a time: as they are compared with those of another run, and as they are shown. Assumes nothing.
+-- The names of a run, one at a time, as they are compared with those of another run; and those of a namespace. Assumes nothing.
 use mathlib.Core.Path.{_≡_, refl, sym, ap, _∙_}
 use mathlib.Core.Bool.{Bool, true, false}
 use mathlib.Core.List.{List, [], _∷_, map}
@@ -8,15 +8,11 @@ use native.Mathlib.Numerals.{sub-one}
 use lib.ListN.{length, getD}
 use lib.Seq.{ext-getD}
 use Rattle.image.specs.Schema.{Name}
-use Rattle.parts.specs.Promise.{NameHere, nameIn, nameEnd}
-use Rattle.parts.proofs.Promise.{names-first, names-rest, name-places-none, name-places-more}
+use Rattle.parts.specs.Promise.{Accepted, schemaOf, NameHere, nameIn, nameEnd, segmentsIn}
+use Rattle.parts.proofs.Promise.{names-first, names-rest, name-places-none, name-places-more, segments-listed}
 use Rattle.parts.specs.declared.Run.{Run}
 use Rattle.rules.specs.Equal.{sameList, sameName, sameNames, Sound}
-use Rattle.rules.specs.Text.{joined}
 use Rattle.rules.proofs.Equal.{names, nameLists}
-use Rattle.text.specs.Text.{Space}
-use Rattle.text.specs.declared.Mode.{Mode}
-use Rattle.text.proofs.Pieces.{together, Owes, owes-start}
 use Rattle.types.specs.Names.{run, NamesIn, namesIn}
 
 -- a sound test says no of different things
@@ -81,23 +77,13 @@ module _ (s : List ℕ) (i : ℕ) (t : List ℕ) (j c : ℕ) (l : 0 < c) {x y : 
   unfolding sameNames sameList
   first-same f k h = rw (names-more s i c l, names-more t j c l, ← p, ← q, ← e, f, k, h)
 
--- ---- with a text between each two
+-- ---- namespaces
 
--- a text as one piece
-pub owes-whole : {m : Mode} {d : List ℕ} {at : ℕ} {xs : List ℕ} → Space m d at (length xs) → Owes m d at xs at d (xs ∷ [])
-unfolding together
-owes-whole s = owes-start refl s
+module _ (s : List ℕ) (a : Accepted s) {r : Run} (e : r ≡ segmentsIn s) where
+  pub segments-in : NamesIn s r
+  unfolding NamesIn
+  segments-in = rw e (λ _. segments-listed s a .here)
 
-pub joined-none : (s : List ℕ) (at c : ℕ) (b : List ℕ) → c ≡ 0 → together (joined b (namesIn s (run at c)) ∷ []) ≡ together []
-unfolding joined together
-joined-none s at c b e = rw (names-none s at c e)
-
-pub joined-one : (s : List ℕ) (at c : ℕ) (b : List ℕ) → c ≡ 1 → {x : Name} → x ≡ nameIn s at → together (joined b (namesIn s (run at c)) ∷ []) ≡ together (x ∷ [])
-unfolding joined together
-joined-one s at c b l e = rw (e, names-more s at c (omega arith), names-none s (nameEnd s at) (c - 1) (omega arith))
-
-pub joined-more : (s : List ℕ) (at c : ℕ) (b : List ℕ) → 1 < c → {x : Name} → x ≡ nameIn s at → {n : ℕ} → n ≡ nameEnd s at
-    → together (joined b (namesIn s (run at c)) ∷ []) ≡ together (x ∷ b ∷ joined b (namesIn s (run n (c - 1))) ∷ [])
-unfolding joined together
-joined-more s at c b l e k =
-    rw (e, k, names-more s at c (omega arith), names-more s (nameEnd s at) (c - 1) (omega arith))
+  pub segment-names : schemaOf s .namespace ≡ namesIn s r
+  unfolding namesIn
+  segment-names = rw e (segments-listed s a .are)

@@ -8,7 +8,7 @@ use Rattle.parts.specs.Promise.{fieldIn}
 use Rattle.rules.specs.Clauses.{compareFields}
 use Rattle.tally.specs.declared.Tally.{Tally}
 use Rattle.tally.proofs.Running.{Owed, owed-start, owed-room, owed-next, owed-end, ran-length}
-use Rattle.lines.specs.Sites.{declarationOf}
+use Rattle.details.specs.Details.{declarationOf}
 use Rattle.lines.specs.Clauses.{fieldTypeChanged}
 use Rattle.items.specs.Pairs.{reading}
 use Rattle.clauses.proofs.Tests.{test-asks, test-ran, types-ask, types-ran, names-differ, same-marks}

@@ -4,7 +4,7 @@ use Rattle.parts.specs.Promise.{fieldIn}
 use Rattle.rules.specs.Clauses.{compareFields}
 use Rattle.text.proofs.Pieces.{together}
 use Rattle.tally.proofs.Running.{Owed, owed-start, owed-room, owed-next, owed-end, ran-none}
-use Rattle.lines.specs.Sites.{declarationOf}
+use Rattle.details.specs.Details.{declarationOf}
 use Rattle.items.specs.Pairs.{reading}
 use Rattle.items.specs.Items.{fieldItems, keptAt}
 use Rattle.items.proofs.Standing.{kept-none-old, kept-none-new}

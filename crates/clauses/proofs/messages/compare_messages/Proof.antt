@@ -5,7 +5,7 @@ use lib.ListN.{drop}
 use Rattle.rules.specs.Clauses.{compareMessages}
 use Rattle.tally.specs.declared.Tally.{Tally}
 use Rattle.tally.proofs.Running.{Owed, owed-start, owed-room, owed-next, owed-end}
-use Rattle.lines.specs.declared.Scope.{Scope}
+use Rattle.details.specs.declared.Scope.{Scope}
 use Rattle.items.specs.Pairs.{ofPair}
 use Rattle.items.specs.Items.{fieldItems}
 use Rattle.items.specs.declared.Items.{Items}

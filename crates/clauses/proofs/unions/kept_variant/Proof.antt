@@ -3,7 +3,7 @@ use mathlib.Core.List.{List, [], _∷_}
 use Rattle.rules.specs.Changes.{Change}
 use Rattle.text.proofs.Pieces.{together}
 use Rattle.tally.proofs.Running.{Owed, owed-start, owed-room, owed-next, owed-end, ran-none}
-use Rattle.lines.specs.declared.Scope.{Scope}
+use Rattle.details.specs.declared.Scope.{Scope}
 use Rattle.items.specs.Items.{fieldItems, unionItems, keptAt, itemChanges}
 use Rattle.items.specs.declared.Items.{Items}
 use Rattle.items.proofs.Standing.{kept-none-old, kept-none-new}

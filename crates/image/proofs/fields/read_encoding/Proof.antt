@@ -6,7 +6,7 @@ use native.Mathlib.Omega.{arith}
 use denote.Ref.{now}
 use Rattle.image.specs.Parse.{codeAt}
 use Rattle.image.specs.Fields.{encodingOf, encodingAt}
-use Rattle.image.specs.Answer.{skip}
+use Rattle.image.specs.Reads.{skip}
 use Rattle.image.proofs.Laws.Numbers.{There, code-there}
 use Rattle.image.proofs.Laws.Fields.{encoding-stop, encoding-plain, encoding-ninth, encoding-more}
 use Rattle.image.proofs.fields.read_encoding.Statement.{statement}

@@ -5,7 +5,7 @@ use mathlib.Core.Path.{_≡_, refl, _∙_}
 use native.Mathlib.Omega.{arith}
 use Rattle.image.specs.Parse.{many, counted}
 use Rattle.image.specs.Fields.{variantAt}
-use Rattle.image.specs.Answer.{skip}
+use Rattle.image.specs.Reads.{skip}
 use Rattle.image.proofs.Laws.Numbers.{number-within}
 use Rattle.image.proofs.Laws.Repeats.{many-more, many-stop, many-none, counted-stop, counted-as}
 use Rattle.image.proofs.fields.read_variants.Statement.{statement}

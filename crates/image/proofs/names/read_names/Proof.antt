@@ -4,7 +4,7 @@ use borrow.Author.Needs.{needs}
 use mathlib.Core.Path.{_≡_, refl, _∙_}
 use native.Mathlib.Omega.{arith}
 use Rattle.image.specs.Names.{nameAt, namesAt}
-use Rattle.image.specs.Answer.{skip}
+use Rattle.image.specs.Reads.{skip}
 use Rattle.image.proofs.Laws.Repeats.{many-more, many-stop, many-none}
 use Rattle.image.proofs.names.read_names.Statement.{statement}
 use Rattle.image.proofs.names.read_names.Tie as tie

@@ -11,7 +11,7 @@ use borrow.Fn.Kinds.{In, Out}
 use borrow.Fn.PlainCycle.{Measures, is, falls, and}
 use Rattle.image.specs.Schema.{Label}
 use Rattle.image.specs.Types.{innerTypes, innerAt, typeOf}
-use Rattle.image.specs.Answer.{skip}
+use Rattle.image.specs.Reads.{skip}
 use Rattle.image.specs.declared.Read.{Read}
 use Rattle.image.proofs.Laws.Types.{from-start, type-deep, type-stop, type-label, label-within, inner-within, inner-none, inner-stop, inner-one, inner-two-stop, inner-two}
 use Rattle.image.proofs.types.read_type.Reads as read-type

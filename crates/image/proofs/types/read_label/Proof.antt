@@ -3,7 +3,7 @@
 use borrow.Author.Needs.{needs}
 use mathlib.Core.Path.{refl, sym, _∙_}
 use denote.Ref.{now}
-use Rattle.image.specs.Answer.{skip}
+use Rattle.image.specs.Reads.{skip}
 use Rattle.image.specs.Parse.{byteAt}
 use Rattle.image.specs.Types.{labelOf, afterTag, followsTag}
 use Rattle.image.proofs.Laws.Answers.{stop, skip-ok}

@@ -5,7 +5,7 @@ use native.Mathlib.Omega.{arith}
 use lib.ListN.{drop}
 use denote.Ref.{now}
 use Rattle.image.specs.Types.{typeOf, typeAt}
-use Rattle.image.specs.Answer.{skip}
+use Rattle.image.specs.Reads.{skip}
 use Rattle.image.proofs.Laws.Answers.{within-at, within-no}
 use Rattle.image.proofs.Laws.Types.{from-start, inner-within}
 use Rattle.image.proofs.types.read_type_at.Statement.{statement}

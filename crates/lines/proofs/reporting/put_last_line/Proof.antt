@@ -12,10 +12,11 @@ use Rattle.image.specs.Words.{bytes}
 use Rattle.text.specs.Decimal.{decimal}
 use Rattle.rules.specs.Report.{bumpWord, resultWord}
 use Rattle.tally.proofs.Lines.{linePieces, line-pieces}
-use Rattle.lines.specs.Words.{wordAt}
+use Rattle.details.specs.Words.{wordAt}
 use Rattle.lines.specs.Last.{resultAt, lastLineOf}
-use Rattle.lines.proofs.Table.{bump-word, result-word, result-most}
-use Rattle.lines.proofs.Writers.{space-as, puts-as}
+use Rattle.details.proofs.Table.{bump-word, result-word}
+use Rattle.lines.proofs.Lines.{result-most}
+use Rattle.details.proofs.Writers.{space-as, puts-as}
 use borrow.Author.Needs.{needs}
 use Rattle.lines.proofs.reporting.put_last_line.Statement.{statement}
 use Rattle.lines.proofs.reporting.put_last_line.Tie as tie

@@ -11,11 +11,12 @@ use native.Mathlib.Omega.{arith}
 use Rattle.image.specs.Words.{bytes}
 use Rattle.rules.specs.Report.{changeWord, bumpWord, fieldPart, changeLine}
 use Rattle.tally.proofs.Lines.{linePieces, line-pieces}
-use Rattle.lines.specs.Sites.{declarationOf, itemOf, detailText, changeOf}
-use Rattle.lines.proofs.Table.{change-word, bump-word}
+use Rattle.details.specs.Details.{declarationOf, itemOf, detailText}
+use Rattle.lines.specs.Sites.{changeOf}
+use Rattle.details.proofs.Table.{change-word, bump-word}
 use Rattle.lines.proofs.Lines.{site-line}
-use Rattle.lines.proofs.Writers.{space-as, puts-as}
-use Rattle.lines.proofs.Writers.{space-as, puts-as}
+use Rattle.details.proofs.Writers.{space-as, puts-as}
+use Rattle.details.proofs.Writers.{space-as, puts-as}
 use borrow.Author.Needs.{needs}
 use Rattle.lines.proofs.reporting.put_line.Statement.{statement}
 use Rattle.lines.proofs.reporting.put_line.Tie as tie

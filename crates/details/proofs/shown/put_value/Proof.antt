@@ -1,0 +1,142 @@
+-- `details::shown::put_value` meets its contract: in each arm the value is known. Assumes nothing.
+use mathlib.Core.Path.{_≡_, sym, ap, _∙_}
+use borrow.Author.Needs.{needs}
+use Rattle.rules.specs.Text.{boolWord, showEncoding}
+use Rattle.rules.specs.Changes.{quoted}
+use Rattle.details.specs.Details.{valueText, ValueHere}
+use Rattle.details.specs.declared.Value.{Value}
+use Rattle.details.proofs.Writers.{space-as, puts-as}
+use Rattle.details.proofs.shown.put_value.Statement.{statement}
+use Rattle.details.proofs.shown.put_value.Tie as tie
+
+-- the text, where the value is another
+abbrev same : (s : tie.Start) {p : Value} → s .args .value ≡ p → valueText (s .args .image .now) (s .args .value) ≡ valueText (s .args .image .now) p
+same s e = ap (λ x. valueText (s .args .image .now) x) e
+
+enum-known-value : tie.Need-enum-known-value
+enum-known-value c = search needs
+
+item-name-requires : tie.Need-item-name-requires
+unfolding ValueHere
+item-name-requires c κs = rw (c .before .before .value .given .1) at (c .before .before .before .before .before .before .pre .1)
+
+put-quoted-requires : tie.Need-put-quoted-requires
+unfolding valueText
+put-quoted-requires c κs = space-as (ap (quoted) (c .item-name .ensures) ∙ sym (same (c .before .before .before .before .before .before .before) (c .before .before .before .value .given .1))) (c .before .before .before .before .before .before .before .pre .2)
+
+enum-known-value-2 : tie.Need-enum-known-value-2
+enum-known-value-2 c = search needs
+
+put-kind-requires : tie.Need-put-kind-requires
+unfolding valueText ValueHere
+put-kind-requires c κs = (rw (c .before .before .value2 .given .1) at (c .before .before .before .before .before .before .pre .1), space-as (sym (same (c .before .before .before .before .before .before) (c .before .before .value2 .given .1))) (c .before .before .before .before .before .before .pre .2))
+
+enum-known-value-3 : tie.Need-enum-known-value-3
+enum-known-value-3 c = search needs
+
+non-exhaustive-requires : tie.Need-non-exhaustive-requires
+unfolding ValueHere
+non-exhaustive-requires c κs = rw (c .before .before .value3 .given .1) at (c .before .before .before .before .before .before .pre .1)
+
+put-bool-requires : tie.Need-put-bool-requires
+unfolding valueText
+put-bool-requires c κs = space-as (ap (boolWord) (c .non-exhaustive .ensures) ∙ sym (same (c .before .before .before .before .before .before .before) (c .before .before .before .value3 .given .1))) (c .before .before .before .before .before .before .before .pre .2)
+
+enum-known-value-4 : tie.Need-enum-known-value-4
+enum-known-value-4 c = search needs
+
+type-display-requires : tie.Need-type-display-requires
+unfolding valueText ValueHere
+type-display-requires c κs = (c .before .before .before .before .before .before .pre .0, rw (c .before .before .value4 .given .1) at (c .before .before .before .before .before .before .pre .1), space-as (sym (same (c .before .before .before .before .before .before) (c .before .before .value4 .given .1))) (c .before .before .before .before .before .before .pre .2))
+
+enum-known-value-5 : tie.Need-enum-known-value-5
+enum-known-value-5 c = search needs
+
+field-encoding-requires : tie.Need-field-encoding-requires
+unfolding ValueHere
+field-encoding-requires c κs = rw (c .before .before .value5 .given .1) at (c .before .before .before .before .before .before .pre .1)
+
+encoding-display-requires : tie.Need-encoding-display-requires
+unfolding valueText
+encoding-display-requires c κs = space-as (ap (showEncoding) (c .field-encoding .ensures) ∙ sym (same (c .before .before .before .before .before .before .before) (c .before .before .before .value5 .given .1))) (c .before .before .before .before .before .before .before .pre .2)
+
+enum-told : tie.Need-enum-told
+enum-told c = search needs
+
+put-namespace-requires : tie.Need-put-namespace-requires
+unfolding valueText
+put-namespace-requires c κs = (c .before .before .before .before .before .pre .0, space-as (sym (same (c .before .before .before .before .before) (c .before .enum-told .given .1))) (c .before .before .before .before .before .pre .2))
+
+same-length : tie.Need-same-length
+same-length c = search needs
+
+returns : tie.Need-returns
+unfolding valueText
+returns c = puts-as (ap (quoted) (c .before .before .before .item-name .ensures) ∙ sym (same (c .before .before .before .before .before .before .before .before .before .before) (c .before .before .before .before .before .before .value .given .1))) (c .before .before .put-quoted .ensures)
+
+same-length-2 : tie.Need-same-length-2
+same-length-2 c = search needs
+
+returns-2 : tie.Need-returns-2
+unfolding valueText
+returns-2 c = puts-as (sym (same (c .before .before .before .before .before .before .before .before .before) (c .before .before .before .before .before .value2 .given .1))) (c .before .before .put-kind .ensures)
+
+same-length-3 : tie.Need-same-length-3
+same-length-3 c = search needs
+
+returns-3 : tie.Need-returns-3
+unfolding valueText
+returns-3 c = puts-as (ap (boolWord) (c .before .before .before .non-exhaustive .ensures) ∙ sym (same (c .before .before .before .before .before .before .before .before .before .before) (c .before .before .before .before .before .before .value3 .given .1))) (c .before .before .put-bool .ensures)
+
+same-length-4 : tie.Need-same-length-4
+same-length-4 c = search needs
+
+returns-4 : tie.Need-returns-4
+unfolding valueText
+returns-4 c = puts-as (sym (same (c .before .before .before .before .before .before .before .before .before) (c .before .before .before .before .before .value4 .given .1))) (c .before .before .type-display .ensures)
+
+same-length-5 : tie.Need-same-length-5
+same-length-5 c = search needs
+
+returns-5 : tie.Need-returns-5
+unfolding valueText
+returns-5 c = puts-as (ap (showEncoding) (c .before .before .before .field-encoding .ensures) ∙ sym (same (c .before .before .before .before .before .before .before .before .before .before) (c .before .before .before .before .before .before .value5 .given .1))) (c .before .before .encoding-display .ensures)
+
+same-length-6 : tie.Need-same-length-6
+same-length-6 c = search needs
+
+returns-6 : tie.Need-returns-6
+unfolding valueText
+returns-6 c = puts-as (sym (same (c .before .before .before .before .before .before .before .before) (c .before .before .before .before .enum-told .given .1))) (c .before .before .put-namespace .ensures)
+
+pub put-value-spec : {M : Type 1} → statement M
+put-value-spec =
+    tie.close
+    (tie.spec
+    enum-known-value
+    item-name-requires
+    put-quoted-requires
+    enum-known-value-2
+    put-kind-requires
+    enum-known-value-3
+    non-exhaustive-requires
+    put-bool-requires
+    enum-known-value-4
+    type-display-requires
+    enum-known-value-5
+    field-encoding-requires
+    encoding-display-requires
+    enum-told
+    put-namespace-requires
+    same-length
+    returns
+    same-length-2
+    returns-2
+    same-length-3
+    returns-3
+    same-length-4
+    returns-4
+    same-length-5
+    returns-5
+    same-length-6
+    returns-6)

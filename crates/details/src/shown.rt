@@ -1,0 +1,101 @@
+// The values that a detail shows of the old and of the new image.
+use crate::Value;
+use crate::Values;
+use crate::names::put_quoted;
+use crate::words::DECLS;
+use crate::words::put_word;
+use display::encodings::encoding_display;
+use display::namespaces::namespace_display;
+use display::type_display;
+use members::fields::field_encoding;
+use members::items::item_name;
+use parts::decls::decl_kind;
+use parts::decls::non_exhaustive;
+use text::Mode;
+use text::put_byte;
+use text::put_text;
+ghost use lib.ListN.{length};
+ghost use Rattle.image.specs.Words.{kindWord};
+ghost use Rattle.parts.specs.Promise.{Accepted, schemaOf, DeclHere, declIn};
+ghost use Rattle.rules.specs.Text.{boolWord};
+ghost use Rattle.rules.specs.Changes.{fromTo};
+ghost use Rattle.rules.specs.Clauses.{showNamespace};
+ghost use Rattle.text.specs.Text.{Space, Puts};
+ghost use Rattle.details.specs.Details.{valueText, valuesText, ValueHere, ValuesHere};
+
+// The word of a declaration's kind.
+pub fn put_kind(mode: Mode, image: &[u8], out: &mut [u8], at: usize, decl: usize) -> usize
+    requires { ⌜ DeclHere (now image) decl × Space mode (now out) at (length (kindWord (declIn (now image) decl .kind))) ⌝ }
+    ensures { λ r. ⌜ Puts mode (now (out .entry)) at (kindWord (declIn (now (image .entry)) decl .kind)) r (now (out .exit)) ⌝ }
+{
+    let kind = decl_kind(image, decl) as usize;
+    put_word(mode, out, at, DECLS + kind)
+}
+
+fn put_bool(mode: Mode, out: &mut [u8], at: usize, value: bool) -> usize
+    requires { ⌜ Space mode (now out) at (length (boolWord value)) ⌝ }
+    ensures { λ r. ⌜ Puts mode (now (out .entry)) at (boolWord value) r (now (out .exit)) ⌝ }
+{
+    if value {
+        return put_text(mode, out, at, b"true");
+    }
+    put_text(mode, out, at, b"false")
+}
+
+fn put_namespace(mode: Mode, image: &[u8], out: &mut [u8], at: usize) -> usize
+    requires { ⌜ Accepted (now image) × Space mode (now out) at (length (showNamespace (schemaOf (now image) .namespace))) ⌝ }
+    ensures { λ r. ⌜ Puts mode (now (out .entry)) at (showNamespace (schemaOf (now (image .entry)) .namespace)) r (now (out .exit)) ⌝ }
+{
+    let at = put_byte(mode, out, at, b'\'');
+    let at = namespace_display(mode, image, out, at);
+    put_byte(mode, out, at, b'\'')
+}
+
+fn put_value(mode: Mode, image: &[u8], out: &mut [u8], at: usize, value: Value) -> usize
+    requires { ⌜ Accepted (now image) × ValueHere (now image) value × Space mode (now out) at (length (valueText (now image) value)) ⌝ }
+    ensures { λ r. ⌜ Puts mode (now (out .entry)) at (valueText (now (image .entry)) value) r (now (out .exit)) ⌝ }
+{
+    match value {
+        Value::Name(i) => put_quoted(mode, out, at, item_name(image, i)),
+        Value::Kind(decl) => put_kind(mode, image, out, at, decl),
+        Value::NonExhaustive(decl) => put_bool(mode, out, at, non_exhaustive(image, decl)),
+        Value::Type(t) => type_display(mode, image, out, at, t),
+        Value::Encoding(i) => encoding_display(mode, out, at, field_encoding(image, i)),
+        Value::Namespace => put_namespace(mode, image, out, at),
+    }
+}
+
+fn put_from_to(
+    mode: Mode,
+    old: &[u8],
+    new: &[u8],
+    out: &mut [u8],
+    at: usize,
+    a: Value,
+    b: Value,
+) -> usize
+    requires { ⌜ Accepted (now old) × Accepted (now new) × ValueHere (now old) a × ValueHere (now new) b × Space mode (now out) at (length (fromTo (valueText (now old) a) (valueText (now new) b))) ⌝ }
+    ensures { λ r. ⌜ Puts mode (now (out .entry)) at (fromTo (valueText (now (old .entry)) a) (valueText (now (new .entry)) b)) r (now (out .exit)) ⌝ }
+{
+    let at = put_text(mode, out, at, b" from ");
+    let at = put_value(mode, old, out, at, a);
+    let at = put_text(mode, out, at, b" to ");
+    put_value(mode, new, out, at, b)
+}
+
+pub fn put_values(
+    mode: Mode,
+    old: &[u8],
+    new: &[u8],
+    out: &mut [u8],
+    at: usize,
+    values: Values,
+) -> usize
+    requires { ⌜ Accepted (now old) × Accepted (now new) × ValuesHere (now old) (now new) values × Space mode (now out) at (length (valuesText (now old) (now new) values)) ⌝ }
+    ensures { λ r. ⌜ Puts mode (now (out .entry)) at (valuesText (now (old .entry)) (now (new .entry)) values) r (now (out .exit)) ⌝ }
+{
+    match values {
+        Values::Unsaid => at,
+        Values::FromTo(a, b) => put_from_to(mode, old, new, out, at, a, b),
+    }
+}

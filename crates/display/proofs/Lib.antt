@@ -1,0 +1,2 @@
+-- Laws: what the proofs of the functions rest on.
+pub mod Laws

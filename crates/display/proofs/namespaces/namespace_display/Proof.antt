@@ -1,0 +1,37 @@
+-- `display::namespaces::namespace_display` meets its contract. Assumes nothing.
+use borrow.Author.Needs.{needs}
+use mathlib.Core.Path.{ap}
+use Rattle.image.specs.Words.{bytes}
+use Rattle.rules.specs.Text.{joined}
+use Rattle.display.proofs.Laws.Texts.{space-for, puts-for}
+use Rattle.types.proofs.Laws.Names.{segments-in, segment-names}
+use borrow.Author.Needs.{needs}
+use Rattle.display.proofs.namespaces.namespace_display.Statement.{statement}
+use Rattle.display.proofs.namespaces.namespace_display.Tie as tie
+
+segments-requires : tie.Need-segments-requires
+segments-requires c κs = search needs
+
+slice-aggregate-names-display : tie.Need-slice-aggregate-names-display
+slice-aggregate-names-display c = search needs
+
+names-display-requires : tie.Need-names-display-requires
+unfolding bytes
+names-display-requires c κs = (segments-in _ (c .before .before .before .before .before .pre .0) (c .before .segments .ensures), space-for (ap (joined (bytes ".")) (segment-names _ (c .before .before .before .before .before .pre .0) (c .before .segments .ensures))) (c .before .before .before .before .before .pre .1))
+
+same-length : tie.Need-same-length
+same-length c = search needs
+
+returns : tie.Need-returns
+unfolding bytes
+returns c = puts-for (ap (joined (bytes ".")) (segment-names _ (c .before .before .before .before .before .before .before .before .pre .0) (c .before .before .before .before .segments .ensures))) (c .before .before .names-display .ensures)
+
+pub namespace-display-spec : {M : Type 1} → statement M
+namespace-display-spec =
+    tie.close
+    (tie.spec
+    segments-requires
+    slice-aggregate-names-display
+    names-display-requires
+    same-length
+    returns)

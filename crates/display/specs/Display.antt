@@ -1,0 +1,26 @@
+-- Texts, and what the writer of a type answers. Assumes nothing.
+use mathlib.Core.Path.{_≡_}
+use mathlib.Core.List.{List, [], _++_}
+use Prim.Native.Nat.{ℕ, zero, suc}
+use Rattle.image.specs.Schema.{Name}
+use Rattle.image.specs.Words.{bytes}
+use Rattle.parts.specs.Promise.{typeEnd}
+use Rattle.rules.specs.Text.{joined, showType}
+use Rattle.text.specs.Text.{Puts}
+use Rattle.text.specs.declared.Mode.{Mode}
+use Rattle.types.specs.Resolved.{typeIn}
+use Rattle.display.specs.declared.Shown.{Shown}
+
+-- a namespace without the quotes
+abbrev pub dotted : List Name → List ℕ
+dotted segments = joined (bytes ".") segments
+
+-- a text so many times
+unfoldable pub repeated : ℕ → List ℕ → List ℕ
+repeated zero text = []
+repeated (suc n) text = text ++ repeated n text
+
+-- the type at a place of s is shown at a place of the buffer d, and r has the places after both
+pub record Displayed (mode : Mode) (d : List ℕ) (at : ℕ) (s : List ℕ) (t : ℕ) (r : Shown) (d′ : List ℕ) : Type 0 where
+  pub puts : Puts mode d at (showType (typeIn s t)) (r .text) d′
+  pub end : r .next ≡ typeEnd s t

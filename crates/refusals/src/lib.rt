@@ -1,0 +1,1 @@
+// When each of document 01's refusals is given. Definitions and theorems only: see specs/ and proofs/.
