@@ -131,12 +131,32 @@ def usage(suite: Suite):
     suite.equal("a Compatible that can't be printed", done.returncode, 2)
 
 
+def build(program: Path, *words) -> int:
+    """The exit status of gcc."""
+    return output("gcc", "-std=c11", "-Wall", "-Wextra", "-Werror", "-I", ROOT / "include", "-o", program, *words)[0]
+
+
+def stack(suite: Suite):
+    """All recorded pairs on a stack of 64 KiB; no heap and no statics."""
+    program, library = suite.folder / "stack", Path((ROOT / "target" / "loader" / "library").read_text().strip()) / "libcompat.a"
+    suite.equal("stack.c builds", build(program, HERE / "stack.c", library, "-pthread"), 0)
+    pairs = [image for _, old, new, *_ in recorded() for image in (old, new)]
+    framed = b"".join(len(image).to_bytes(4, "little") + image for image in pairs)
+    done = subprocess.run([program], input=framed, stdout=subprocess.PIPE)
+    print(f"the library on a stack of 64 KiB: {done.stdout.decode().strip()}")
+    suite.equal("a stack of 64 KiB is enough", (done.returncode, done.stdout.split()[:1]), (0, [str(len(pairs) // 2).encode()]))
+    undefined = {line.split()[-1] for line in output("nm", "-u", library)[1].splitlines() if " U " in line}
+    suite.equal("it calls nothing but memcpy and memset", undefined - {"memcpy", "memset"}, set())
+    _, data, bss, *_ = output("size", library)[1].splitlines()[1].split()
+    suite.equal("no statics", (data, bss), ("0", "0"))
+
+
 def overruns(suite: Suite):
     """The guard pages are where they must be: a library that takes one byte too many faults."""
     program = suite.folder / "overrun"
     for place in ("OLD_IMAGE", "NEW_IMAGE", "REPORT_BUFFER"):
-        words = ["gcc", "-std=c11", "-Wall", "-Wextra", "-Werror", f"-DOVERRUN={place}", "-I", ROOT / "include", "-o", program]
-        suite.equal(f"overrun.c at {place} builds", output(*words, HERE / "loader.c", HERE / "overrun.c")[0], 0)
+        words = (f"-DOVERRUN={place}", HERE / "loader.c", HERE / "overrun.c")
+        suite.equal(f"overrun.c at {place} builds", build(program, *words), 0)
         suite.equal(f"a byte past {place}", output(program, *SAMPLE)[0], -signal.SIGSEGV)
         suite.equal(f"a byte past {place}, empty images", output(program, "/dev/null", "/dev/null")[0], -signal.SIGSEGV)
 
@@ -153,7 +173,7 @@ def under_valgrind(suite: Suite):
 def main() -> int:
     with tempfile.TemporaryDirectory() as folder:
         suite = Suite(Path(folder))
-        for tests in (samples, files, both_bad, of_record, counts, usage, overruns, under_valgrind):
+        for tests in (samples, files, both_bad, of_record, counts, usage, overruns, stack, under_valgrind):
             tests(suite)
     print(f"{suite.passed} passed, {suite.failed} failed")
     return 1 if suite.failed else 0

@@ -1,0 +1,67 @@
+/*
+ * Calls the library on a stack of 64 KiB with a page below it that nobody may touch, and prints how many bytes of it were used at most.
+ * The pairs come from standard input: each image as its length, four bytes from the lowest on, and its bytes.
+ */
+#define _DEFAULT_SOURCE /* MAP_ANONYMOUS */
+
+#include "vexil_compat.h"
+
+#include <pthread.h>
+#include <stdbool.h>
+#include <stdio.h>
+#include <stdlib.h>
+#include <string.h>
+#include <sys/mman.h>
+#include <unistd.h>
+
+enum { STACK_BYTES = 65536, REPORT_BYTES = 131072, UNUSED = 0xA5 };
+
+struct image {
+    uint8_t bytes[VEXIL_COMPAT_IMAGE_BYTES + 1];
+    size_t length;
+};
+
+static struct image old, new;
+static uint8_t out[REPORT_BYTES];
+
+static bool next_image(struct image *image)
+{
+    uint8_t head[4];
+    if (fread(head, 1, sizeof head, stdin) != sizeof head)
+        return false;
+    image->length = head[0] | (size_t)head[1] << 8 | (size_t)head[2] << 16 | (size_t)head[3] << 24;
+    return image->length <= sizeof image->bytes && fread(image->bytes, 1, image->length, stdin) == image->length;
+}
+
+static void *call_all(void *pairs)
+{
+    while (next_image(&old) && next_image(&new)) {
+        vexil_compat_verdict(old.bytes, old.length, new.bytes, new.length, VEXIL_COMPAT_LENGTH);
+        vexil_compat_report(old.bytes, old.length, new.bytes, new.length, out, sizeof out);
+        ++*(unsigned *)pairs;
+    }
+    return NULL;
+}
+
+int main(void)
+{
+    size_t page = (size_t)sysconf(_SC_PAGESIZE);
+    uint8_t *start = mmap(NULL, page + STACK_BYTES, PROT_READ | PROT_WRITE, MAP_PRIVATE | MAP_ANONYMOUS, -1, 0);
+    if (start == MAP_FAILED || mprotect(start, page, PROT_NONE) != 0)
+        return 1;
+    uint8_t *stack = start + page;
+    memset(stack, UNUSED, STACK_BYTES);
+
+    unsigned pairs = 0;
+    pthread_t thread;
+    pthread_attr_t attributes;
+    if (pthread_attr_init(&attributes) != 0 || pthread_attr_setstack(&attributes, stack, STACK_BYTES) != 0
+        || pthread_create(&thread, &attributes, call_all, &pairs) != 0 || pthread_join(thread, NULL) != 0)
+        return 1;
+
+    size_t unused = 0;
+    while (unused < STACK_BYTES && stack[unused] == UNUSED)
+        unused++;
+    printf("%u pairs, %zu bytes of stack\n", pairs, STACK_BYTES - unused);
+    return 0;
+}
