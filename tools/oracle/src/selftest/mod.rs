@@ -2,6 +2,8 @@
 
 mod against_check;
 mod clauses;
+#[cfg(vexil)]
+mod exporting;
 mod reading;
 mod recording;
 
@@ -35,6 +37,10 @@ pub fn run() -> Outcome {
     clauses::run(&mut tests);
     against_check::run(&mut tests);
     recording::run(&mut tests);
+    #[cfg(vexil)]
+    exporting::run(&mut tests);
+    #[cfg(not(vexil))]
+    println!("not run: the tests of the exporter");
     println!("{} passed, {} failed", tests.passed, tests.failed);
     match tests.failed {
         0 => Ok(()),

@@ -22,19 +22,23 @@ pub mod span;
 #[allow(warnings)]
 #[path = "../../stand_ins/canonical.rs"]
 pub mod canonical;
+#[path = "../../../exporter/exporter.rs"]
+pub mod exporter;
 
 use crate::changes::Comparison;
 use crate::schema::Schema;
-use compat::CompatReport;
 pub use compile::compile;
+use ir::CompiledSchema;
 
 pub const CHECK_IS_RUN: bool = true;
 
 /// Runs `check` and tells where the model differs: in the changes, counted with
 /// repeats, in the result or in the bump.
 pub fn difference(old: &Schema, new: &Schema, model: &Comparison) -> Option<String> {
-    let real = compat::check(&compile(old), &compile(new));
-    let (real, model) = (real_lines(&real), model_lines(model));
+    let (real, model) = (
+        real_answer(&compile(old), &compile(new)),
+        model_lines(model),
+    );
     if real == model {
         return None;
     }
@@ -62,7 +66,9 @@ macro_rules! line {
     }};
 }
 
-fn real_lines(report: &CompatReport) -> Vec<String> {
+/// What `check` answers, in lines that can be compared.
+pub fn real_answer(old: &CompiledSchema, new: &CompiledSchema) -> Vec<String> {
+    let report = compat::check(old, new);
     let changes = report.changes.iter().map(|c| line!(c, classification));
     let last = format!("{:?} {:?}", report.result, report.suggested_bump);
     sorted(changes.collect(), last)
