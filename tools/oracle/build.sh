@@ -58,6 +58,8 @@ fi
 
 rust=(rustc --edition 2021 -O -D warnings)
 "${rust[@]}" --crate-type rlib --crate-name smol_str --out-dir "$out" "$here/stand_ins/smol_str.rs"
+# The selftest reads the samples and README.md.
+export VEXIL_COMPAT_ROOT=$repo
 "${rust[@]}" --check-cfg 'cfg(vexil, library)' "${cfg[@]}" "${library[@]}" --crate-name oracle \
   --extern "smol_str=$out/libsmol_str.rlib" -o "$out/$name" "$here/src/main.rs"
 echo "built $out/$name${cfg[0]:+ with the real check}"

@@ -5,7 +5,10 @@ use crate::changes::CHANGE_KINDS;
 use crate::edits::{damaged, edited, too_deep};
 use crate::limits::IMAGE_BYTES;
 use crate::random::random_schema;
+use crate::reader::read_image;
+use crate::refusal::Refusal;
 use crate::rng::Rng;
+use crate::text;
 use crate::writer::image;
 use std::fs::File;
 use std::io::{Read, Write};
@@ -39,6 +42,33 @@ pub fn verdict(old: &str, new: &str, selector: Option<&str>) -> Outcome {
         None => (0..SELECTORS).for_each(|n| println!("{n} {}", answer.select(n))),
     }
     Ok(())
+}
+
+/// Prints the text of an image, or the refusal.
+pub fn show(path: &str) -> Outcome {
+    match read_image(&read_file(path)) {
+        Ok(schema) => {
+            let written = std::io::stdout().write_all(text::show(&schema).as_bytes());
+            written.map_err(|error| error.to_string())
+        }
+        Err(Refusal {
+            number,
+            what,
+            value,
+            ..
+        }) => {
+            println!("refused {number}");
+            Err(format!("{path}: {what}: {value}"))
+        }
+    }
+}
+
+/// Writes the image that a text stands for.
+pub fn make(text: &str, image: &str) -> Outcome {
+    let of = |path: &str, fault: &dyn std::fmt::Display| format!("{path}: {fault}");
+    let read = std::fs::read_to_string(text).map_err(|error| of(text, &error))?;
+    let bytes = text::make(&read).map_err(|fault| of(text, &fault))?;
+    std::fs::write(image, bytes).map_err(|error| of(image, &error))
 }
 
 pub fn number(text: &str) -> Result<u64, String> {

@@ -69,6 +69,6 @@ impl<'a> Cursor<'a> {
     }
 }
 
-fn allowed(byte: u8) -> bool {
+pub fn allowed(byte: u8) -> bool {
     byte.is_ascii_alphanumeric() || byte == b'_'
 }

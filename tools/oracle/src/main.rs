@@ -22,6 +22,7 @@ mod refusal;
 mod rng;
 mod schema;
 mod selftest;
+mod text;
 mod types;
 mod writer;
 
@@ -39,6 +40,8 @@ use commands::{number, Outcome};
 
 const USAGE: &str = "usage: oracle report OLD NEW
        oracle verdict OLD NEW [SELECTOR]
+       oracle show IMAGE
+       oracle make TEXT IMAGE
        oracle generate FILE [--seed N]
        oracle verify FILE
        oracle random SEED COUNT
@@ -64,6 +67,8 @@ fn run(words: &[&str]) -> Outcome {
         ["report", old, new] => commands::report(old, new),
         ["verdict", old, new] => commands::verdict(old, new, None),
         ["verdict", old, new, selector] => commands::verdict(old, new, Some(selector)),
+        ["show", image] => commands::show(image),
+        ["make", text, image] => commands::make(text, image),
         ["generate", path] => record::generate(path, record::SEED),
         ["generate", path, "--seed", seed] => record::generate(path, number(seed)?),
         ["verify", path] => record::verify(path),

@@ -2,18 +2,21 @@
 
 use crate::schema::{Encoding, Label, Schema, Type, GEOMETRIC};
 
-const PRIMITIVES: [&str; 14] = [
+pub const PRIMITIVES: [&str; 14] = [
     "bool", "u8", "u16", "u32", "u64", "i8", "i16", "i32", "i64", "f32", "f64", "fixed32",
     "fixed64", "void",
 ];
-const SEMANTICS: [&str; 6] = ["string", "bytes", "rgb", "uuid", "timestamp", "hash"];
-const ENCODINGS: [&str; 3] = ["default", "varint", "zigzag"];
+pub const SEMANTICS: [&str; 6] = ["string", "bytes", "rgb", "uuid", "timestamp", "hash"];
+pub const ENCODINGS: [&str; 3] = ["default", "varint", "zigzag"];
 
 /// The words of the tags with inner types, from tag 4 on.
-const WRAPPERS: [&str; 12] = [
+pub const WRAPPERS: [&str; 12] = [
     "optional", "array", "array", "set", "map", "result", "vec2", "vec3", "vec4", "quat", "mat3",
     "mat4",
 ];
+
+/// Stands for the name behind an unresolvable id.
+pub const UNKNOWN: &str = "<unknown>";
 
 /// The name an id stands for in its registry.
 pub fn name_of(schema: &Schema, id: u32) -> Option<&str> {
@@ -39,19 +42,33 @@ pub fn labels_equal(old: &Schema, old_label: &Label, new: &Schema, new_label: &L
 }
 
 pub fn type_display(schema: &Schema, ty: &Type) -> String {
-    match &ty.label {
-        Label::Primitive(code) => PRIMITIVES[usize::from(*code)].to_string(),
-        Label::SubByte { signed, bits } => format!("{}{bits}", if *signed { 'i' } else { 'u' }),
-        Label::Semantic(code) => SEMANTICS[usize::from(*code)].to_string(),
-        Label::Named(id) => name_of(schema, *id).unwrap_or("<unknown>").to_string(),
-        Label::Bits(names) => format!("bits {{ {} }}", names.join(", ")),
-        Label::FixedArray(size) => wrapped(schema, ty, Some(*size)),
-        Label::Wrapper(_) => wrapped(schema, ty, None),
-    }
+    display(schema, ty, &|_| None)
 }
 
-fn wrapped(schema: &Schema, ty: &Type, size: Option<u64>) -> String {
-    let mut parts: Vec<String> = ty.inner.iter().map(|t| type_display(schema, t)).collect();
+/// A type, with some labels shown in the caller's own way.
+pub fn display(schema: &Schema, ty: &Type, own: &dyn Fn(&Label) -> Option<String>) -> String {
+    let inner = |size| wrapped(ty, size, &|ty| display(schema, ty, own));
+    own(&ty.label).unwrap_or_else(|| match &ty.label {
+        Label::Primitive(code) => PRIMITIVES[usize::from(*code)].to_string(),
+        Label::SubByte { signed, bits } => sub_byte_display(*signed, *bits),
+        Label::Semantic(code) => SEMANTICS[usize::from(*code)].to_string(),
+        Label::Named(id) => name_of(schema, *id).unwrap_or(UNKNOWN).to_string(),
+        Label::Bits(names) => bits_display(names),
+        Label::FixedArray(size) => inner(Some(*size)),
+        Label::Wrapper(_) => inner(None),
+    })
+}
+
+pub fn sub_byte_display(signed: bool, bits: u8) -> String {
+    format!("{}{bits}", if signed { 'i' } else { 'u' })
+}
+
+pub fn bits_display(names: &[String]) -> String {
+    format!("bits {{ {} }}", names.join(", "))
+}
+
+fn wrapped(ty: &Type, size: Option<u64>, show: &dyn Fn(&Type) -> String) -> String {
+    let mut parts: Vec<String> = ty.inner.iter().map(show).collect();
     parts.extend(size.map(|size| size.to_string()));
     let word = WRAPPERS[usize::from(ty.tag() - 4)];
     format!("{word}<{}>", parts.join(", "))

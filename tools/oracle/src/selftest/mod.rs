@@ -6,9 +6,18 @@ mod clauses;
 mod exporting;
 mod reading;
 mod recording;
+mod texts;
 
 use crate::commands::Outcome;
 use std::fmt::Debug;
+
+/// The repository that the oracle was built in.
+const ROOT: &str = env!("VEXIL_COMPAT_ROOT");
+
+/// A file of the repository; one that can't be read is empty and fails its test.
+fn read_file(path: &str) -> Vec<u8> {
+    std::fs::read(format!("{ROOT}/{path}")).unwrap_or_default()
+}
 
 #[derive(Default)]
 pub struct Tests {
@@ -37,6 +46,7 @@ pub fn run() -> Outcome {
     clauses::run(&mut tests);
     against_check::run(&mut tests);
     recording::run(&mut tests);
+    texts::run(&mut tests);
     #[cfg(vexil)]
     exporting::run(&mut tests);
     #[cfg(not(vexil))]
