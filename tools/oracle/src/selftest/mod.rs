@@ -1,11 +1,13 @@
 //! The oracle's own tests.
 
 mod against_check;
+mod calls;
 mod clauses;
 #[cfg(vexil)]
 mod exporting;
 mod reading;
 mod recording;
+mod samples;
 mod texts;
 
 use crate::commands::Outcome;
@@ -47,6 +49,8 @@ pub fn run() -> Outcome {
     against_check::run(&mut tests);
     recording::run(&mut tests);
     texts::run(&mut tests);
+    samples::run(&mut tests);
+    calls::run(&mut tests);
     #[cfg(vexil)]
     exporting::run(&mut tests);
     #[cfg(not(vexil))]

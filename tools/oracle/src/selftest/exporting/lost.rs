@@ -41,8 +41,8 @@ fn text() -> SmolStr {
     SmolStr::new("not in an image")
 }
 
-/// The compiled schema, with something in every member that an image does not
-/// hold.
+/// The compiled schema, with something in the members that an image does not
+/// hold; of configs, aliases, traits and impls in some of them.
 fn laden(schema: &Schema) -> CompiledSchema {
     let mut compiled = compile(schema);
     add_marks(&mut compiled.annotations);

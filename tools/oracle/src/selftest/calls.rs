@@ -1,0 +1,77 @@
+//! `show` and `make` as they are called: what they print, what they write, and
+//! their exit status.
+
+use super::{Tests, ROOT};
+use std::path::Path;
+use std::process::Command;
+
+struct Called {
+    status: Option<i32>,
+    printed: String,
+    complaint: String,
+}
+
+fn call(words: &[&str]) -> Called {
+    let program = std::env::current_exe().unwrap_or_default();
+    let text = |bytes: Vec<u8>| String::from_utf8_lossy(&bytes).into_owned();
+    match Command::new(program).args(words).output() {
+        Ok(output) => Called {
+            status: output.status.code(),
+            printed: text(output.stdout),
+            complaint: text(output.stderr),
+        },
+        Err(error) => Called {
+            status: None,
+            printed: String::new(),
+            complaint: error.to_string(),
+        },
+    }
+}
+
+pub fn run(tests: &mut Tests) {
+    let folder = std::env::temp_dir().join(format!("oracle-selftest-{}", std::process::id()));
+    if let Err(error) = std::fs::create_dir_all(&folder) {
+        tests.equal("a folder to write to", Some(error.to_string()), None);
+        return;
+    }
+    show(tests);
+    make(tests, &folder);
+    let removed = std::fs::remove_dir_all(&folder);
+    tests.holds("the folder is removed", removed.is_ok());
+}
+
+fn sample(name: &str) -> String {
+    format!("{ROOT}/samples/{name}")
+}
+
+fn show(tests: &mut Tests) {
+    let shown = call(&["show", &sample("ride-new.img")]);
+    let text = std::fs::read_to_string(sample("ride-new.txt")).ok();
+    tests.equal("show prints the text", Some(shown.printed), text);
+    tests.equal("show, status", shown.status, Some(0));
+    let refused = call(&["show", &sample("damaged.img")]);
+    tests.equal("show refuses", refused.printed.as_str(), "refused 9\n");
+    tests.equal("show refuses, status", refused.status, Some(1));
+}
+
+fn make(tests: &mut Tests, folder: &Path) {
+    let path = |name: &str| folder.join(name).to_string_lossy().into_owned();
+    let (image, other) = (path("made.img"), path("other.img"));
+    let made = call(&["make", &sample("ride-new.txt"), &image]);
+    tests.equal("make, status", made.status, Some(0));
+    let (written, wanted) = (std::fs::read(&image), std::fs::read(sample("ride-new.img")));
+    tests.equal("make writes the image", written.ok(), wanted.ok());
+    let faulty = path("faulty.txt");
+    let text = "namespace\ndeclares\n#1 empty\n";
+    tests.holds("a faulty text", std::fs::write(&faulty, text).is_ok());
+    let refused = call(&["make", &faulty, &other]);
+    tests.equal("make refuses, status", refused.status, Some(1));
+    let line = refused.complaint.contains("line 3: the next entry is #0");
+    tests.holds("make names the line", line);
+    tests.holds(
+        "make writes nothing then",
+        !folder.join("other.img").exists(),
+    );
+    let missing = call(&["make", &path("missing.txt"), &other]);
+    tests.equal("make of no text, status", missing.status, Some(1));
+}

@@ -1,0 +1,93 @@
+//! samples/: every text makes its image, an image without a text is damaged as
+//! the README there says, and every command of that README has its output.
+
+use super::{read_file, Tests, ROOT};
+use crate::answer::judge;
+use crate::reader::read_image;
+use crate::text;
+use std::collections::{BTreeMap, BTreeSet};
+
+const FOLDER: &str = "samples";
+
+/// Files by their name without its ending.
+type Files = BTreeMap<String, Vec<u8>>;
+
+pub fn run(tests: &mut Tests) {
+    let (images, texts) = (files(".img"), files(".txt"));
+    let readme = read_file(&format!("{FOLDER}/README.md"));
+    let readme = String::from_utf8_lossy(&readme);
+    tests.holds("8 images or more", images.len() >= 8);
+    for (name, text) in &texts {
+        let text = String::from_utf8_lossy(text).into_owned();
+        let image = images.get(name).cloned().unwrap_or_default();
+        let shown = read_image(&image).map(|schema| text::show(&schema)).ok();
+        tests.equal(name, text::make(&text), Ok(image));
+        tests.equal(name, shown, Some(text));
+    }
+    for name in images.keys().filter(|name| !texts.contains_key(*name)) {
+        let described = damages(&images, name)
+            .iter()
+            .any(|damage| readme.contains(damage));
+        tests.holds(&format!("the damage to {name} is described"), described);
+    }
+    commands(tests, &images, &readme);
+}
+
+fn files(ending: &str) -> Files {
+    let folder = std::fs::read_dir(format!("{ROOT}/{FOLDER}"));
+    let entries = folder.into_iter().flatten().flatten();
+    let names = entries.map(|entry| entry.file_name().to_string_lossy().into_owned());
+    names
+        .filter_map(|name| {
+            let stem = name.strip_suffix(ending)?;
+            Some((stem.to_string(), read_file(&format!("{FOLDER}/{name}"))))
+        })
+        .collect()
+}
+
+/// For each image that this one differs from in one byte: that byte, in the
+/// README's words.
+fn damages(images: &Files, name: &str) -> Vec<String> {
+    let image = &images[name];
+    let same_length = images.iter().filter(|(_, base)| base.len() == image.len());
+    same_length
+        .filter_map(|(base_name, base)| {
+            let pairs = base.iter().zip(image).enumerate();
+            let differing: Vec<_> = pairs.filter(|(_, (old, new))| old != new).collect();
+            let [(at, (old, new))] = differing[..] else {
+                return None;
+            };
+            Some(format!(
+                "`{name}.img` is `{base_name}.img` with byte {at} changed from {old} to {new}"
+            ))
+        })
+        .collect()
+}
+
+/// Each command line of the README and the lines printed below it.
+fn commands(tests: &mut Tests, images: &Files, readme: &str) {
+    let mut used = BTreeSet::new();
+    for block in readme.split("    $ ./vexil-compat ").skip(1) {
+        let mut lines = block.lines();
+        let command = lines.next().unwrap_or_default();
+        let printed = lines.map_while(|line| line.strip_prefix("    "));
+        let wanted: String = printed.flat_map(|line| [line, "\n"]).collect();
+        let names: Vec<&str> = command
+            .split(' ')
+            .map(|path| path.trim_start_matches("samples/").trim_end_matches(".img"))
+            .collect();
+        let [Some(old), Some(new)] = [0, 1].map(|side| images.get(*names.get(side)?)) else {
+            tests.holds(&format!("the images of {command}"), false);
+            continue;
+        };
+        let found = judge(old, new).answer.printed();
+        tests.equal(
+            command,
+            String::from_utf8_lossy(&found).into_owned(),
+            wanted,
+        );
+        used.extend(names);
+    }
+    let kept: BTreeSet<&str> = images.keys().map(String::as_str).collect();
+    tests.equal("every image stands in a command", used, kept);
+}
