@@ -1,0 +1,117 @@
+"""The pairs that a tool which compares two image files is tested on. What it prints is what `oracle report` prints.
+
+It needs target/oracle/oracle.
+"""
+
+import subprocess
+import sys
+import tempfile
+from pathlib import Path
+
+ROOT = Path(__file__).resolve().parents[1]
+sys.path.append(str(ROOT / "tools" / "evaluate"))
+from run import recorded  # noqa: E402
+
+ORACLE = ROOT / "target" / "oracle" / "oracle"
+SAMPLE = [ROOT / "samples" / name for name in ("ride-old.img", "ride-new.img")]
+SAMPLE_REPORT = "FieldAdded;Major;Drive;+limit;field 'limit' @1 was added\nBreaking;Major;1\n"
+SIDES = ("none", "old", "new", "both")
+
+
+def output(*words, **options) -> tuple[int, str]:
+    """The exit status of a command and what it printed."""
+    done = subprocess.run([str(word) for word in words], stdout=subprocess.PIPE, stderr=subprocess.DEVNULL, text=True, **options)
+    return done.returncode, done.stdout
+
+
+class Suite:
+    """The tests of one tool, called as TOOL OLD NEW."""
+
+    TOOL: Path
+
+    def __init__(self, folder: Path):
+        self.folder = folder
+        self.passed = 0
+        self.failed = 0
+
+    @classmethod
+    def run(cls, *groups) -> int:
+        """Runs groups of tests; the last line is `N passed, M failed`."""
+        with tempfile.TemporaryDirectory() as folder:
+            suite = cls(Path(folder))
+            for tests in groups:
+                tests(suite)
+        print(f"{suite.passed} passed, {suite.failed} failed")
+        return 1 if suite.failed else 0
+
+    def status(self, printed: str) -> int:
+        """The tool's exit status after it printed this."""
+        raise NotImplementedError
+
+    def asked(self, old, new) -> tuple[int, str]:
+        """What the tool has to answer, by the oracle."""
+        status, printed = output(ORACLE, "report", old, new)
+        assert status == 0, f"oracle report {old} {new}: exit status {status}"
+        return self.status(printed), printed
+
+    def equal(self, name: str, found, wanted):
+        if found == wanted:
+            self.passed += 1
+            return
+        self.failed += 1
+        print(f"failed: {name}\n  found  {str(found)[:300]}\n  wanted {str(wanted)[:300]}")
+
+    def files(self, name: str, old, new, text: str | None = None):
+        """Two files: the answer is the oracle's, and this text if one is given."""
+        wanted = self.asked(old, new)
+        self.equal(name, output(self.TOOL, old, new), wanted if text is None else (wanted[0], text))
+        if text is not None:
+            self.equal(f"{name}, by the oracle", wanted[1], text)
+
+    def images(self, name: str, old: bytes, new: bytes, text: str | None = None):
+        self.files(name, self.image("old", old), self.image("new", new), text)
+
+    def image(self, name: str, image: bytes) -> Path:
+        path = self.folder / f"{name}.img"
+        path.write_bytes(image)
+        return path
+
+
+def samples(suite: Suite):
+    old, new = SAMPLE
+    suite.files("the sample", old, new, SAMPLE_REPORT)
+    suite.files("the sample swapped", new, old)
+    suite.files("the sample against itself", old, old, "Compatible;Patch;0\n")
+
+
+def files(suite: Suite):
+    old, missing = SAMPLE[0], suite.folder / "missing.img"
+    suite.files("a missing file, old", missing, old, "refused 2 old\n")
+    suite.files("a missing file, new", old, missing, "refused 2 new\n")
+    suite.files("two missing files", missing, missing, "refused 2 old\n")
+    suite.files("a folder", old, suite.folder, "refused 2 new\n")
+    ride = old.read_bytes()
+    for length in (32_769, 100_000):
+        suite.images(f"{length} bytes, old", ride.ljust(length, b"\0"), ride, "refused 1 old\n")
+        suite.images(f"{length} bytes, new", ride, ride.ljust(length, b"\0"), "refused 1 new\n")
+    suite.images("32,768 bytes", ride.ljust(32_768, b"\0"), ride, "refused 5 old\n")
+
+
+def both_bad(suite: Suite):
+    short, other_format = b"\1\0", b"\2\0\0\0\0\0\0\0"
+    suite.images("both bad, the old answers", short, other_format, "refused 2 old\n")
+    suite.images("both bad, swapped", other_format, short, "refused 3 old\n")
+
+
+def of_record(suite: Suite):
+    """The first recorded pair of each refusal and side, of each bump, and those with long reports."""
+    seen = set()
+    for name, old, new, selectors, report in recorded():
+        number, side, bump = selectors[:3]
+        if name.startswith("report of ") or name == "11 before 12" or (number, side, bump) not in seen:
+            text = f"refused {number} {SIDES[side]}\n" if number else "refused 12 both\n" if len(report) > 65_536 else report.decode()
+            suite.images(name, old, new, text)
+        seen.add((number, side, bump))
+    refusals = {(number, side) for number in range(1, 11) for side in (1, 2)} | {(11, 3)}
+    suite.equal("every refusal on every side", {(number, side) for number, side, _ in seen if number}, refusals)
+    suite.equal("every bump", {bump for number, _, bump in seen if not number}, {0, 1, 2})
