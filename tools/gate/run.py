@@ -122,6 +122,12 @@ def loader(gate: Gate):
         gate.suite("tools/loader/test.py", sys.executable, "tools/loader/test.py")
 
 
+def program(gate: Gate):
+    """On the program that `rt ci` has linked."""
+    if not is_left_out(gate, "tools/program", "rustc"):
+        gate.suite("tools/program/test.py", sys.executable, "tools/program/test.py")
+
+
 def hammer(gate: Gate):
     if not is_left_out(gate, "tools/hammer", "rustc"):
         gate.suite("tools/hammer/run.sh", "bash", "tools/hammer/run.sh", HAMMER_SEED, HAMMER_PAIRS, HAMMER_SECONDS)
@@ -137,6 +143,7 @@ def main() -> int:
     gate.stage("gate", lambda: gate_tests(gate))
     gate.stage("oracle", lambda: oracle(gate))
     gate.stage("loader", lambda: loader(gate))
+    gate.stage("program", lambda: program(gate))
     gate.stage("hammer", lambda: hammer(gate))
     return gate.finish()
 

@@ -1,0 +1,12 @@
+// The program's arguments.
+
+// How many there are after the program's own name.
+pub fn count() -> usize {
+    let words = os::arg_count();
+    if words == 0 { 0 } else { words - 1 }
+}
+
+// Whether an argument is an option and no path. A file of such a name can be given as `./-name`.
+pub fn is_option(word: &[u8]) -> bool {
+    word.len() != 0 && word[0] == b'-'
+}

@@ -1,0 +1,47 @@
+// What the program prints: the report or the refusal on standard output, all else on standard error.
+use libc::STDERR_FILENO;
+use libc::STDOUT_FILENO;
+
+// An answer that nobody gets is none.
+fn warn_unless(is_written: bool) {
+    if !is_written {
+        os::fail(b"vexil_compat: standard output");
+    }
+}
+
+// The first n bytes of a buffer. What is printed always fits its buffer; the test saves the proof of that.
+fn first(buffer: &[u8], n: usize) -> &[u8] {
+    if buffer.len() < n {
+        return buffer;
+    }
+    &buffer[..n]
+}
+
+// The report: so many bytes at the start of a buffer.
+pub fn print_report(buffer: &[u8], length: usize) {
+    warn_unless(io::write_all(STDOUT_FILENO, first(buffer, length)));
+}
+
+// Old 1, new 2, both 3.
+fn write_side(side: u8) -> bool {
+    match side {
+        1 => io::write_all(STDOUT_FILENO, b" old\n"),
+        2 => io::write_all(STDOUT_FILENO, b" new\n"),
+        _ => io::write_all(STDOUT_FILENO, b" both\n"),
+    }
+}
+
+// As `refused 9 old`.
+pub fn print_refusal(number: u8, side: u8) {
+    let is_written = io::write_all(STDOUT_FILENO, b"refused ")
+        && io::print_decimal(STDOUT_FILENO, number as u64)
+        && write_side(side);
+    warn_unless(is_written);
+}
+
+pub fn print_usage() {
+    io::write_all(
+        STDERR_FILENO,
+        b"usage: vexil_compat [OLD NEW]   (without arguments: old.img and new.img of the current folder)\n",
+    );
+}
