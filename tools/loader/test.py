@@ -61,11 +61,11 @@ def stack(suite: Suite):
     """All recorded pairs on a stack of 64 KiB; no heap and no statics."""
     program, library = suite.folder / "stack", Path((ROOT / "target" / "loader" / "library").read_text().strip()) / "libcompat.a"
     suite.equal("stack.c builds", build(program, HERE / "stack.c", library, "-pthread"), 0)
-    pairs = [image for _, old, new, *_ in recorded() for image in (old, new)]
-    framed = b"".join(len(image).to_bytes(4, "little") + image for image in pairs)
+    images = [image for _, old, new, *_ in recorded() for image in (old, new)]
+    framed = b"".join(len(image).to_bytes(4, "little") + image for image in images)
     done = subprocess.run([program], input=framed, stdout=subprocess.PIPE)
     print(f"the library on a stack of 64 KiB: {done.stdout.decode().strip()}")
-    suite.equal("a stack of 64 KiB is enough", (done.returncode, done.stdout.split()[:1]), (0, [str(len(pairs) // 2).encode()]))
+    suite.equal("a stack of 64 KiB is enough", (done.returncode, done.stdout.split()[:1]), (0, [str(len(images) // 2).encode()]))
     undefined = {line.split()[-1] for line in output("nm", "-u", library)[1].splitlines() if " U " in line}
     suite.equal("it calls nothing but memcpy and memset", undefined - {"memcpy", "memset"}, set())
     _, data, bss, *_ = output("size", library)[1].splitlines()[1].split()
