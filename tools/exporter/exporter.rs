@@ -69,7 +69,8 @@ const DEEP: u8 = 10;
 pub struct Refused {
     /// The number in the table of refusals.
     pub number: u8,
-    /// Where, from the outside in.
+    /// Where, from the outside in. Entries go by their id; segments and names of
+    /// inline bits are counted from 0.
     pub place: String,
     /// What stands there.
     pub found: String,

@@ -16,7 +16,7 @@ mod names;
 mod randoms;
 mod repeats;
 pub mod rich;
-mod sizes;
+pub mod sizes;
 mod typing;
 mod unions;
 

@@ -69,7 +69,7 @@ fn long_lists(cases: &mut Cases) {
 }
 
 /// Adds configs that nobody lists until the image has this length.
-fn filled(mut schema: Schema, length: usize) -> Schema {
+pub fn filled(mut schema: Schema, length: usize) -> Schema {
     const LEAST: usize = 6;
     let mut missing = length - image(&schema).len();
     while missing > 0 {

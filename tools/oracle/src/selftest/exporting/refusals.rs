@@ -1,6 +1,7 @@
 //! Each refusal that the exporter gives, with its number and its place.
 
 use super::super::Tests;
+use crate::cases::sizes::filled;
 use crate::limits::{ENTRIES, IMAGE_BYTES, NODES};
 use crate::make::*;
 use crate::random::deepened;
@@ -13,6 +14,7 @@ use crate::writer::image;
 pub fn run(tests: &mut Tests) {
     fitting(tests);
     long(tests);
+    long_lists(tests);
     crowded(tests);
     names(tests);
     codes(tests);
@@ -67,18 +69,13 @@ const TYPE: &str = r#"entry 0, message "M", field "f" @0, type"#;
 /// At its limits a schema is an image still.
 fn fitting(tests: &mut Tests) {
     let configs = |count: u16| (0..count).map(|_| config("C")).collect();
-    let mut long = schema(vec![enumeration("E", 0, many(5_000))]);
-    let name = |bytes: usize| config(&"n".repeat(bytes));
-    while image(&long).len() < IMAGE_BYTES - 261 {
-        long.registry.push(Some(name(255)));
-    }
-    let missing = IMAGE_BYTES - image(&long).len();
-    long.registry.push(Some(name(missing - 6)));
+    let long = filled(schema(vec![]), IMAGE_BYTES);
+    let name = config(&"n".repeat(255));
     let fitting = [
         ("32,768 bytes", long),
         ("512 entries and ids", schema(configs(ENTRIES))),
         ("16 segments", schema(vec![]).in_namespace(&["s"; 16])),
-        ("a name of 255 bytes", schema(vec![name(255)])),
+        ("a name of 255 bytes", schema(vec![name])),
         ("255 inline bits", of_type(bit_names(255))),
         ("sub-byte of 1 bit", of_type(sub_byte(true, 1))),
         ("sub-byte of 64 bits", of_type(sub_byte(false, 64))),
@@ -94,11 +91,19 @@ fn fitting(tests: &mut Tests) {
 }
 
 fn long(tests: &mut Tests) {
-    let two = |second: u32| {
-        let first = enumeration("E", 0, many(5_000));
-        schema(vec![first, enumeration("F", 0, many(second))])
-    };
-    refused(tests, two(1_000), 1, r#"entry 1, enum "F""#);
+    let two = vec![
+        enumeration("E", 0, many(5_000)),
+        enumeration("F", 0, many(1_000)),
+    ];
+    refused(tests, schema(two), 1, r#"entry 1, enum "F""#);
+    let over = filled(schema(vec![enumeration("E", 0, many(3))]), IMAGE_BYTES + 1);
+    let last = over.registry.len() - 1;
+    let name = over.registry[last].as_ref().map(|last| last.name.clone());
+    let place = format!("entry {last}, config {:?}", name.unwrap_or_default());
+    refused(tests, over, 1, &place);
+}
+
+fn long_lists(tests: &mut Tests) {
     let count = u32::from(u16::MAX) + 1;
     let variants = (0..count).map(|n| variant(n, "v", vec![])).collect();
     let lists = [
