@@ -21,6 +21,8 @@ use Rattle.parts.proofs.Laws.Places.{places-none as by-none, places-mor
 use Rattle.parts.proofs.Laws.Decls.{decl-head}
 -- the image: its length, and its namespace by the names at their places
 pub use Rattle.parts.proofs.Laws.Contents.{accepted-most, segments-listed}
+-- the entry of an id by its pair in the contents: empty, or its body as a list of its own
+pub use Rattle.parts.proofs.Laws.Bodies.{BodyIn, bytesIn, entry-pair, entry-none, entry-body, entry-short}
 -- so many names, or items: the first, and the rest, and the one at any of their places
 pub use Rattle.parts.proofs.Laws.Skips.{names-first, names-rest}
 pub use Rattle.parts.proofs.Laws.Items.{items-first, items-rest, items-member}
