@@ -1,0 +1,22 @@
+-- `listing::vexil_compat_listing_verdict` meets its contract. Assumes nothing.
+use mathlib.Core.Path.{ap, _∙_}
+use Rattle.listing.specs.Listing.{listingVerdict}
+use Rattle.listing.specs.Answers.{selectIn}
+use Rattle.listing.specs.declared.Answer.{Answer}
+use Rattle.listing.proofs.Outcomes.{outcome-selected}
+use borrow.Author.Needs.{needs}
+use Rattle.listing.proofs.vexil_compat_listing_verdict.Statement.{statement}
+use Rattle.listing.proofs.vexil_compat_listing_verdict.Tie as tie
+
+checked-requires : tie.Need-checked-requires
+checked-requires c κs = search needs
+
+select-requires : tie.Need-select-requires
+select-requires c κs = search needs
+
+returns : tie.Need-returns
+unfolding listingVerdict
+returns c = c .select .ensures ∙ ap (λ (a : Answer). selectIn a (c .before .before .before .args .selector)) (c .before .checked .ensures) ∙ outcome-selected _ (c .before .before .before .args .selector)
+
+pub vexil-compat-listing-verdict-spec : {M : Type 1} → statement M
+vexil-compat-listing-verdict-spec = tie.close (tie.spec checked-requires select-requires returns)

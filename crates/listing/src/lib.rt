@@ -1,0 +1,142 @@
+// The contents of one image: a line for each entry that is not empty, for all bytes.
+mod body;
+mod line;
+
+use crate::body::put_entry;
+use parts::entries::entry_count;
+use reader::Acceptance;
+use reader::contents::entry_length;
+use reader::contents::entry_offset;
+use reader::read_image;
+use text::Mode;
+use text::start_in;
+ghost use mathlib.Core.Path.{_≡_};
+ghost use mathlib.Core.Option.{none};
+ghost use Prim.Native.Nat.{_<_};
+ghost use lib.ListN.{length, getD};
+ghost use Rattle.parts.specs.Promise.{Accepted, schemaOf};
+ghost use Rattle.text.specs.Text.{Space, Puts};
+ghost use Rattle.listing.specs.Listing.{entryText, listing, outcome, listingVerdict, listingLength, written};
+ghost use Rattle.listing.specs.Answers.{refusal, answerOf, selectIn, Wrote};
+
+// The side of a refusal.
+const OLD: u8 = 1;
+
+// A refusal, by its number and side; or number 0, side none, and the listing's length.
+pub struct Answer {
+    pub number: u8,
+    pub side: u8,
+    pub length: usize,
+}
+
+fn refused(number: u8) -> Answer
+    ensures { λ r. ⌜ r ≡ refusal number ⌝ }
+{
+    Answer {
+        number: number,
+        side: OLD,
+        length: 0,
+    }
+}
+
+// The line of an entry, after the lines before it; nothing for an empty entry.
+fn put_one(mode: Mode, image: &[u8], out: &mut [u8], at: usize, id: usize) -> usize
+    requires { ⌜ Accepted (now image) × (id < length (schemaOf (now image) .registry)) × Space mode (now out) at (length (entryText id (getD (schemaOf (now image) .registry) id none))) ⌝ }
+    ensures { λ r. ⌜ Puts mode (now (out .entry)) at (entryText id (getD (schemaOf (now (image .entry)) .registry) id none)) r (now (out .exit)) ⌝ }
+{
+    let count = entry_length(image, id);
+    if count == 0 {
+        return at;
+    }
+    let from = entry_offset(image, id);
+    let end = from + count;
+    let done = start_in(mode, at);
+    let n = put_entry(mode, id, &image[from..end], &mut out[done..]);
+    at + n
+}
+
+// The listing of an accepted image.
+fn put_listing(mode: Mode, image: &[u8], out: &mut [u8]) -> usize
+    requires { ⌜ Accepted (now image) × Space mode (now out) 0 (length (listing (schemaOf (now image)))) ⌝ }
+    ensures { λ r. ⌜ Puts mode (now (out .entry)) 0 (listing (schemaOf (now (image .entry)))) r (now (out .exit)) ⌝ }
+{
+    let n = entry_count(image);
+    let mut id: usize = 0;
+    let mut at: usize = 0;
+    while id < n {
+        at = put_one(mode, image, out, at, id);
+        id += 1;
+    }
+    at
+}
+
+// 12, or the listing's length. Nothing is written.
+fn measured(image: &[u8], room: usize) -> Answer
+    requires { ⌜ Accepted (now image) ⌝ }
+    ensures { λ r. ⌜ r ≡ answerOf (outcome (now (image .entry)) room) ⌝ }
+{
+    let mut none = [0u8; 1];
+    let length = put_listing(Mode::Measure, image, &mut none);
+    if room < length {
+        return refused(12);
+    }
+    Answer {
+        number: 0,
+        side: 0,
+        length: length,
+    }
+}
+
+// What is said of an image and a buffer of so many bytes.
+pub fn checked(image: &[u8], room: usize) -> Answer
+    ensures { λ r. ⌜ r ≡ answerOf (outcome (now (image .entry)) room) ⌝ }
+{
+    match read_image(image) {
+        Acceptance::Accepted => measured(image, room),
+        Acceptance::Rejected(number) => refused(number),
+    }
+}
+
+// "0 the number, 1 the side .., 4 the length"; others 0.
+fn select(answer: Answer, selector: u64) -> u64
+    ensures { λ r. ⌜ r ≡ selectIn answer selector ⌝ }
+{
+    match selector {
+        0 => answer.number as u64,
+        1 => answer.side as u64,
+        4 => answer.length as u64,
+        _ => 0,
+    }
+}
+
+// The listing of an accepted image at the start of the buffer, and its length; or nothing and 0, if it is longer than the buffer.
+fn write(image: &[u8], out: &mut [u8]) -> usize
+    requires { ⌜ Accepted (now image) ⌝ }
+    ensures { λ r. ⌜ Wrote (now (image .entry)) (now (out .entry)) r (now (out .exit)) ⌝ }
+{
+    let a = measured(image, out.len());
+    if a.number != 0 {
+        return 0;
+    }
+    put_listing(Mode::Write, image, out)
+}
+
+// The listing's length, 0 if refused; the listing stands at the start of the buffer.
+#[no_mangle]
+pub extern "C" fn vexil_compat_listing(image: &[u8], out: &mut [u8]) -> u64
+    ensures { λ r. ⌜ (r ≡ listingLength (outcome (now (image .entry)) (length (now (out .entry))))) × (now (out .exit) ≡ written (outcome (now (image .entry)) (length (now (out .entry)))) (now (out .entry))) ⌝ }
+{
+    match read_image(image) {
+        Acceptance::Accepted => write(image, out) as u64,
+        Acceptance::Rejected(_) => 0,
+    }
+}
+
+// One value of the answer for a buffer of so many bytes, by its selector.
+#[no_mangle]
+pub extern "C" fn vexil_compat_listing_verdict(image: &[u8], out_len: u64, selector: u64) -> u64
+    ensures { λ r. ⌜ r ≡ listingVerdict (now (image .entry)) «out_len» selector ⌝ }
+{
+    let a = checked(image, out_len as usize);
+    select(a, selector)
+}
