@@ -13,6 +13,8 @@ BEHIND = re.compile(
     r"Rattle·(?:(?:image|refusals|written|reader)\.(?!specs\.Schema\b|specs\.Words\b|specs\.declared\b)\w+|parts\.proofs\.Laws\b)(?:\.\w+)*"
 )
 INSIDE = {"members"}
+# Crates above `parts` whose definitions start from what reading an image gives; their proofs rest on the promise.
+DEFINE = {"listing"}
 # A proof that no longer fits the code's shape: such a refusal says nothing about a fact.
 UNFIT = re.compile(r"has no `Need-|\.Lts\.[^`]*` has no field|expected type `tie\.Need-|not in scope|expected `[^`]*`, found")
 
@@ -89,7 +91,7 @@ def unfolded(root: Path) -> list[str]:
         for name in crates
         if "parts" in reached(name, crates) and name not in INSIDE and is_library(root, name)
         for path in sorted((root / "crates" / name).rglob("*"))
-        if path.suffix in (".rt", ".antt")
+        if path.suffix in (".rt", ".antt") and not (name in DEFINE and path.parent.name == "specs")
         for match in [BEHIND.search(path.read_text())]
         if match
     ]

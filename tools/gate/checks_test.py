@@ -102,6 +102,17 @@ class Folders(unittest.TestCase):
         (self.root / "crates.txt").write_text("reader: image\nparts: image reader\nmembers: parts\n")
         self.assertEqual(checks.unfolded(self.root), [])
 
+    def test_the_listings_definition_may_name_what_reading_gives(self):
+        (self.root / "crates.txt").write_text("parts: image\nlisting: parts\n")
+        crate = self.root / "crates" / "listing"
+        for folder in ("src", "specs", "proofs"):
+            (crate / folder).mkdir(parents=True)
+        (crate / "src" / "lib.rt").write_text("")
+        (crate / "specs" / "Listing.antt").write_text("use Rattle.image.specs.Image.{readImage}\n")
+        self.assertEqual(checks.unfolded(self.root), [])
+        (crate / "proofs" / "Laws.antt").write_text("use Rattle.image.specs.Image.{readImage}\n")
+        self.assertEqual(len(checks.unfolded(self.root)), 1)
+
     def test_a_crate_without_a_log_fails(self):
         self.assertEqual(checks.verdicts(self.root), (0, ["maps: no log of its check"]))
 

@@ -39,6 +39,9 @@ module _ (s : List ℕ) (g : Accepted s) where
       go none q = omega arith
       go (some d) q = omega (arith, line-length i (d .kind) (d .name), entry-short s g j l d q, accepted-most s g)
 
+  lines-small : (id : ℕ) → length (linesFrom id (schemaOf s .registry)) < 2 ^ 62
+  lines-small id = omega (arith, lines-length 32804 id (schemaOf s .registry) short, few)
+
   pub listing-small : length (listing (schemaOf s)) < 2 ^ 62
   unfolding listing
-  listing-small = omega (arith, lines-length 32804 0 (schemaOf s .registry) short, few)
+  listing-small = lines-small _

@@ -9,7 +9,7 @@ use lib.ListN.{length, getD, drop, drop-of-length-le}
 use Rattle.image.specs.Schema.{Name, Decl}
 use Rattle.parts.specs.Promise.{schemaOf, DeclHere, declIn}
 use Rattle.parts.proofs.Promise.{decl-most, BodyIn, bytesIn}
-use Rattle.text.specs.Text.{putIn, Space, Puts, startIn}
+use Rattle.text.specs.Text.{Space, Puts, startIn}
 use Rattle.text.specs.declared.Mode.{Mode}
 use Rattle.text.proofs.Writing.{in-nil}
 use Rattle.text.proofs.Pieces.{together, Owes, owes-start, owes-cut, owes-room, owes-next, owes-end}

@@ -1,6 +1,5 @@
 -- `listing::put_one` meets its contract: nothing for an empty entry, or the line of its body in the part of the buffer that is lent. Assumes nothing.
 use native.Mathlib.Omega.{arith}
-use lib.ListN.{length}
 use Rattle.parts.specs.Promise.{declIn}
 use Rattle.parts.proofs.Promise.{BodyIn, bytesIn, entry-pair, entry-none, entry-body}
 use Rattle.text.proofs.Lending.{Lent}

@@ -8,7 +8,6 @@ use Rattle.text.specs.Decimal.{decimal}
 use Rattle.text.proofs.Writing.{puts-length}
 use Rattle.text.proofs.Pieces.{together, Owes, owes-start, owes-room, owes-next, owes-end}
 use Rattle.listing.specs.Listing.{lineOf}
-use borrow.Author.Needs.{needs}
 use Rattle.listing.proofs.line.put_line.Statement.{statement}
 use Rattle.listing.proofs.line.put_line.Tie as tie
 
