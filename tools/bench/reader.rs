@@ -38,7 +38,7 @@ fn oracle(image: &[u8]) -> u8 {
 fn images(file: &[u8]) -> Vec<&[u8]> {
     let number = |at: usize| u32::from_le_bytes(file[at..at + 4].try_into().unwrap()) as usize;
     let (pairs, counts) = (number(8), number(12));
-    let (mut at, mut list) = (28, Vec::new());
+    let (mut at, mut list) = (32, Vec::new());
     for _ in 0..pairs {
         at += 1 + usize::from(file[at]);
         for _ in 0..2 {
@@ -46,7 +46,11 @@ fn images(file: &[u8]) -> Vec<&[u8]> {
             list.push(&file[at + 4..at + 4 + length]);
             at += 4 + length;
         }
-        at += 10 + 4 * counts + number(at + 6);
+        at += 2;
+        for _ in 0..2 {
+            at += 4 + number(at);
+        }
+        at += 8 + 4 * counts + number(at + 4);
     }
     assert_eq!(at, file.len());
     list

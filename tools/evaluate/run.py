@@ -36,11 +36,13 @@ def recorded():
         at += size
         return data[at - size : at]
 
-    pairs, counts, *_ = numbers(5)
+    pairs, counts, *_ = numbers(6)
     for _ in range(pairs):
         name = text(numbers(1, "B")[0]).decode()
         old, new = (text(numbers(1)[0]) for _ in range(2))
         numbers(2, "B")
+        for _ in range(2):
+            text(numbers(1)[0])  # the listings
         selectors = numbers(4, "B") + numbers(1 + counts)
         yield name, old, new, selectors, text(selectors[4])
 

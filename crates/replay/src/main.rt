@@ -1,8 +1,9 @@
-// Replays the recorded answers: each image of each pair is read, both calls are asked for the pair, and what they answer is compared with
-// what is recorded.
+// Replays the recorded answers: each image of each pair is read and listed, both calls are asked for the pair, and what is answered is
+// compared with what is recorded.
 mod counting;
 mod file;
-mod reports;
+mod listings;
+mod texts;
 mod verdicts;
 
 use counting::Step;
@@ -12,6 +13,7 @@ use counting::more;
 use file::Number;
 use libc::STDOUT_FILENO;
 use reader::Acceptance;
+use texts::Call;
 
 // The largest image that the file may hold.
 const IMAGE_ROOM: usize = 40960;
@@ -38,11 +40,11 @@ fn replay_image(fd: i32, bytes: &[u8], t: Tally) -> Step {
 
 // The report of a pair that has one, beside the recorded one.
 fn replay_text(fd: i32, old: &[u8], new: &[u8], length: usize, t: Tally) -> Step {
-    let mut bytes = reports::blank();
+    let mut bytes = texts::blank();
     if !file::fill(fd, &mut bytes, length) {
         return Step::Broken;
     }
-    Step::Next(reports::replay_report(old, new, length, &mut bytes, t))
+    Step::Next(texts::replay_text(Call::Report, old, new, length, &mut bytes, t))
 }
 
 // The answer of a pair: number, side, bump, result, length, counts and report.
@@ -66,18 +68,31 @@ fn replay_answer(fd: i32, counts: usize, old: &[u8], new: &[u8], t: Tally) -> St
         return step;
     };
     if number != 0 {
-        return Step::Next(reports::replay_refused(old, new, after));
+        return Step::Next(texts::replay_refused(Call::Report, old, new, after));
     }
     replay_text(fd, old, new, length, after)
 }
 
-// Both images of a pair, each beside what is recorded of it, and then their answer.
-fn replay_images(fd: i32, counts: usize, old: &[u8], new: &[u8], t: Tally) -> Step {
+// Both images of a pair: the reader's numbers, and then the listings.
+fn replay_each(fd: i32, old: &[u8], new: &[u8], t: Tally) -> Step {
     let step = replay_image(fd, old, t);
     let Step::Next(after) = step else {
         return step;
     };
     let step = replay_image(fd, new, after);
+    let Step::Next(after) = step else {
+        return step;
+    };
+    let step = listings::replay_listing(fd, old, number_of(old), after);
+    let Step::Next(after) = step else {
+        return step;
+    };
+    listings::replay_listing(fd, new, number_of(new), after)
+}
+
+// Each image of a pair beside what is recorded of it, and then their answer.
+fn replay_images(fd: i32, counts: usize, old: &[u8], new: &[u8], t: Tally) -> Step {
+    let step = replay_each(fd, old, new, t);
     let Step::Next(after) = step else {
         return step;
     };
@@ -165,13 +180,13 @@ fn print(text: &[u8], n: u64) {
     io::write_all(STDOUT_FILENO, b"\n");
 }
 
-// The header: eight bytes that say what the file is, the number of pairs and of counts, and three largest lengths.
+// The header: eight bytes that say what the file is, the number of pairs and of counts, and four largest lengths.
 fn replay_file(fd: i32) -> Step {
     let mut magic = [0u8; 8];
     if !file::fill(fd, &mut magic, 8) {
         return Step::Broken;
     }
-    if !check::same(&magic, b"VEXANSW1") {
+    if !check::same(&magic, b"VEXANSW2") {
         return Step::Broken;
     }
     let first = file::read_u32(fd);
@@ -185,7 +200,7 @@ fn replay_file(fd: i32) -> Step {
     if COUNTS < counts {
         return Step::Broken;
     }
-    if !file::pass(fd, 12) {
+    if !file::pass(fd, 16) {
         return Step::Broken;
     }
     replay(fd, pairs, counts)

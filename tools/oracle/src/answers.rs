@@ -3,9 +3,10 @@
 
 use crate::answer::{Pair, SELECTORS};
 use crate::changes::COUNTS;
+use crate::listing::listing;
 use std::collections::BTreeSet;
 
-const MAGIC: &[u8; 8] = b"VEXANSW1";
+const MAGIC: &[u8; 8] = b"VEXANSW2";
 
 /// A pair with its answer as the file holds it.
 #[derive(Clone, PartialEq, Debug)]
@@ -15,6 +16,8 @@ pub struct Recorded {
     pub new: Vec<u8>,
     /// The number that reading each image gives, old and new: 0 if it is accepted.
     pub readings: [u8; 2],
+    /// The contents listing of each image; empty if it is refused.
+    pub listings: [Vec<u8>; 2],
     /// By selector.
     pub verdict: Vec<u64>,
     /// With number 0 only.
@@ -30,19 +33,25 @@ impl Recorded {
             new: new.to_vec(),
             readings: [&pair.old, &pair.new]
                 .map(|image| image.as_ref().err().map_or(0, |refusal| refusal.number)),
+            listings: [&pair.old, &pair.new].map(|image| {
+                image
+                    .as_ref()
+                    .map_or(Vec::new(), |schema| listing(schema).into_bytes())
+            }),
             verdict: (0..SELECTORS).map(|n| answer.select(n)).collect(),
             report: answer.report.clone(),
         }
     }
 }
 
-/// The largest name, image and report of a list.
-fn largest(list: &[Recorded]) -> [usize; 3] {
+/// The largest name, image, report and listing of a list.
+fn largest(list: &[Recorded]) -> [usize; 4] {
     let most = |length: fn(&Recorded) -> usize| list.iter().map(length).max().unwrap_or(0);
     [
         most(|pair| pair.name.len()),
         most(|pair| pair.old.len().max(pair.new.len())),
         most(|pair| pair.report.len()),
+        most(|pair| pair.listings[0].len().max(pair.listings[1].len())),
     ]
 }
 
@@ -60,6 +69,10 @@ pub fn write(list: &[Recorded]) -> Vec<u8> {
             file.extend(image);
         }
         file.extend(pair.readings);
+        for listing in &pair.listings {
+            file.extend(number(listing.len()));
+            file.extend(listing);
+        }
         file.extend(pair.verdict[..4].iter().map(|n| *n as u8));
         file.extend(pair.verdict[4..].iter().flat_map(|n| number(*n as usize)));
         file.extend(&pair.report);
@@ -88,18 +101,21 @@ impl<'a> File<'a> {
         Ok(bytes.iter().rev().fold(0, |n, b| n << 8 | usize::from(*b)))
     }
 
+    /// A length, and so many bytes.
+    fn bytes(&mut self) -> Result<Vec<u8>, String> {
+        let length = self.u32()?;
+        Ok(self.take(length)?.to_vec())
+    }
+
     fn pair(&mut self) -> Result<Recorded, String> {
         let length = self.u8()?;
         let name = self.take(usize::from(length))?;
         if name.is_empty() || !name.iter().all(|b| (b' '..=b'~').contains(b)) {
             return Err(format!("not a case's name: {}", name.escape_ascii()));
         }
-        let mut image = || {
-            let length = self.u32()?;
-            Ok::<_, String>(self.take(length)?.to_vec())
-        };
-        let (old, new) = (image()?, image()?);
+        let (old, new) = (self.bytes()?, self.bytes()?);
         let readings = [self.u8()?, self.u8()?];
+        let listings = [self.bytes()?, self.bytes()?];
         let mut verdict = Vec::new();
         for selector in 0..SELECTORS {
             verdict.push(match selector {
@@ -116,6 +132,7 @@ impl<'a> File<'a> {
             old,
             new,
             readings,
+            listings,
             verdict,
             report,
         })
@@ -126,7 +143,7 @@ impl<'a> File<'a> {
 pub fn read(bytes: &[u8]) -> Result<Vec<Recorded>, String> {
     let mut file = File(bytes);
     if file.take(MAGIC.len())? != MAGIC {
-        return Err("the file does not start with VEXANSW1".to_string());
+        return Err("the file does not start with VEXANSW2".to_string());
     }
     let pairs = file.u32()?;
     let counts = file.u32()?;
@@ -135,7 +152,7 @@ pub fn read(bytes: &[u8]) -> Result<Vec<Recorded>, String> {
             "answers have {COUNTS} counts, the file says {counts}"
         ));
     }
-    let said = [file.u32()?, file.u32()?, file.u32()?];
+    let said = [file.u32()?, file.u32()?, file.u32()?, file.u32()?];
     let mut list = Vec::new();
     let mut names = BTreeSet::new();
     for place in 0..pairs {

@@ -4,6 +4,7 @@ use crate::answer::{judge, Side, SELECTORS};
 use crate::changes::CHANGE_KINDS;
 use crate::edits::{damaged, edited, too_deep};
 use crate::limits::IMAGE_BYTES;
+use crate::listing::listing;
 use crate::random::random_schema;
 use crate::reader::read_image;
 use crate::refusal::Refusal;
@@ -69,6 +70,15 @@ pub fn make(text: &str, image: &str) -> Outcome {
     let read = std::fs::read_to_string(text).map_err(|error| of(text, &error))?;
     let bytes = text::make(&read).map_err(|fault| of(text, &fault))?;
     std::fs::write(image, bytes).map_err(|error| of(image, &error))
+}
+
+/// The contents listing of one image, or its refusal, always of the old side.
+pub fn list(path: &str) -> Outcome {
+    match read_image(&read_file(path)) {
+        Ok(schema) => print!("{}", listing(&schema)),
+        Err(refusal) => println!("refused {} old", refusal.number),
+    }
+    Ok(())
 }
 
 pub fn number(text: &str) -> Result<u64, String> {

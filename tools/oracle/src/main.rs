@@ -13,6 +13,7 @@ mod edits;
 #[cfg(library)]
 mod library;
 mod limits;
+mod listing;
 mod make;
 mod model;
 mod random;
@@ -42,6 +43,7 @@ const USAGE: &str = "usage: oracle report OLD NEW
        oracle verdict OLD NEW [SELECTOR]
        oracle show IMAGE
        oracle make TEXT IMAGE
+       oracle list IMAGE
        oracle generate FILE [--seed N]
        oracle verify FILE
        oracle random SEED COUNT
@@ -69,6 +71,7 @@ fn run(words: &[&str]) -> Outcome {
         ["verdict", old, new, selector] => commands::verdict(old, new, Some(selector)),
         ["show", image] => commands::show(image),
         ["make", text, image] => commands::make(text, image),
+        ["list", path] => commands::list(path),
         ["generate", path] => record::generate(path, record::SEED),
         ["generate", path, "--seed", seed] => record::generate(path, number(seed)?),
         ["verify", path] => record::verify(path),

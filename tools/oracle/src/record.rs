@@ -65,6 +65,9 @@ pub fn again(recorded: &Recorded) -> Option<String> {
         let (recorded, found) = (recorded.readings, found.readings);
         parts.push(format!("readings recorded {recorded:?}, found {found:?}"));
     }
+    if recorded.listings != found.listings {
+        parts.push("the listings differ".to_string());
+    }
     if recorded.report != found.report {
         parts.push("the report differs".to_string());
     }

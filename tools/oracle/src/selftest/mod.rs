@@ -5,6 +5,7 @@ mod calls;
 mod clauses;
 #[cfg(vexil)]
 mod exporting;
+mod listing;
 mod reading;
 mod recording;
 mod samples;
@@ -46,6 +47,7 @@ pub fn run() -> Outcome {
     let mut tests = Tests::default();
     reading::run(&mut tests);
     clauses::run(&mut tests);
+    listing::run(&mut tests);
     against_check::run(&mut tests);
     recording::run(&mut tests);
     texts::run(&mut tests);

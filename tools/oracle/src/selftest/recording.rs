@@ -32,12 +32,13 @@ pub fn run(tests: &mut Tests) {
 
 fn form(tests: &mut Tests) {
     let file = write(&two()[1..]);
-    let mut wanted = b"VEXANSW1".to_vec();
-    for number in [1u32, 18, 7, 10, 0] {
+    let mut wanted = b"VEXANSW2".to_vec();
+    for number in [1u32, 18, 7, 10, 0, 0] {
         wanted.extend(number.to_le_bytes());
     }
     wanted.extend(b"\x07refusal\x01\0\0\0\x07\x0a\0\0\0\x01\0\0\0\0\0\x01\0\x01a");
     wanted.extend([2, 0]);
+    wanted.extend([0; 8]);
     wanted.extend([2, 1, 2, 1]);
     wanted.extend([0; 4 + 4 * 18]);
     tests.equal("the form of a refusal", file, wanted);
@@ -52,12 +53,12 @@ fn strictness(tests: &mut Tests) {
     let mut longer = file.clone();
     longer.push(0);
     tests.holds("nor is one with a byte after it", read(&longer).is_err());
-    let changed = (0..28).filter(|place| {
+    let changed = (0..32).filter(|place| {
         let mut file = file.clone();
         file[*place] ^= 1;
         read(&file).is_err()
     });
-    tests.equal("every byte of the head counts", changed.count(), 28);
+    tests.equal("every byte of the head counts", changed.count(), 32);
 }
 
 fn names(tests: &mut Tests) {
@@ -88,6 +89,12 @@ fn answers(tests: &mut Tests) {
             again(&changed).is_some()
         });
         tests.holds("a change in a reading is seen", seen);
+        let seen = (0..2).all(|image| {
+            let mut changed = recorded.clone();
+            changed.listings[image].push(b'x');
+            again(&changed).is_some()
+        });
+        tests.holds("a change in a listing is seen", seen);
         let seen = (0..recorded.report.len()).all(|place| {
             let mut changed = recorded.clone();
             changed.report[place] ^= 1;
