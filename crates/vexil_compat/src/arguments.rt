@@ -10,3 +10,7 @@ pub fn count() -> usize {
 pub fn is_option(word: &[u8]) -> bool {
     word.len() != 0 && word[0] == b'-'
 }
+
+pub fn is_list(word: &[u8]) -> bool {
+    check::same(word, b"--list")
+}

@@ -1,6 +1,8 @@
 // Compares two images and prints the report or the refusal: `vexil_compat [OLD NEW]`, without arguments old.img and new.img of the current
-// folder. What is printed is the answer: a Rattle program can't choose its exit status.
+// folder; or lists the contents of one: `vexil_compat --list IMAGE`. What is printed is the answer: a Rattle program can't choose its exit
+// status.
 mod arguments;
+mod contents;
 mod files;
 mod printing;
 
@@ -9,10 +11,10 @@ fn compare(old: &[u8], new: &[u8]) {
     let mut out = io::large_buffer();
     let verdict = compat::report(old, new, &mut out);
     if verdict.number != 0 {
-        printing::print_refusal(verdict.number, verdict.side);
+        printing::print_refusal(verdict.number as u64, verdict.side as u64);
         return;
     }
-    printing::print_report(&out, verdict.length);
+    printing::print_text(&out, verdict.length);
 }
 
 fn compare_files(old_path: &[u8], new_path: &[u8]) {
@@ -23,23 +25,41 @@ fn compare_files(old_path: &[u8], new_path: &[u8]) {
     compare(&old[..m], &new[..n]);
 }
 
-// Two arguments: the paths of the images.
-fn compare_named() {
-    let mut old = io::buffer();
-    let m = os::arg(1, &mut old);
-    let mut new = io::buffer();
-    let n = os::arg(2, &mut new);
-    if arguments::is_option(&old[..m]) || arguments::is_option(&new[..n]) {
+fn list_file(path: &[u8]) {
+    let mut image = files::blank();
+    let n = files::read_start(path, &mut image);
+    contents::list(&image[..n]);
+}
+
+// Two arguments: the paths of the images, or the option and the path of one.
+fn answer(first: &[u8], second: &[u8]) {
+    if arguments::is_option(second) {
         printing::print_usage();
         return;
     }
-    compare_files(&old[..m], &new[..n]);
+    if arguments::is_list(first) {
+        list_file(second);
+        return;
+    }
+    if arguments::is_option(first) {
+        printing::print_usage();
+        return;
+    }
+    compare_files(first, second);
+}
+
+fn answer_arguments() {
+    let mut first = io::buffer();
+    let m = os::arg(1, &mut first);
+    let mut second = io::buffer();
+    let n = os::arg(2, &mut second);
+    answer(&first[..m], &second[..n]);
 }
 
 fn main() {
     match arguments::count() {
         0 => compare_files(b"old.img", b"new.img"),
-        2 => compare_named(),
+        2 => answer_arguments(),
         _ => printing::print_usage(),
     }
 }

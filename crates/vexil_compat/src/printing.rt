@@ -1,4 +1,4 @@
-// What the program prints: the report or the refusal on standard output, all else on standard error.
+// What the program prints: the report, the listing or the refusal on standard output, all else on standard error.
 use libc::STDERR_FILENO;
 use libc::STDOUT_FILENO;
 
@@ -17,13 +17,13 @@ fn first(buffer: &[u8], n: usize) -> &[u8] {
     &buffer[..n]
 }
 
-// The report: so many bytes at the start of a buffer.
-pub fn print_report(buffer: &[u8], length: usize) {
+// A report or a listing: so many bytes at the start of a buffer.
+pub fn print_text(buffer: &[u8], length: usize) {
     warn_unless(io::write_all(STDOUT_FILENO, first(buffer, length)));
 }
 
 // Old 1, new 2, both 3.
-fn write_side(side: u8) -> bool {
+fn write_side(side: u64) -> bool {
     match side {
         1 => io::write_all(STDOUT_FILENO, b" old\n"),
         2 => io::write_all(STDOUT_FILENO, b" new\n"),
@@ -32,9 +32,9 @@ fn write_side(side: u8) -> bool {
 }
 
 // As `refused 9 old`.
-pub fn print_refusal(number: u8, side: u8) {
+pub fn print_refusal(number: u64, side: u64) {
     let is_written = io::write_all(STDOUT_FILENO, b"refused ")
-        && io::print_decimal(STDOUT_FILENO, number as u64)
+        && io::print_decimal(STDOUT_FILENO, number)
         && write_side(side);
     warn_unless(is_written);
 }
@@ -42,6 +42,6 @@ pub fn print_refusal(number: u8, side: u8) {
 pub fn print_usage() {
     io::write_all(
         STDERR_FILENO,
-        b"usage: vexil_compat [OLD NEW]   (without arguments: old.img and new.img of the current folder)\n",
+        b"usage: vexil_compat [OLD NEW | --list IMAGE]   (without arguments: old.img and new.img of the current folder)\n",
     );
 }
