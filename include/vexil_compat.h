@@ -1,12 +1,12 @@
 /*
- * Whether a new Vexil schema may be loaded where an old one runs: the verdict on two images, and its report.
- * The library is libcompat.a, for x86-64. docs/FORMAT.md describes images, refusals and reports.
+ * Whether a new Vexil schema may be loaded where an old one runs: the verdict on two images, and its report; and the contents of one
+ * image. The libraries are libcompat.a and liblisting.a, for x86-64. docs/FORMAT.md describes images, refusals and reports.
  *
  * Any bytes may be lent as images: faulty ones are refused by number, and every call returns.
  *
  *   - Lengths are in bytes. Every pointer is valid for its length and is not NULL, even where its length is 0.
  *   - Both images are only read. They may overlap each other, or be the same.
- *   - The report buffer overlaps neither image.
+ *   - The buffer overlaps no image.
  *   - Nothing is allocated and nothing is kept from one call to the next, so that threads may call at the same time.
  */
 #ifndef VEXIL_COMPAT_H
@@ -107,6 +107,21 @@ uint64_t vexil_compat_verdict(const uint8_t *old_image, size_t old_len,
 uint64_t vexil_compat_report(const uint8_t *old_image, size_t old_len,
                              const uint8_t *new_image, size_t new_len,
                              uint8_t *out, size_t out_len);
+
+/*
+ * The contents of one image, from liblisting.a: writes a line `id;kind;name` for each entry that is not empty at the start of `out`, each
+ * ended by byte 10, and returns their length; bytes past that length stay as they were.
+ *
+ * 0 is a refusal, and then `out` is as it was, or an image without an entry: VEXIL_COMPAT_NUMBER of the verdict below tells which.
+ */
+uint64_t vexil_compat_listing(const uint8_t *image, size_t len, uint8_t *out, size_t out_len);
+
+/*
+ * What the call above answers for a buffer of `out_len` bytes: VEXIL_COMPAT_NUMBER (VEXIL_COMPAT_FULL too), VEXIL_COMPAT_SIDE
+ * (VEXIL_COMPAT_OLD of every refusal) or VEXIL_COMPAT_LENGTH; 0 for every other selector. With UINT64_MAX bytes the length says how large
+ * a buffer is needed.
+ */
+uint64_t vexil_compat_listing_verdict(const uint8_t *image, size_t len, uint64_t out_len, uint64_t selector);
 
 #ifdef __cplusplus
 }

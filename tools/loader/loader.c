@@ -1,9 +1,10 @@
 /*
- * The loading tool: compares two image files and prints the report or the refusal.
+ * The loading tool: compares two image files and prints the report or the refusal, or the contents of one.
  *
  *   loader [--counts] OLD NEW
+ *   loader --list IMAGE
  *
- * Exit status: 0 Compatible, 1 Breaking or refused, 2 bad usage, or no memory or no output.
+ * Exit status: 0 Compatible or listed, 1 Breaking or refused, 2 bad usage, or no memory or no output.
  */
 #define _DEFAULT_SOURCE /* MAP_ANONYMOUS */
 
@@ -126,16 +127,36 @@ static int compare(const struct pair *pair, bool counts)
     return verdict(pair, VEXIL_COMPAT_RESULT) == VEXIL_COMPAT_COMPATIBLE ? LOAD : DO_NOT_LOAD;
 }
 
-int main(int count, char **words)
+static int list(const struct image *image)
 {
-    bool counts = count > 1 && strcmp(words[1], "--counts") == 0;
+    uint64_t number = vexil_compat_listing_verdict(image->bytes, image->length, REPORT_BYTES, VEXIL_COMPAT_NUMBER);
+    if (number != VEXIL_COMPAT_NOT_REFUSED)
+        return refuse(number, vexil_compat_listing_verdict(image->bytes, image->length, REPORT_BYTES, VEXIL_COMPAT_SIDE));
+    uint8_t *out = guarded(REPORT_BYTES);
+    fwrite(out, 1, vexil_compat_listing(image->bytes, image->length, out, REPORT_BYTES), stdout);
+    return LOAD;
+}
+
+static int run(int count, char **words)
+{
+    const char *option = count > 1 ? words[1] : "";
+    bool counts = strcmp(option, "--counts") == 0;
     int first = counts ? 2 : 1;
+    if (count == 3 && strcmp(option, "--list") == 0) {
+        struct image image = read_image(words[2]);
+        return list(&image);
+    }
     if (count - first != 2) {
-        fputs("usage: loader [--counts] OLD NEW\n", stderr);
+        fputs("usage: loader [--counts] OLD NEW\n       loader --list IMAGE\n", stderr);
         return FAILED;
     }
     struct pair pair = {read_image(words[first]), read_image(words[first + 1])};
-    int status = compare(&pair, counts);
+    return compare(&pair, counts);
+}
+
+int main(int count, char **words)
+{
+    int status = run(count, words);
     /* A report that nobody gets is no answer. */
     if (fflush(stdout) != 0 || ferror(stdout))
         fail("loader: output");

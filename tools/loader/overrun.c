@@ -22,3 +22,15 @@ uint64_t vexil_compat_report(const uint8_t *old_image, size_t old_len, const uin
         out[out_len] = 0;
     return 0;
 }
+
+uint64_t vexil_compat_listing(const uint8_t *image, size_t len, uint8_t *out, size_t out_len)
+{
+    (void)image, (void)len, (void)out, (void)out_len;
+    return 0;
+}
+
+uint64_t vexil_compat_listing_verdict(const uint8_t *image, size_t len, uint64_t out_len, uint64_t selector)
+{
+    (void)image, (void)len, (void)out_len, (void)selector;
+    return 0;
+}

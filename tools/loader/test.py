@@ -43,9 +43,21 @@ def counts(suite: Suite):
     suite.equal("no counts of a refusal", output(LOADER, "--counts", old, "/dev/null"), (1, "refused 2 new\n"))
 
 
+def listings(suite: Suite):
+    """The contents of one recorded image of each length."""
+    images, most = {len(old): (name, old) for name, old, *_ in recorded()}, 0
+    for name, old in images.values():
+        path = suite.image("old", old)
+        text = output(ORACLE, "list", path)[1]
+        suite.equal(f"the contents of {name}", output(LOADER, "--list", path), (1 if text.startswith("refused ") else 0, text))
+        most = max(most, text.count("\n"))
+    suite.equal("one of 512 entries is among them", most, 512)
+    suite.equal("the contents of a missing file", output(LOADER, "--list", suite.folder / "missing.img"), (1, "refused 2 old\n"))
+
+
 def usage(suite: Suite):
     old, new = SAMPLE
-    for words in ([], [old], [old, new, new], ["--counts"], ["--counts", old], ["--counts", old, new, new]):
+    for words in ([], [old], [old, new, new], ["--counts"], ["--counts", old], ["--counts", old, new, new], ["--list"], ["--list", old, new]):
         suite.equal(f"usage: {len(words)} words", output(LOADER, *words), (2, ""))
     with open("/dev/full", "w") as full:
         done = subprocess.run([LOADER, old, old], stdout=full, stderr=subprocess.DEVNULL)
@@ -92,4 +104,4 @@ def under_valgrind(suite: Suite):
 
 
 if __name__ == "__main__":
-    sys.exit(Suite.run(samples, files, both_bad, of_record, counts, usage, overruns, stack, under_valgrind))
+    sys.exit(Suite.run(samples, files, both_bad, of_record, counts, listings, usage, overruns, stack, under_valgrind))
