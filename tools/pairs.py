@@ -1,4 +1,4 @@
-"""The pairs that a tool which compares two image files is tested on. What it prints is what `oracle report` prints.
+"""The pairs that a tool which compares two image files is tested on. What it prints is what `oracle report` and `oracle list` print.
 
 It needs target/oracle/oracle.
 """
@@ -48,6 +48,10 @@ class Suite:
         """The tool's exit status after it printed this."""
         raise NotImplementedError
 
+    def listed_status(self, printed: str) -> int:
+        """The tool's exit status after it printed this for --list."""
+        raise NotImplementedError
+
     def asked(self, old, new) -> tuple[int, str]:
         """What the tool has to answer, by the oracle."""
         status, printed = output(ORACLE, "report", old, new)
@@ -67,6 +71,14 @@ class Suite:
         self.equal(name, output(self.TOOL, old, new), wanted if text is None else (wanted[0], text))
         if text is not None:
             self.equal(f"{name}, by the oracle", wanted[1], text)
+
+    def listed(self, name: str, path, text: str | None = None):
+        """The contents of one image, as TOOL --list IMAGE prints them: the oracle's, and this text if one is given."""
+        status, printed = output(ORACLE, "list", path)
+        assert status == 0, f"oracle list {path}: exit status {status}"
+        self.equal(f"{name}, listed", output(self.TOOL, "--list", path), (self.listed_status(printed), printed))
+        if text is not None:
+            self.equal(f"{name}, listed by the oracle", printed, text)
 
     def images(self, name: str, old: bytes, new: bytes, text: str | None = None):
         self.files(name, self.image("old", old), self.image("new", new), text)
@@ -115,3 +127,17 @@ def of_record(suite: Suite):
     refusals = {(number, side) for number in range(1, 11) for side in (1, 2)} | {(11, 3)}
     suite.equal("every refusal on every side", {(number, side) for number, side, _ in seen if number}, refusals)
     suite.equal("every bump", {bump for number, _, bump in seen if not number}, {0, 1, 2})
+
+
+def listings(suite: Suite):
+    """The contents of named images, and of the recorded ones, of each length and each refusal the first."""
+    suite.listed("the sample", SAMPLE[0], "0;message;Drive\n")
+    suite.listed("no entries", suite.image("old", b"\1\0\0\0\0\0\0\0"), "")
+    suite.listed("a missing file", suite.folder / "missing.img", "refused 2 old\n")
+    suite.listed("a folder", suite.folder, "refused 2 old\n")
+    seen = set()
+    for name, old, _, (number, side, *_), _ in recorded():
+        if (len(old), number if side == 1 else 0) not in seen:
+            suite.listed(name, suite.image("old", old))
+        seen.add((len(old), number if side == 1 else 0))
+    suite.equal("every refusal of an image, listed", {number for _, number in seen}, set(range(11)))

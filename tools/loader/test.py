@@ -1,5 +1,6 @@
 #!/usr/bin/env python3
-"""Tests of the loading tool on named pairs. What it prints is what `oracle report` prints, and its exit status follows from that.
+"""Tests of the loading tool on named pairs. What it prints is what `oracle report` and `oracle list` print, and its exit status
+follows from that.
 
 It needs target/loader/loader (build.sh) and target/oracle/oracle. The last line is `N passed, M failed`.
 """
@@ -13,7 +14,7 @@ from pathlib import Path
 ROOT = Path(__file__).resolve().parents[2]
 sys.path.append(str(ROOT / "tools"))
 import pairs  # noqa: E402
-from pairs import ORACLE, SAMPLE, both_bad, files, of_record, output, recorded, samples  # noqa: E402
+from pairs import ORACLE, SAMPLE, both_bad, files, listings, of_record, output, recorded, samples  # noqa: E402
 
 HERE = ROOT / "tools" / "loader"
 LOADER = ROOT / "target" / "loader" / "loader"
@@ -30,6 +31,9 @@ class Suite(pairs.Suite):
     def status(self, printed: str) -> int:
         return 0 if printed.splitlines()[-1].startswith("Compatible;") else 1
 
+    def listed_status(self, printed: str) -> int:
+        return 1 if printed.startswith("refused ") else 0
+
 
 def counts(suite: Suite):
     old, new = next((old, new) for name, old, new, *_ in recorded() if name == "every kind of change twice")
@@ -41,18 +45,6 @@ def counts(suite: Suite):
     suite.equal("counts", output(LOADER, "--counts", old, new), (status, lines + report))
     suite.equal("no counts", output(LOADER, "--counts", old, old), suite.asked(old, old))
     suite.equal("no counts of a refusal", output(LOADER, "--counts", old, "/dev/null"), (1, "refused 2 new\n"))
-
-
-def listings(suite: Suite):
-    """The contents of one recorded image of each length."""
-    images, most = {len(old): (name, old) for name, old, *_ in recorded()}, 0
-    for name, old in images.values():
-        path = suite.image("old", old)
-        text = output(ORACLE, "list", path)[1]
-        suite.equal(f"the contents of {name}", output(LOADER, "--list", path), (1 if text.startswith("refused ") else 0, text))
-        most = max(most, text.count("\n"))
-    suite.equal("one of 512 entries is among them", most, 512)
-    suite.equal("the contents of a missing file", output(LOADER, "--list", suite.folder / "missing.img"), (1, "refused 2 old\n"))
 
 
 def usage(suite: Suite):

@@ -1,10 +1,9 @@
 #!/usr/bin/env python3
-"""Tests of the small program vexil_compat. What it prints is what `oracle report` prints, or the listing; its exit status is always 0.
+"""Tests of the small program vexil_compat. What it prints is what `oracle report` and `oracle list` print; its exit status is always 0.
 
 It needs target/bin/vexil_compat (rt check vexil_compat) and target/oracle/oracle. The last line is `N passed, M failed`.
 """
 
-import struct
 import subprocess
 import sys
 from pathlib import Path
@@ -12,7 +11,7 @@ from pathlib import Path
 ROOT = Path(__file__).resolve().parents[2]
 sys.path.append(str(ROOT / "tools"))
 import pairs  # noqa: E402
-from pairs import SAMPLE, SAMPLE_REPORT, both_bad, files, of_record, output, recorded, samples  # noqa: E402
+from pairs import SAMPLE, SAMPLE_REPORT, both_bad, files, listings, of_record, output, samples  # noqa: E402
 
 CRATE = ROOT / "crates" / "vexil_compat"
 PROGRAM = ROOT / "target" / "bin" / "vexil_compat"
@@ -23,15 +22,14 @@ RIDE = bytes.fromhex(
     "01 00 01 00 01 00 01 00 15 00 19 00 00 00 00 00 04 72 69 64 65 00 05 44 72 69 76 65 00 01 00 00 00 00 00 05 73 70 65 65 64 00 00 00 00 02"
 )
 
-# The words of `decl_kind_name`, in the order of the kinds.
-KIND_WORDS = "message enum flags union newtype config generic_alias trait impl".split()
-
 
 class Suite(pairs.Suite):
     TOOL = PROGRAM
 
     def status(self, printed: str) -> int:
         return 0
+
+    listed_status = status
 
     def in_folder(self, name: str, text: str, **images: bytes):
         """Without arguments, in a folder of these images."""
@@ -41,11 +39,6 @@ class Suite(pairs.Suite):
             (folder / f"{side}.img").write_bytes(image)
         self.equal(name, output(PROGRAM, cwd=folder), (0, text))
         self.equal(f"{name}, by the oracle", self.asked(folder / "old.img", folder / "new.img")[1], text)
-
-    def listed(self, name: str, image, text: str):
-        """The listing of an image, of a file or of these bytes."""
-        path = self.image("image", image) if isinstance(image, bytes) else image
-        self.equal(f"{name}, listed", output(PROGRAM, "--list", path, timeout=GUARD_SECONDS), (0, text))
 
     def on_standard_error(self, name: str, start: str, *words, stdout=subprocess.PIPE):
         """Nothing is printed but one line on standard error, which starts so."""
@@ -91,6 +84,7 @@ def long_files(suite: Suite):
     for name, path in (("a file of 1 GiB", huge), ("a file without end", "/dev/zero")):
         suite.equal(f"{name}, old", output(PROGRAM, path, new, timeout=GUARD_SECONDS), (0, "refused 1 old\n"))
         suite.equal(f"{name}, new", output(PROGRAM, old, path, timeout=GUARD_SECONDS), (0, "refused 1 new\n"))
+    suite.equal("a file without end, listed", output(PROGRAM, "--list", "/dev/zero", timeout=GUARD_SECONDS), (0, "refused 1 old\n"))
     suite.equal("two files without end", output(PROGRAM, "/dev/zero", "/dev/zero", timeout=GUARD_SECONDS), (0, "refused 1 old\n"))
 
 
@@ -99,44 +93,6 @@ def pieces(suite: Suite):
     old, new = SAMPLE
     script = '(head -c 9 "$1"; sleep 0.2; tail -c +10 "$1") | "$0" /dev/stdin "$2"'
     suite.equal("an image in two pieces", output("sh", "-c", script, PROGRAM, old, new), (0, SAMPLE_REPORT))
-
-
-def declared(image: bytes, at: int) -> tuple[str, str]:
-    """The kind's word and the name of a body."""
-    name = b"" if image[at] == 8 else image[at + 2 : at + 2 + image[at + 1]]
-    return KIND_WORDS[image[at]], name.decode()
-
-
-def entries(image: bytes) -> list[tuple[str, str] | None]:
-    """What each entry of an accepted image declares; none if it is empty."""
-    places = [struct.unpack_from("<HH", image, 8 + 4 * id) for id in range(image[2] + 256 * image[3])]
-    return [declared(image, at) if length else None for at, length in places]
-
-
-def listings(suite: Suite):
-    suite.listed("the sample", SAMPLE[0], "0;message;Drive\n")
-    suite.listed("no entries", b"\1\0\0\0\0\0\0\0", "")
-    suite.listed("a missing file", suite.folder / "missing.img", "refused 2 old\n")
-    suite.listed("a folder", suite.folder, "refused 2 old\n")
-    suite.listed("a file without end", "/dev/zero", "refused 1 old\n")
-
-
-def listings_of_record(suite: Suite):
-    """The first recorded image of each refusal, and of each set of kinds, with and without empty entries, by the digits of its last id."""
-    seen = set()
-    for name, old, _, (number, side, *_), _ in recorded():
-        if number and side == 1:
-            shape, text = number, f"refused {number} old\n"
-        else:
-            found = entries(old)
-            shape = (frozenset(entry and entry[0] for entry in found), len(str(len(found) - 1)))
-            text = "".join(f"{id};{';'.join(entry)}\n" for id, entry in enumerate(found) if entry)
-        if shape not in seen:
-            suite.listed(name, old, text)
-        seen.add(shape)
-    suite.equal("every refusal of an image, listed", {shape for shape in seen if isinstance(shape, int)}, set(range(1, 11)))
-    words = {word for shape in seen if not isinstance(shape, int) for word in shape[0]}
-    suite.equal("every kind and an empty entry, listed", words, {None, *KIND_WORDS})
 
 
 def usage(suite: Suite):
@@ -165,5 +121,5 @@ def without_output(suite: Suite):
 
 
 if __name__ == "__main__":
-    groups = (of_the_gate, samples, files, both_bad, of_record, without_arguments, paths, long_files, pieces, listings, listings_of_record)
+    groups = (of_the_gate, samples, files, both_bad, of_record, without_arguments, paths, long_files, pieces, listings)
     sys.exit(Suite.run(*groups, usage, without_output))
