@@ -1,5 +1,8 @@
 -- `checking::compare_namespaces` meets its contract. Assumes nothing.
-use Rattle.checking.proofs.Whole.{namespace-asks, namespace-ran}
+use mathlib.Core.Path.{ap}
+use mathlib.Core.Bool.{not}
+use Rattle.lines.proofs.Clauses.{namespace-changed}
+use Rattle.clauses.proofs.Tests.{test-asks, test-ran}
 use borrow.Author.Needs.{needs}
 use Rattle.checking.proofs.compare_namespaces.Statement.{statement}
 use Rattle.checking.proofs.compare_namespaces.Tie as tie
@@ -13,7 +16,8 @@ namespace-changed-requires c κs = search needs
 emit-if-requires : tie.Need-emit-if-requires
 emit-if-requires c κs =
     let n = c .before .before in
-    namespace-asks _ _ (n .before .before .before .before .pre .0) (c .namespace-changed .ensures) (n .namespaces-equal .ensures) (n .before .before .before .before .pre .1)
+    let a = n .before .before .before .before .pre in
+    test-asks (namespace-changed _ _ (a .0 .0) (a .0 .1)) (c .namespace-changed .ensures) (ap not (n .namespaces-equal .ensures)) (a .1)
 
 same-length : tie.Need-same-length
 same-length c = search needs
@@ -21,7 +25,8 @@ same-length c = search needs
 returns : tie.Need-returns
 returns c =
     let n = c .before .before .before .before .before in
-    namespace-ran _ _ (n .before .before .before .before .pre .0) (c .before .before .before .namespace-changed .ensures) (n .namespaces-equal .ensures)
+    let a = n .before .before .before .before .pre .0 in
+    test-ran (namespace-changed _ _ (a .0) (a .1)) (c .before .before .before .namespace-changed .ensures) (ap not (n .namespaces-equal .ensures))
     (c .before .before .emit-if .ensures)
 
 pub compare-namespaces-spec : {M : Type 1} → statement M
