@@ -1,28 +1,18 @@
 // A verdict, made in two ways only: of a refusal, or of a tally.
+use lines::reporting::result_of;
 use tally::Bump;
 use tally::KINDS;
 use tally::Tally;
 ghost use mathlib.Core.Path.{_≡_};
-ghost use Rattle.lines.specs.Last.{resultAt};
 ghost use Rattle.compat.specs.Verdicts.{refusal, ofTally, selectIn};
 
 pub struct Verdict {
     pub number: u8,
     pub side: u8,
     pub bump: Bump,
-    pub result: u8,
+    pub result: usize,
     pub length: usize,
     pub counts: [u64; KINDS],
-}
-
-// "the result (Breaking exactly at Major)": Breaking 1, Compatible 0.
-fn result_of(bump: Bump) -> u8
-    ensures { λ r. ⌜ r ≡ resultAt (bump .level) ⌝ }
-{
-    if bump.level == 2 {
-        return 1;
-    }
-    0
 }
 
 impl Verdict {

@@ -54,8 +54,8 @@ pub fn emit(mode: Mode, old: &[u8], new: &[u8], out: &mut [u8], t: Tally, site: 
     t.counted(kind, bump, n)
 }
 
-// The number of the result's word: Breaking exactly at Major.
-fn result_of(bump: Bump) -> usize
+// "the result (Breaking exactly at Major)": Breaking 1, Compatible 0, also the places of their words.
+pub fn result_of(bump: Bump) -> usize
     ensures { λ r. ⌜ r ≡ resultAt (bump .level) ⌝ }
 {
     if bump.level == 2 {

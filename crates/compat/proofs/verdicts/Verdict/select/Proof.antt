@@ -26,9 +26,6 @@ cast-result-2 c = search needs
 cast-result-3 : tie.Need-cast-result-3
 cast-result-3 c = search needs
 
-cast-result-4 : tie.Need-cast-result-4
-cast-result-4 c = search needs
-
 add-if1 : tie.Need-add-if1
 add-if1 c = search needs
 
@@ -58,7 +55,7 @@ returns-4 c = rw (c .before .match .keys3)
 
 returns-5 : tie.Need-returns-5
 unfolding selectIn
-returns-5 c = rw (c .before .match .keys4)
+returns-5 c = rw (c .match .keys4)
 
 returns-6 : tie.Need-returns-6
 unfolding selectIn
@@ -74,7 +71,6 @@ select-spec =
     cast-result
     cast-result-2
     cast-result-3
-    cast-result-4
     add-if1
     sub-result
     mul-result
