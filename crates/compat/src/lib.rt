@@ -33,12 +33,12 @@ fn pass(mode: Mode, old: &[u8], new: &[u8], out: &mut [u8]) -> Verdict
     ensures { λ r. ⌜ Passed mode (now (out .entry)) (allChanges (now (old .entry)) (now (new .entry))) r (now (out .exit)) ⌝ }
 {
     let t = check(mode, old, new, out);
-    let length = put_last_line(mode, out, t.length, t);
+    let length = put_last_line(mode, out, t);
     Verdict::of_tally(t, length)
 }
 
 // The comparison of two accepted images: refusal 11, or the verdict. Nothing is written.
-pub fn compare(old: &[u8], new: &[u8]) -> Verdict
+fn compare(old: &[u8], new: &[u8]) -> Verdict
     requires { ⌜ BothAccepted (now old) (now new) ⌝ }
     ensures { λ r. ⌜ r ≡ verdictIs (comparePair sameType (viewOf (schemaOf (now (old .entry)))) (viewOf (schemaOf (now (new .entry))))) ⌝ }
 {

@@ -64,17 +64,28 @@ pub fn result_of(bump: Bump) -> usize
     0
 }
 
-// "Last line, in the same way: result, bump, number of changes."
-pub fn put_last_line(mode: Mode, out: &mut [u8], at: usize, t: Tally) -> usize
-    requires { ⌜ (t .bump .level ≤ 2) × Space mode (now out) at (length (lastLineOf t)) ⌝ }
-    ensures { λ r. ⌜ Puts mode (now (out .entry)) at (lastLineOf t) r (now (out .exit)) ⌝ }
+// From the start of the part of the buffer that it is lent.
+fn put_result(mode: Mode, out: &mut [u8], t: Tally) -> usize
+    requires { ⌜ (t .bump .level ≤ 2) × Space mode (now out) 0 (length (lastLineOf t)) ⌝ }
+    ensures { λ r. ⌜ Puts mode (now (out .entry)) 0 (lastLineOf t) r (now (out .exit)) ⌝ }
 {
     let level = t.bump.level as usize;
     let result = result_of(t.bump);
-    let at = put_word(mode, out, at, RESULTS + result);
+    let at = put_word(mode, out, 0, RESULTS + result);
     let at = put_byte(mode, out, at, b';');
     let at = put_word(mode, out, at, BUMPS + level);
     let at = put_byte(mode, out, at, b';');
     let at = put_number(mode, out, at, t.changes as u64);
     put_byte(mode, out, at, b'\n')
+}
+
+// "Last line, in the same way: result, bump, number of changes." The length of the whole report.
+pub fn put_last_line(mode: Mode, out: &mut [u8], t: Tally) -> usize
+    requires { ⌜ (t .bump .level ≤ 2) × Space mode (now out) (t .length) (length (lastLineOf t)) ⌝ }
+    ensures { λ r. ⌜ Puts mode (now (out .entry)) (t .length) (lastLineOf t) r (now (out .exit)) ⌝ }
+{
+    let at = t.length;
+    let done = start_in(mode, at);
+    let n = put_result(mode, &mut out[done..], t);
+    at + n
 }
