@@ -1,12 +1,14 @@
 /*
  * Whether a new Vexil schema may be loaded where an old one runs: the verdict on two images, and its report; and the contents of one
- * image. The libraries are libcompat.a and liblisting.a, for x86-64. docs/FORMAT.md describes images, refusals and reports.
+ * image. The libraries are libcompat.a and liblisting.a, for x86-64: `rt staticlib compat` and `rt staticlib listing` write them to
+ * target/staticlib. docs/FORMAT.md describes images, refusals and reports.
  *
  * Any bytes may be lent as images: faulty ones are refused by number, and every call returns.
  *
  *   - Lengths are in bytes. Every pointer is valid for its length and is not NULL, even where its length is 0.
  *   - Both images are only read. They may overlap each other, or be the same.
  *   - The buffer overlaps no image.
+ *   - On all recorded pairs the verdict and the report use less than 24 KiB of stack.
  *   - Nothing is allocated and nothing is kept from one call to the next, so that threads may call at the same time.
  */
 #ifndef VEXIL_COMPAT_H
@@ -29,8 +31,11 @@ enum vexil_compat_selector {
     VEXIL_COMPAT_BUMP = 2,   /* the largest bump of a change */
     VEXIL_COMPAT_RESULT = 3, /* whether the new schema may be loaded */
     VEXIL_COMPAT_LENGTH = 4, /* the length of the report */
-    VEXIL_COMPAT_COUNTS = 5  /* VEXIL_COMPAT_COUNTS + a kind of change: how many there are of it */
+    VEXIL_COMPAT_COUNTS = 5  /* the first of the counts: VEXIL_COMPAT_COUNT_OF(kind) */
 };
+
+/* The selector for how many changes there are of a kind. */
+#define VEXIL_COMPAT_COUNT_OF(kind) ((uint64_t)VEXIL_COMPAT_COUNTS + (uint64_t)(kind))
 
 enum vexil_compat_refusal {
     VEXIL_COMPAT_NOT_REFUSED = 0,
@@ -45,14 +50,14 @@ enum vexil_compat_refusal {
     VEXIL_COMPAT_CODE = 9,        /* another coded byte outside its values */
     VEXIL_COMPAT_DEEP = 10,       /* a 33rd node or a 9th delta */
     VEXIL_COMPAT_ALIAS_PAIR = 11, /* of the pair: one name is a generic alias in both images */
-    VEXIL_COMPAT_FULL = 12        /* of the report only: it is longer than its buffer. No selector gives this number. */
+    VEXIL_COMPAT_FULL = 12        /* a report or a listing is longer than its buffer. Of the two verdict calls only the listing's gives it. */
 };
 
 enum vexil_compat_side {
     VEXIL_COMPAT_NO_SIDE = 0,
     VEXIL_COMPAT_OLD = 1, /* also if both images are faulty */
     VEXIL_COMPAT_NEW = 2,
-    VEXIL_COMPAT_BOTH = 3 /* of VEXIL_COMPAT_ALIAS_PAIR and VEXIL_COMPAT_FULL */
+    VEXIL_COMPAT_BOTH = 3 /* of VEXIL_COMPAT_ALIAS_PAIR, and of a report's VEXIL_COMPAT_FULL */
 };
 
 enum vexil_compat_bump {

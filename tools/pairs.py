@@ -94,6 +94,8 @@ def samples(suite: Suite):
     suite.files("the sample", old, new, SAMPLE_REPORT)
     suite.files("the sample swapped", new, old)
     suite.files("the sample against itself", old, old, "Compatible;Patch;0\n")
+    for names in (("drive-1", "drive-2"), ("drive-2", "drive-3"), ("import-old", "import-new"), ("drive-1", "damaged")):
+        suite.files(" ".join(names), *(ROOT / "samples" / f"{name}.img" for name in names))
 
 
 def files(suite: Suite):
@@ -117,15 +119,17 @@ def both_bad(suite: Suite):
 
 def of_record(suite: Suite):
     """The first recorded pair of each refusal and side, of each bump, and those with long reports."""
-    seen = set()
+    seen, texts = set(), set()
     for name, old, new, selectors, report in recorded():
         number, side, bump = selectors[:3]
         if name.startswith("report of ") or name == "11 before 12" or (number, side, bump) not in seen:
             text = f"refused {number} {SIDES[side]}\n" if number else "refused 12 both\n" if len(report) > 65_536 else report.decode()
             suite.images(name, old, new, text)
+            texts.add(text)
         seen.add((number, side, bump))
     refusals = {(number, side) for number in range(1, 11) for side in (1, 2)} | {(11, 3)}
     suite.equal("every refusal on every side", {(number, side) for number, side, _ in seen if number}, refusals)
+    suite.equal("a report that is too long", "refused 12 both\n" in texts, True)
     suite.equal("every bump", {bump for number, _, bump in seen if not number}, {0, 1, 2})
 
 

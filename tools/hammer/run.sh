@@ -14,6 +14,12 @@ if [ $# -lt 2 ] || [ $# -gt 3 ]; then
     exit 2
 fi
 seconds=${3:-60}
+case $1$2$seconds in
+*[!0-9]*)
+    echo 'usage: tools/hammer/run.sh SEED COUNT [SECONDS], all numbers' >&2
+    exit 2
+    ;;
+esac
 
 library=$(bash "$repo/tools/loader/library.sh")
 bash "$repo/tools/oracle/build.sh" --with-library "$library" ||

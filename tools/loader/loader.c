@@ -54,7 +54,9 @@ static struct image read_image(const char *path)
     static uint8_t bytes[VEXIL_COMPAT_IMAGE_BYTES + 1];
     size_t length = 0;
     FILE *file = fopen(path, "rb");
-    if (file != NULL) {
+    if (file == NULL) {
+        perror(path);
+    } else {
         length = fread(bytes, 1, sizeof bytes, file);
         if (ferror(file))
             length = 0;
@@ -106,7 +108,7 @@ static void print_counts(const struct pair *pair)
         [VEXIL_COMPAT_FLAGS_BIT_ORDINAL_CHANGED] = "FlagsBitOrdinalChanged",
     };
     for (uint64_t kind = 0; kind < VEXIL_COMPAT_KINDS; kind++) {
-        uint64_t count = verdict(pair, VEXIL_COMPAT_COUNTS + kind);
+        uint64_t count = verdict(pair, VEXIL_COMPAT_COUNT_OF(kind));
         if (count != 0)
             printf("%s %" PRIu64 "\n", names[kind], count);
     }
@@ -137,16 +139,22 @@ static int list(const struct image *image)
     return LOAD;
 }
 
+/* A file of such a name is given as `./-name`. */
+static bool is_option(const char *word)
+{
+    return word[0] == '-';
+}
+
 static int run(int count, char **words)
 {
     const char *option = count > 1 ? words[1] : "";
     bool counts = strcmp(option, "--counts") == 0;
     int first = counts ? 2 : 1;
-    if (count == 3 && strcmp(option, "--list") == 0) {
+    if (count == 3 && strcmp(option, "--list") == 0 && !is_option(words[2])) {
         struct image image = read_image(words[2]);
         return list(&image);
     }
-    if (count - first != 2) {
+    if (count - first != 2 || is_option(words[first]) || is_option(words[first + 1])) {
         fputs("usage: loader [--counts] OLD NEW\n       loader --list IMAGE\n", stderr);
         return FAILED;
     }

@@ -5,6 +5,7 @@ follows from that.
 It needs target/loader/loader (build.sh) and target/oracle/oracle. The last line is `N passed, M failed`.
 """
 
+import os
 import shutil
 import signal
 import subprocess
@@ -14,7 +15,7 @@ from pathlib import Path
 ROOT = Path(__file__).resolve().parents[2]
 sys.path.append(str(ROOT / "tools"))
 import pairs  # noqa: E402
-from pairs import ORACLE, SAMPLE, both_bad, files, listings, of_record, output, recorded, samples  # noqa: E402
+from pairs import ORACLE, SAMPLE, SAMPLE_REPORT, both_bad, files, listings, of_record, output, recorded, samples  # noqa: E402
 
 HERE = ROOT / "tools" / "loader"
 LOADER = ROOT / "target" / "loader" / "loader"
@@ -49,11 +50,27 @@ def counts(suite: Suite):
 
 def usage(suite: Suite):
     old, new = SAMPLE
-    for words in ([], [old], [old, new, new], ["--counts"], ["--counts", old], ["--counts", old, new, new], ["--list"], ["--list", old, new]):
-        suite.equal(f"usage: {len(words)} words", output(LOADER, *words), (2, ""))
+    for words in (
+        [], [old], [old, new, new], ["--counts"], ["--counts", old], ["--counts", old, new, new], ["--list"], ["--list", old, new],
+        ["--verbose", new], [old, "--verbose"], ["--counts", old, "-"], ["--list", "--counts"], ["--counts", "--list", old],
+    ):
+        suite.equal(f"usage: {words}", output(LOADER, *words), (2, ""))
     with open("/dev/full", "w") as full:
         done = subprocess.run([LOADER, old, old], stdout=full, stderr=subprocess.DEVNULL)
     suite.equal("a Compatible that can't be printed", done.returncode, 2)
+
+
+def script(suite: Suite):
+    """`./vexil-compat`, also from another folder and by a link, and with a library that it must not take."""
+    tool, link = ROOT / "vexil-compat", suite.folder / "link"
+    link.symlink_to(tool)
+    elsewhere = {"cwd": suite.folder, "env": {**os.environ, "VEXIL_COMPAT_LIB": str(suite.folder)}}
+    for name in (tool, link):
+        suite.equal(f"the sample pair by {name.name}", output(name, **elsewhere), (1, SAMPLE_REPORT))
+    suite.equal("the script lists", output(tool, "--list", SAMPLE[0]), (0, "0;message;Drive\n"))
+    suite.equal("the script refuses", output(tool, suite.folder / "nothing", SAMPLE[1]), (1, "refused 2 old\n"))
+    for words in ([SAMPLE[0]], [*SAMPLE, SAMPLE[0]], ["--counts", SAMPLE[0]], ["--list", "--list"]):
+        suite.equal(f"the script's usage: {words}", output(tool, *words), (2, ""))
 
 
 def build(program: Path, *words) -> int:
@@ -96,4 +113,4 @@ def under_valgrind(suite: Suite):
 
 
 if __name__ == "__main__":
-    sys.exit(Suite.run(samples, files, both_bad, of_record, counts, listings, usage, overruns, stack, under_valgrind))
+    sys.exit(Suite.run(samples, files, both_bad, of_record, counts, listings, usage, script, overruns, stack, under_valgrind))
