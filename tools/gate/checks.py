@@ -15,8 +15,6 @@ BEHIND = re.compile(
 INSIDE = {"members"}
 # Crates above `parts` whose definitions start from what reading an image gives; their proofs rest on the promise.
 DEFINE = {"listing"}
-# A proof that no longer fits the code's shape: such a refusal says nothing about a fact.
-UNFIT = re.compile(r"has no `Need-|\.Lts\.[^`]*` has no field|expected type `tie\.Need-|not in scope|expected `[^`]*`, found")
 
 
 def listed_crates(root: Path) -> dict[str, list[str]]:
@@ -103,28 +101,6 @@ def verdicts(root: Path) -> tuple[int, list[str]]:
     for name in listed_crates(root):
         log = root / "target" / "log" / f"{name}.out"
         found = verdict_faults(name, is_library(root, name), log.read_text()) if log.exists() else [f"{name}: no log of its check"]
-        passed += not found
-        faults += found
-    return passed, faults
-
-
-def edit_faults(label: str, log: str) -> list[str]:
-    """Whether a must-fail edit was refused because a fact fails, as the first error of its log says."""
-    errors = [line for line in log.splitlines() if ": error: " in line]
-    if not errors:
-        return [f"must-fail {label}: no error in its log"]
-    if UNFIT.search(errors[0]):
-        return [f"must-fail {label}: refused for its shape and not for a fact: {errors[0][:200]}"]
-    return []
-
-
-def edits(root: Path) -> tuple[int, list[str]]:
-    """How many must-fail edits were refused for a fact, and the faults of the others."""
-    passed, faults = 0, []
-    for edit in sorted((root / "crates").glob("*/must-fail/*.edit")):
-        label = f"{edit.parent.parent.name}/{edit.stem}"
-        log = root / "target" / "must-fail" / label / ".log"
-        found = edit_faults(label, log.read_text()) if log.exists() else [f"must-fail {label}: it was not tried"]
         passed += not found
         faults += found
     return passed, faults

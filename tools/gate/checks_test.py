@@ -42,20 +42,6 @@ class Verdicts(unittest.TestCase):
         self.assertEqual(checks.verdict_faults("maps", True, PROVED + PROVED), ["maps: 2 verdict lines instead of one"])
 
 
-class Edits(unittest.TestCase):
-    def test_an_edit_that_breaks_a_fact_passes(self):
-        self.assertEqual(checks.edit_faults("maps/x", "proofs/A.antt:1:2: error: `returns`: `omega`: the goal does not follow\n"), [])
-
-    def test_an_edit_that_breaks_the_shape_fails(self):
-        for text in (
-            "`lts` has no `Need-returns-2` that can be named from here",
-            "`loop-again`: record `Rattle.maps.proofs.compared.Lts.Else1` has no field `loop`",
-            "`main-spec`: expected type `tie.Need-bump-requires`, but this has type `tie.Need-returns`",
-        ):
-            self.assertEqual(len(checks.edit_faults("maps/x", f"proofs/A.antt:1:2: error: {text}\n")), 1)
-        self.assertEqual(len(checks.edit_faults("maps/x", "all is well\n")), 1)
-
-
 class Folders(unittest.TestCase):
     def setUp(self):
         self.folder = tempfile.TemporaryDirectory()
@@ -119,11 +105,6 @@ class Folders(unittest.TestCase):
     def test_a_log_is_read(self):
         self.log(PROVED)
         self.assertEqual(checks.verdicts(self.root), (1, []))
-
-    def test_an_edit_that_was_not_tried_fails(self):
-        (self.root / "crates" / "maps" / "must-fail").mkdir()
-        (self.root / "crates" / "maps" / "must-fail" / "x.edit").touch()
-        self.assertEqual(checks.edits(self.root), (0, ["must-fail maps/x: it was not tried"]))
 
 
 if __name__ == "__main__":

@@ -10,6 +10,7 @@ import time
 from pathlib import Path
 
 import checks
+import edits
 
 ROOT = Path(__file__).resolve().parents[2]
 ORACLE = ROOT / "target" / "oracle" / "oracle"
@@ -55,6 +56,7 @@ class Gate:
         self.count(passed, [f"{name}: failed"] * failed)
         if (status != 0) != (failed > 0) or passed == 0:
             self.faults.append(f"{name}: exit status {status} with '{lines[-1]}'")
+        self.left_out += [f"{name}: {line}" for line in lines if line.startswith("the time is over")]
 
     def finish(self) -> int:
         for reason in self.left_out:
@@ -81,11 +83,12 @@ def crates(gate: Gate):
     gate.command("rt fmt --check", "rt", "fmt", "--check")
     gate.suite("rt ci", "rt", "ci")
     gate.count(*checks.verdicts(ROOT))
-    gate.count(*checks.edits(ROOT))
+    gate.count(*edits.edits(ROOT))
 
 
 def gate_tests(gate: Gate):
-    gate.command("tools/gate", sys.executable, "tools/gate/checks_test.py", "-q", "-b")
+    for tests in ("checks_test.py", "edits_test.py"):
+        gate.command(f"tools/gate/{tests}", sys.executable, f"tools/gate/{tests}", "-q", "-b")
 
 
 def oracle(gate: Gate):
@@ -108,10 +111,8 @@ def oracle(gate: Gate):
 
 
 def is_left_out(gate: Gate, what: str, *tools: str) -> bool:
-    """Whether a stage on the library can't run, for want of these tools or of the crate `compat`; it is named then."""
+    """Whether a stage can't run for want of these tools; it is named then."""
     reasons = [f"there is no {tool}" for tool in tools if not shutil.which(tool)]
-    if "compat" not in checks.listed_crates(ROOT):
-        reasons.append("crates.txt lists no crate compat")
     gate.left_out += [f"{what}: {reason}" for reason in reasons]
     return bool(reasons)
 
@@ -136,7 +137,7 @@ def hammer(gate: Gate):
 def main() -> int:
     gate = Gate()
     if len(sys.argv) > 1:
-        sys.exit(__doc__)
+        sys.exit(f"It takes no arguments. {__doc__}")
     # Only the library that was proved here counts.
     os.environ.pop("VEXIL_COMPAT_LIB", None)
     gate.stage("crates", lambda: crates(gate))
