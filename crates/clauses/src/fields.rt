@@ -87,26 +87,11 @@ fn compare_fields(
     let t = emit_if(mode, old, new, out, t, renamed, field_renamed(scope, i, j));
     let a = field_type(old, i);
     let b = field_type(new, j);
-    let t = compare_types(
-        mode,
-        old,
-        new,
-        out,
-        t,
-        a,
-        b,
-        field_type_changed(scope, j, a, b),
-    );
+    let site = field_type_changed(scope, j, a, b);
+    let t = compare_types(mode, old, new, out, t, a, b, site);
     let coded = !encodings_equal(old, i, new, j);
-    let t = emit_if(
-        mode,
-        old,
-        new,
-        out,
-        t,
-        coded,
-        field_encoding_changed(scope, i, j),
-    );
+    let site = field_encoding_changed(scope, i, j);
+    let t = emit_if(mode, old, new, out, t, coded, site);
     let was = fields::field_deprecated(old, i);
     let is = fields::field_deprecated(new, j);
     compare_deprecated(mode, old, new, out, t, was, is, field_deprecated(scope, j))

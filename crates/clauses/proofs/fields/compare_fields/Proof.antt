@@ -40,13 +40,13 @@ o₂ : (c : tie.After-compare-types) → Left 2 (c .before .before .before .befo
 o₂ c =
     owed-next (o₁ (c .before .before .before .before .before .before .before))
     (types-ran (fieldTypeChanged _ _) (type-changed (c .before .before .before .before .before .before .before .before .before .before .before .before .before .before .before .before .pre .0))
-    (c .before .before .before .before .field-type .ensures) (c .before .before .before .field-type2 .ensures) (c .before .field-type-changed .ensures)
+    (c .before .before .before .before .field-type .ensures) (c .before .before .before .field-type2 .ensures) (c .before .before .field-type-changed .ensures)
     (c .compare-types .ensures))
 
 o₃ : (c : tie.After-emit-if2) → Left 3 (c .before .before .before .before .before .before .before .before .before .before .before .before .before .before .before .before .before .before .before .before .before .before) (c .emit-if2 .result) (c .emit-if2 .last .1 .1 .1 .0)
 o₃ c =
     owed-next (o₂ (c .before .before .before .before .before .before))
-    (test-ran (encoding-changed (c .before .before .before .before .before .before .before .before .before .before .before .before .before .before .before .before .before .before .before .before .before .before .pre .0)) (c .before .field-encoding-changed .ensures)
+    (test-ran (encoding-changed (c .before .before .before .before .before .before .before .before .before .before .before .before .before .before .before .before .before .before .before .before .before .before .pre .0)) (c .before .before .field-encoding-changed .ensures)
     (ap not (c .before .before .before .encodings-equal .ensures))
     (c .emit-if2 .ensures))
 
@@ -88,7 +88,7 @@ compare-types-requires : tie.Need-compare-types-requires
 compare-types-requires c κs =
     let p = c .before .before .before .before .before .before .before .before .before .before .before .before .before .before .before .pre .0 in
     types-ask (fieldTypeChanged _ _) (type-changed p)
-    (c .before .before .before .field-type .ensures) (c .before .before .field-type2 .ensures) (c .field-type-changed .ensures)
+    (c .before .before .before .field-type .ensures) (c .before .before .field-type2 .ensures) (c .before .field-type-changed .ensures)
     (p .accepted) (types-here p .0) (types-here p .1) (owed-room (o₁ (c .before .before .before .before .before .before)))
 
 encodings-equal-requires : tie.Need-encodings-equal-requires
@@ -99,7 +99,7 @@ field-encoding-changed-requires c κs = search needs
 
 emit-if-requires-2 : tie.Need-emit-if-requires-2
 emit-if-requires-2 c κs =
-    test-asks (encoding-changed (c .before .before .before .before .before .before .before .before .before .before .before .before .before .before .before .before .before .before .before .before .before .pre .0)) (c .field-encoding-changed .ensures)
+    test-asks (encoding-changed (c .before .before .before .before .before .before .before .before .before .before .before .before .before .before .before .before .before .before .before .before .before .pre .0)) (c .before .field-encoding-changed .ensures)
     (ap not (c .before .before .encodings-equal .ensures))
     (owed-room (o₂ (c .before .before .before .before .before)))
 
