@@ -18,7 +18,7 @@ use Rattle.rules.specs.Survivors.{variantOrdinal, variantMap}
 use Rattle.rules.specs.Changes.{Change, quoted}
 use Rattle.rules.specs.Clauses.{compareTypes, fieldText, compareFieldNames, sameEncoding, compareEncodings, compareDeprecated, compareFields, fieldRules, compareFieldSets, compareMessages, enumRules, compareNonExhaustive, compareEnums, flagsRules, compareFlags, unionRules, compareUnions, compareNewtypes}
 use Rattle.survivors.specs.Answers.{ItemSurvives}
-use Rattle.survivors.specs.Runs.{itemOrdinal, itemMap, Holds}
+use Rattle.survivors.specs.Runs.{itemIn, itemOrdinal, itemMap, Holds}
 use Rattle.survivors.specs.declared.Found.{Found}
 use Rattle.survivors.specs.declared.Found.the-variants.{At}
 use Rattle.survivors.proofs.Runs.{message-holds, enum-holds, flags-holds, union-holds, variant-holds}
@@ -92,29 +92,34 @@ over x b o h k = record {
   are = rw (h .are, k .are);
 }
 
--- ---- what stands under an ordinal in two runs
+-- ---- two items under one ordinal of two runs: they are well formed, and the rule for what was kept says what is reported of them
 
-module _ {old new : List ℕ} {k : ℕ} {o u : Found} {i j : ℕ} (e : o ≡ At i) (f : u ≡ At j) {a b : Run} where
-  module _ {c : Scope} (p : ItemsIn old new (fieldItems c a b)) (s : ItemSurvives Shape.Field old a k o) (t : ItemSurvives Shape.Field new b k u) where
+pub record Kept (old new : List ℕ) (x : Items) (k i j : ℕ) : Type 0 where
+  pub inside : ItemsIn old new x
+  pub here : ItemHere (shape old new x) old i × ItemHere (shape old new x) new j
+  pub are : keptAt old new x k ≡ rules old new x .kept (itemIn (shape old new x) old i) (itemIn (shape old new x) new j)
+
+pub both-found : {old new : List ℕ} {x : Items} {k : ℕ} {o u : Found} {i j : ℕ} → ItemsIn old new x
+    → ItemSurvives (shape old new x) old (x .old) k o → o ≡ At i → ItemSurvives (shape old new x) new (x .new) k u → u ≡ At j → Kept old new x k i j
+both-found {k = k} p s e t f = record { inside = p; here = (item-here p Side.Old k s e, item-here p Side.New k t f); are = kept-item p k s t e f }
+
+module _ {old new : List ℕ} {a b : Run} {k i j : ℕ} where
+  module _ {c : Scope} (p : Kept old new (fieldItems c a b) k i j) where
     pub field-pair : FieldPair old new c i j
     unfolding OwnerHere
-    field-pair = record { accepted = p .accepted; scope = p .owner; here = (item-here p Side.Old k s e, item-here p Side.New k t f) }
+    field-pair = record { accepted = p .inside .accepted; scope = p .inside .owner; here = p .here }
 
     pub field-kept : keptAt old new (fieldItems c a b) k ≡ compareFields (reading old new) (declarationOf old new c) (fieldIn old i) (fieldIn new j)
     unfolding fieldRules
-    field-kept = kept-item p k s t e f
+    field-kept = p .are
 
-  module _ {d : ℕ} (p : ItemsIn old new (unionItems d a b)) (s : ItemSurvives Shape.Variant old a k o) (t : ItemSurvives Shape.Variant new b k u) where
-    pub variants-here : ItemHere Shape.Variant old i × ItemHere Shape.Variant new j
-    variants-here = (item-here p Side.Old k s e, item-here p Side.New k t f)
-
-    pub variant-kept : {m n : Run} → m ≡ variantItems old i → n ≡ variantItems new j
-        → Over old new (fieldItems (Scope.Variant d i) m n) (keptAt old new (unionItems d a b) k)
-    unfolding OwnerHere ScopeHere declarationOf compareFieldSets unionRules
-    variant-kept {m} {n} q r =
-        let w = over (fieldItems (Scope.Variant d i) m n) {xs = variantIn old i .fields} {ys = variantIn new j .fields} (p .accepted) (p .owner, variants-here .0)
-        (rw q (variant-holds old i (variants-here .0))) (rw r (variant-holds new j (variants-here .1))) in
-        record { inside = w .inside; are = kept-item p k s t e f ∙ w .are }
+  pub variant-kept : {d : ℕ} {m n : Run} → Kept old new (unionItems d a b) k i j → m ≡ variantItems old i → n ≡ variantItems new j
+      → Over old new (fieldItems (Scope.Variant d i) m n) (keptAt old new (unionItems d a b) k)
+  unfolding OwnerHere ScopeHere declarationOf compareFieldSets unionRules
+  variant-kept {d} {m} {n} p q r =
+      let w = over (fieldItems (Scope.Variant d i) m n) {xs = variantIn old i .fields} {ys = variantIn new j .fields} (p .inside .accepted) (p .inside .owner, p .here .0)
+      (rw q (variant-holds old i (p .here .0))) (rw r (variant-holds new j (p .here .1))) in
+      record { inside = w .inside; are = p .are ∙ w .are }
 
 -- ---- two declarations
 

@@ -1,31 +1,18 @@
 -- `clauses::fields::kept_field` meets its contract. Assumes nothing.
-use mathlib.Core.List.{[], _∷_}
-use Rattle.parts.specs.Promise.{fieldIn}
-use Rattle.rules.specs.Clauses.{compareFields}
-use Rattle.text.proofs.Pieces.{together}
-use Rattle.tally.proofs.Running.{Owed, owed-start, owed-room, owed-next, owed-end, ran-none}
-use Rattle.details.specs.Details.{declarationOf}
-use Rattle.items.specs.Pairs.{reading}
-use Rattle.items.specs.Items.{fieldItems, keptAt}
+use Rattle.tally.proofs.Running.{ran-none}
+use Rattle.items.specs.Items.{fieldItems}
 use Rattle.items.proofs.Standing.{kept-none-old, kept-none-new}
-use Rattle.clauses.proofs.Pairs.{field-pair, field-kept}
+use Rattle.clauses.proofs.Pairs.{Kept, both-found, field-pair, field-kept}
 use borrow.Author.Needs.{needs}
 use Rattle.clauses.proofs.fields.kept_field.Statement.{statement}
 use Rattle.clauses.proofs.fields.kept_field.Tie as tie
 
--- both fields are found: what is owed is their comparison
+-- both fields are found
 abbrev st : tie.After-j → tie.Start
 st c = c .before .before .before .before .before .before .before .before .before .before
 
-owed : (c : tie.After-j) → Owed (st c .args .mode) (st c .args .out .now) (st c .args .t)
-    (keptAt (st c .args .old .now) (st c .args .new .now) (fieldItems (st c .args .scope) (st c .args .a) (st c .args .b)) (st c .args .ordinal))
-    (st c .args .t) (st c .args .out .now)
-    (compareFields (reading (st c .args .old .now) (st c .args .new .now)) (declarationOf (st c .args .old .now) (st c .args .new .now) (st c .args .scope))
-    (fieldIn (st c .args .old .now) (c .before .before .before .before .i .given .0 .0)) (fieldIn (st c .args .new .now) (c .j .given .0 .0)) ∷ [])
-unfolding together
-owed c =
-    owed-start (field-kept (c .before .before .before .before .i .given .1) (c .j .given .1) (st c .pre .0) (c .before .before .before .before .before .before .survivor-item .ensures) (c .before .before .survivor-item2 .ensures))
-    (st c .pre .1)
+kept : (c : tie.After-j) → Kept (st c .args .old .now) (st c .args .new .now) (fieldItems (st c .args .scope) (st c .args .a) (st c .args .b)) (st c .args .ordinal) (c .before .before .before .before .i .given .0 .0) (c .j .given .0 .0)
+kept c = both-found (st c .pre .0) (c .before .before .before .before .before .before .survivor-item .ensures) (c .before .before .before .before .i .given .1) (c .before .before .survivor-item2 .ensures) (c .j .given .1)
 
 survivor-item-requires : tie.Need-survivor-item-requires
 survivor-item-requires c κs = search needs
@@ -52,14 +39,13 @@ returns-2 : tie.Need-returns-2
 returns-2 c = ran-none (kept-none-new (c .before .before .before .before .before .before .before .before .before .before .pre .0) _ (c .before .before .survivor-item2 .ensures) (c .enum-told2 .given .1)) (c .before .before .before .before .before .before .before .before .before .before .pre .1)
 
 compare-fields-requires : tie.Need-compare-fields-requires
-compare-fields-requires c κs =
-    (field-pair (c .before .before .before .before .before .before .i .given .1) (c .before .before .j .given .1) (c .before .before .before .before .before .before .before .before .before .before .before .before .pre .0) (c .before .before .before .before .before .before .before .before .survivor-item .ensures) (c .before .before .before .before .survivor-item2 .ensures), owed-room (owed (c .before .before)))
+compare-fields-requires c κs = (field-pair (kept (c .before .before)), rw (field-kept (kept (c .before .before))) at (c .before .before .before .before .before .before .before .before .before .before .before .before .pre .1))
 
 same-length : tie.Need-same-length
 same-length c = search needs
 
 returns-3 : tie.Need-returns-3
-returns-3 c = owed-end (owed-next (owed (c .before .before .before .before .before)) (c .before .before .compare-fields .ensures))
+returns-3 c = rw (field-kept (kept (c .before .before .before .before .before))) (c .before .before .compare-fields .ensures)
 
 pub kept-field-spec : {M : Type 1} → statement M
 kept-field-spec =
