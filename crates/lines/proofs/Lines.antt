@@ -1,16 +1,13 @@
 -- The line of a site in pieces, and the last line of a tally. Assumes nothing.
-use mathlib.Core.Path.{_≡_, refl, ap, _∙_}
+use mathlib.Core.Path.{_≡_, refl}
 use mathlib.Core.Bool.{Bool, true, false, cond}
 use mathlib.Core.List.{List, [], _∷_}
 use Prim.Native.Nat.{ℕ, zero, suc, _≤_, _<_}
-use native.Mathlib.Nat.{not-suc-le-zero, le-of-suc-le-suc}
 use native.Mathlib.Omega.{arith}
 use lib.Dec.{eqb}
-use lib.ListN.{length}
-use Rattle.text.specs.Decimal.{decimal}
 use Rattle.rules.specs.Changes.{level, Change}
-use Rattle.rules.specs.Verdict.{bumpOf, resultOf}
-use Rattle.rules.specs.Report.{changeWord, bumpWord, resultWord, fieldPart, line, changeLine, lastLine}
+use Rattle.rules.specs.Verdict.{resultOf}
+use Rattle.rules.specs.Report.{changeWord, bumpWord, fieldPart, changeLine, lastLine}
 use Rattle.text.proofs.Pieces.{together}
 use Rattle.tally.specs.Tallies.{TallyOf}
 use Rattle.tally.specs.declared.Tally.{Tally}

@@ -4,7 +4,6 @@ use mathlib.Core.Path.{refl}
 use Rattle.image.specs.Words.{bytes}
 use Rattle.text.proofs.Pieces.{owes-start, owes-room, owes-next, owes-end}
 use Rattle.display.proofs.Laws.Texts.{leaf-bits}
-use borrow.Author.Needs.{needs}
 use Rattle.display.proofs.bits_display.Statement.{statement}
 use Rattle.display.proofs.bits_display.Tie as tie
 

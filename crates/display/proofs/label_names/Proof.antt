@@ -1,7 +1,6 @@
 -- `display::label_names` meets its contract. Assumes nothing.
 use borrow.Author.Needs.{needs}
 use Rattle.display.proofs.Laws.Texts.{no-label-names, bits-label-names}
-use borrow.Author.Needs.{needs}
 use Rattle.display.proofs.label_names.Statement.{statement}
 use Rattle.display.proofs.label_names.Tie as tie
 

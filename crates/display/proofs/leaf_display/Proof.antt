@@ -3,7 +3,6 @@ use borrow.Author.Needs.{needs}
 use mathlib.Core.Path.{sym, _∙_}
 use Rattle.image.specs.Words.{bytes}
 use Rattle.display.proofs.Laws.Texts.{space-for, puts-for, leaf-primitive, leaf-semantic, leaf-named}
-use borrow.Author.Needs.{needs}
 use Rattle.display.proofs.leaf_display.Statement.{statement}
 use Rattle.display.proofs.leaf_display.Tie as tie
 

@@ -6,7 +6,6 @@ use Rattle.parts.proofs.Promise.{resolved-here}
 use Rattle.rules.specs.Text.{showName}
 use Rattle.types.proofs.Laws.Labels.{id-unresolvable, id-name}
 use Rattle.display.proofs.Laws.Texts.{space-for, puts-for}
-use borrow.Author.Needs.{needs}
 use Rattle.display.proofs.named_display.Statement.{statement}
 use Rattle.display.proofs.named_display.Tie as tie
 

@@ -4,7 +4,6 @@ use mathlib.Core.Path.{refl, sym, _∙_}
 use Rattle.image.specs.Words.{bytes}
 use Rattle.text.proofs.Pieces.{owes-start, owes-room, owes-next, owes-end}
 use Rattle.display.proofs.Laws.Texts.{puts-for, puts-nothing, size-none, size-some}
-use borrow.Author.Needs.{needs}
 use Rattle.display.proofs.size_display.Statement.{statement}
 use Rattle.display.proofs.size_display.Tie as tie
 

@@ -1,7 +1,5 @@
 -- `details::names::put_declaration` meets its contract: in each arm the scope is known. Assumes nothing.
 use mathlib.Core.Path.{_≡_, sym, ap, _∙_}
-use mathlib.Core.List.{List}
-use Prim.Native.Nat.{ℕ}
 use borrow.Author.Needs.{needs}
 use Rattle.details.specs.Details.{declarationOf, ScopeHere}
 use Rattle.details.specs.declared.Scope.{Scope}

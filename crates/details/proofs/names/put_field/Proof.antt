@@ -1,10 +1,7 @@
 -- `details::names::put_field` meets its contract: in each arm the item is known. Assumes nothing.
 use mathlib.Core.Path.{_≡_, sym, ap, _∙_}
 use mathlib.Core.Option.{some}
-use mathlib.Core.List.{List}
-use Prim.Native.Nat.{ℕ}
 use borrow.Author.Needs.{needs}
-use Rattle.image.specs.Schema.{Name}
 use Rattle.image.specs.Words.{bytes}
 use Rattle.rules.specs.Report.{fieldPart}
 use Rattle.details.specs.Details.{itemOf, ItemOfHere}

@@ -1,5 +1,5 @@
 -- `details::shown::put_bool` meets its contract, by the value. Assumes nothing.
-use mathlib.Core.Path.{_≡_, sym, ap}
+use mathlib.Core.Path.{sym, ap}
 use borrow.Author.Needs.{needs}
 use Rattle.image.specs.Words.{bytes}
 use Rattle.rules.specs.Text.{boolWord}

@@ -1,6 +1,6 @@
 -- `details::shown::put_kind` meets its contract: the kinds stand in the table from DECLS on. Assumes nothing.
 use mathlib.Core.Path.{_≡_, ap, _∙_}
-use Prim.Native.Nat.{ℕ, _+_}
+use Prim.Native.Nat.{_+_}
 use native.Mathlib.Omega.{arith}
 use borrow.Author.Needs.{needs}
 use Rattle.image.specs.Words.{kindWord}

@@ -1,11 +1,10 @@
 -- `details::subjects::put_decl` meets its contract, piece by piece. Assumes nothing.
-use mathlib.Core.Path.{refl}
+use mathlib.Core.Path.{refl, ap}
 use mathlib.Core.List.{List, [], _∷_}
 use Prim.Native.Nat.{ℕ}
 use lib.ListN.{drop}
 use Rattle.text.proofs.Writing.{puts-length}
 use Rattle.text.proofs.Pieces.{together, Owes, owes-start, owes-room, owes-next, owes-end}
-use mathlib.Core.Path.{refl, ap}
 use Rattle.image.specs.Words.{bytes, kindWord}
 use Rattle.parts.specs.Promise.{declIn}
 use Rattle.rules.specs.Changes.{quoted}

@@ -1,16 +1,14 @@
 -- `details::subjects::put_field_ordinal` meets its contract, piece by piece. Assumes nothing.
-use mathlib.Core.Path.{refl}
+use mathlib.Core.Path.{refl, ap}
 use mathlib.Core.List.{List, [], _∷_}
 use Prim.Native.Nat.{ℕ}
 use lib.ListN.{drop}
 use Rattle.text.proofs.Writing.{puts-length}
 use Rattle.text.proofs.Pieces.{together, Owes, owes-start, owes-room, owes-next, owes-end}
-use mathlib.Core.Path.{refl, ap, _∙_}
 use Rattle.image.specs.Words.{bytes}
 use Rattle.parts.specs.Promise.{ordinalIn}
 use Rattle.text.specs.Decimal.{decimal}
 use Rattle.details.specs.Details.{fieldOrdinalText}
-use Rattle.details.proofs.Writers.{space-as, puts-as}
 use Rattle.details.proofs.Writers.{space-as, puts-as}
 use borrow.Author.Needs.{needs}
 use Rattle.details.proofs.subjects.put_field_ordinal.Statement.{statement}

@@ -1,17 +1,15 @@
 -- `details::subjects::put_item` meets its contract, piece by piece. Assumes nothing.
-use mathlib.Core.Path.{refl}
+use mathlib.Core.Path.{refl, ap}
 use mathlib.Core.List.{List, [], _∷_}
 use Prim.Native.Nat.{ℕ}
 use lib.ListN.{drop}
 use Rattle.text.proofs.Writing.{puts-length}
 use Rattle.text.proofs.Pieces.{together, Owes, owes-start, owes-room, owes-next, owes-end}
-use mathlib.Core.Path.{refl, ap, _∙_}
 use Rattle.image.specs.Words.{bytes}
 use Rattle.parts.specs.Promise.{ordinalIn, itemName}
 use Rattle.text.specs.Decimal.{decimal}
 use Rattle.rules.specs.Changes.{quoted, numbered}
 use Rattle.details.specs.Details.{wordText, itemText}
-use Rattle.details.proofs.Writers.{space-as, puts-as}
 use Rattle.details.proofs.Writers.{space-as, puts-as}
 use borrow.Author.Needs.{needs}
 use Rattle.details.proofs.subjects.put_item.Statement.{statement}

@@ -3,7 +3,6 @@ use borrow.Author.Needs.{needs}
 use Rattle.image.specs.Words.{bytes}
 use Rattle.text.proofs.Pieces.{owes-start, owes-room, owes-next, owes-end}
 use Rattle.display.proofs.Laws.Texts.{encoding-text}
-use borrow.Author.Needs.{needs}
 use Rattle.display.proofs.encodings.encoding_display.Statement.{statement}
 use Rattle.display.proofs.encodings.encoding_display.Tie as tie
 

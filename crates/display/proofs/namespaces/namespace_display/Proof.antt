@@ -5,7 +5,6 @@ use Rattle.image.specs.Words.{bytes}
 use Rattle.rules.specs.Text.{joined}
 use Rattle.display.proofs.Laws.Texts.{space-for, puts-for}
 use Rattle.types.proofs.Laws.Names.{segments-in, segment-names}
-use borrow.Author.Needs.{needs}
 use Rattle.display.proofs.namespaces.namespace_display.Statement.{statement}
 use Rattle.display.proofs.namespaces.namespace_display.Tie as tie
 

@@ -1,7 +1,6 @@
 -- `display::words::put_word` meets its contract: the part from the word's start to its end is the word. Assumes nothing.
 use borrow.Author.Needs.{needs}
 use Rattle.display.proofs.Laws.Words.{word-part}
-use borrow.Author.Needs.{needs}
 use Rattle.display.proofs.words.put_word.Statement.{statement}
 use Rattle.display.proofs.words.put_word.Tie as tie
 

@@ -1,7 +1,7 @@
 -- `lines::reporting::emit` meets its contract: the line is written into the part of the buffer after the lines before it, and counted.
 -- Assumes nothing.
 use mathlib.Core.Path.{refl, sym}
-use Rattle.tally.proofs.Running.{one-lent, one-countable, ran-one, ran-length}
+use Rattle.tally.proofs.Running.{one-lent, one-countable, ran-one}
 use Rattle.lines.specs.Sites.{changeOf}
 use Rattle.lines.proofs.Lines.{level-bump}
 use borrow.Author.Needs.{needs}

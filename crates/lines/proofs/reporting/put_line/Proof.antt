@@ -1,21 +1,17 @@
 -- `lines::reporting::put_line` meets its contract, piece by piece. Assumes nothing.
-use mathlib.Core.Path.{refl}
 use mathlib.Core.List.{List, [], _∷_}
-use Prim.Native.Nat.{ℕ}
+use Prim.Native.Nat.{ℕ, _<_}
 use lib.ListN.{drop}
 use Rattle.text.proofs.Writing.{puts-length}
-use Rattle.text.proofs.Pieces.{together, Owes, owes-start, owes-room, owes-next, owes-end}
-use mathlib.Core.Path.{_≡_, refl, ap, _∙_}
-use Prim.Native.Nat.{ℕ, _+_, _<_, _≤_}
+use Rattle.text.proofs.Pieces.{Owes, owes-start, owes-room, owes-next, owes-end}
 use native.Mathlib.Omega.{arith}
 use Rattle.image.specs.Words.{bytes}
 use Rattle.rules.specs.Report.{changeWord, bumpWord, fieldPart, changeLine}
-use Rattle.tally.proofs.Lines.{linePieces, line-pieces}
+use Rattle.tally.proofs.Lines.{linePieces}
 use Rattle.details.specs.Details.{declarationOf, itemOf, detailText}
 use Rattle.lines.specs.Sites.{changeOf}
 use Rattle.details.proofs.Table.{change-word, bump-word}
 use Rattle.lines.proofs.Lines.{site-line}
-use Rattle.details.proofs.Writers.{space-as, puts-as}
 use Rattle.details.proofs.Writers.{space-as, puts-as}
 use borrow.Author.Needs.{needs}
 use Rattle.lines.proofs.reporting.put_line.Statement.{statement}

@@ -2,7 +2,6 @@
 use borrow.Author.Needs.{needs}
 use native.Mathlib.Omega.{arith}
 use Rattle.types.proofs.Laws.Labels.{code-tag, past-codes, tags-differ, by-name, by-first, by-numbers, by-names, by-tag, bits-in}
-use borrow.Author.Needs.{needs}
 use Rattle.types.proofs.equal.labels_equal.Statement.{statement}
 use Rattle.types.proofs.equal.labels_equal.Tie as tie
 

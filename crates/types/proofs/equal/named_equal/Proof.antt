@@ -3,7 +3,6 @@ use borrow.Author.Needs.{needs}
 use mathlib.Core.Path.{refl, _∙_}
 use Rattle.parts.proofs.Promise.{resolved-here}
 use Rattle.types.proofs.Laws.Labels.{id-unresolvable, id-name, one-name, no-names, new-name, old-name}
-use borrow.Author.Needs.{needs}
 use Rattle.types.proofs.equal.named_equal.Statement.{statement}
 use Rattle.types.proofs.equal.named_equal.Tie as tie
 

@@ -2,7 +2,6 @@
 use borrow.Author.Needs.{needs}
 use mathlib.Core.Path.{sym, ap, _∙_}
 use Rattle.types.specs.Equality.{isEqual}
-use borrow.Author.Needs.{needs}
 use Rattle.types.proofs.equal.types_equal.Statement.{statement}
 use Rattle.types.proofs.equal.types_equal.Tie as tie
 

@@ -2,7 +2,6 @@
 use borrow.Author.Needs.{needs}
 use mathlib.Core.Path.{_∙_}
 use Rattle.types.proofs.Laws.Names.{segments-in, segment-names}
-use borrow.Author.Needs.{needs}
 use Rattle.types.proofs.namespaces.namespaces_equal.Statement.{statement}
 use Rattle.types.proofs.namespaces.namespaces_equal.Tie as tie
 
