@@ -218,9 +218,6 @@ module _ {K E : Type 0} {lt : K → K → Bool} (key : E → K) (S : Strict K lt
             → largest w (compare key lt r m m) ≡ largest v (flatMap f m)
         self-flatMap v f h = self-largest ∙ (largest-same _ _ m h ∙ sym (largest-flatMap f v m))
 
-        pub self-each : All (λ e. largest w (r .kept e e) ≤ largest w (compare key lt r m m)) m
-        self-each = rw self-largest (largest-each (λ e. largest w (r .kept e e)) m)
-
         pub self-bound : (b : ℕ) → All (λ e. largest w (r .kept e e) ≤ b) m → largest w (compare key lt r m m) ≤ b
         self-bound b h = rw self-largest (largest-bound (λ e. largest w (r .kept e e)) b m h)
 

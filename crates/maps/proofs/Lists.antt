@@ -2,12 +2,10 @@
 -- Assumes nothing.
 use mathlib.Core.Path.{_≡_, refl, sym, ap, _∙_}
 use mathlib.Core.Bool.{Bool, cond}
-use mathlib.Core.List.{List, [], _∷_, _++_, map, flatMap, append-assoc, map-append}
-use Prim.Native.Nat.{ℕ, _+_, _≤_, _<_, max}
+use mathlib.Core.List.{List, [], _∷_, _++_, flatMap, append-assoc}
+use Prim.Native.Nat.{ℕ, _+_, _≤_, max}
 use native.Mathlib.Omega.{arith}
-use native.Mathlib.Numerals.{add-one}
-use lib.ListN.{length, getD, drop, drop-of-length-le, length-append}
-use lib.Seq.{drop-cons}
+use lib.ListN.{length, length-append}
 use Rattle.maps.specs.Lists.{pass, largest, total, count, All}
 
 -- ---- all elements
@@ -29,15 +27,6 @@ module _ {S A : Type 0} (step : S → A → S) where
   unfolding pass
   pass-append s [] ys = refl
   pass-append s (a ∷ xs) ys = pass-append (step s a) xs ys
-
-  -- a turn of a loop over positions, and its end
-  pub pass-turn : (s : S) (l : List A) (i : ℕ) (d : A) → i < length l → pass step s (drop i l) ≡ pass step (step s (getD l i d)) (drop (i + 1) l)
-  unfolding pass
-  pass-turn s l i d h = rw (drop-cons l i d h, add-one)
-
-  pub pass-end : (s : S) (l : List A) (i : ℕ) → length l ≤ i → pass step s (drop i l) ≡ s
-  unfolding pass
-  pass-end s l i h = rw (drop-of-length-le l h)
 
   -- what each step keeps
   pub pass-keeps : (P : S → Type 0) (Q : A → Type 0) → ((s : S) (a : A) → P s → Q a → P (step s a)) → (s : S) (l : List A) → P s → All Q l → P (pass step s l)
@@ -108,22 +97,11 @@ unfolding total
 total-zero [] = refl
 total-zero (a ∷ l) = omega (arith, total-zero l)
 
-pub length-total : {A : Type 0} (l : List A) → length l ≡ total (λ a. 1) l
-unfolding total
-length-total [] = refl
-length-total (a ∷ l) = omega (arith, length-total l)
-
 pub count-append : {A : Type 0} (p : A → Bool) (xs ys : List A) → count p (xs ++ ys) ≡ count p xs + count p ys
 unfolding count
 count-append p = total-append (λ a. cond (p a) 1 0)
 
 -- ---- lists put together
-
--- an element for each is the list itself
-pub flatMap-single : {A : Type 0} (l : List A) → flatMap (λ a. a ∷ []) l ≡ l
-unfolding flatMap
-flatMap-single [] = refl
-flatMap-single (a ∷ l) = rw (flatMap-single l)
 
 pub flatMap-none : {A C : Type 0} (l : List A) → flatMap {B = C} (λ (a : A). []) l ≡ []
 unfolding flatMap
@@ -135,11 +113,6 @@ module _ {A C : Type 0} (f : A → List C) where
   unfolding flatMap
   flatMap-append [] ys = refl
   flatMap-append (a ∷ xs) ys = rw (flatMap-append xs ys) (sym (append-assoc (f a) (flatMap f xs) (flatMap f ys)))
-
-  pub map-flatMap : {D : Type 0} (h : C → D) (l : List A) → map h (flatMap f l) ≡ flatMap (λ a. map h (f a)) l
-  unfolding flatMap
-  map-flatMap h [] = refl
-  map-flatMap h (a ∷ l) = map-append h (f a) (flatMap f l) ∙ rw (map-flatMap h l)
 
   pub length-flatMap : (l : List A) → length (flatMap f l) ≡ total (λ a. length (f a)) l
   unfolding flatMap total

@@ -5,16 +5,16 @@ use mathlib.Core.Path.{_≡_, refl, sym, ap, _∙_}
 use mathlib.Core.Bool.{Bool, true, false, cond}
 use mathlib.Core.List.{List, [], _∷_, _++_, flatMap, append-nil}
 use mathlib.Core.Option.{Option, none, some, orElse}
-use Prim.Native.Nat.{ℕ, zero, suc, _+_, _-_, _≤_, _<_}
+use Prim.Native.Nat.{ℕ, zero, suc, _-_, _≤_, _<_}
 use native.Mathlib.Nat.{not-suc-le-zero}
 use native.Mathlib.Omega.{arith}
-use lib.ListN.{length, getD, take, drop}
+use lib.ListN.{length, getD, take}
 use lib.Seq.{take-suc, take-length}
 use Rattle.maps.specs.Lists.{pass}
 use Rattle.maps.specs.Orders.{Strict, same}
 use Rattle.maps.specs.Keyed.{survivors, lookup}
 use Rattle.maps.specs.Walk.{seen, lastSeen, latest, better, least}
-use Rattle.maps.proofs.Lists.{pass-turn, pass-end, flatMap-append}
+use Rattle.maps.proofs.Lists.{flatMap-append}
 use Rattle.maps.proofs.Survivors.{lookup-lastSeen}
 
 or-none : {A : Type 0} (o : Option A) → orElse o none ≡ o
@@ -53,15 +53,6 @@ module _ {K E : Type 0} (key : E → K) (lt : K → K → Bool) (k : K) where
   pub lastSeen-nil : (o : Option E) → lastSeen key lt k o [] ≡ o
   unfolding lastSeen pass
   lastSeen-nil o = refl
-
-  pub lastSeen-turn : (o : Option E) (l : List E) (i : ℕ) (d : E) → i < length l
-      → lastSeen key lt k o (drop i l) ≡ lastSeen key lt k (seen key lt k o (getD l i d)) (drop (i + 1) l)
-  unfolding lastSeen
-  lastSeen-turn = pass-turn (seen key lt k)
-
-  pub lastSeen-end : (o : Option E) (l : List E) (i : ℕ) → length l ≤ i → lastSeen key lt k o (drop i l) ≡ o
-  unfolding lastSeen
-  lastSeen-end = pass-end (seen key lt k)
 
   pub lastSeen-latest : (o : Option E) (l : List E) → lastSeen key lt k o l ≡ orElse (latest key lt k l) o
   unfolding latest orElse
@@ -133,12 +124,3 @@ module _ {K E : Type 0} (key : E → K) (lt : K → K → Bool) (b : Option K) w
   pub least-nil : (o : Option K) → least key lt b o [] ≡ o
   unfolding least pass
   least-nil o = refl
-
-  pub least-turn : (o : Option K) (l : List E) (i : ℕ) (d : E) → i < length l
-      → least key lt b o (drop i l) ≡ least key lt b (better lt b o (key (getD l i d))) (drop (i + 1) l)
-  unfolding least
-  least-turn = pass-turn (λ o e. better lt b o (key e))
-
-  pub least-end : (o : Option K) (l : List E) (i : ℕ) → length l ≤ i → least key lt b o (drop i l) ≡ o
-  unfolding least
-  least-end = pass-end (λ o e. better lt b o (key e))

@@ -108,19 +108,6 @@ module _ {K E : Type 0} {lt : K → K → Bool} (key : E → K) (S : Strict K lt
       unfolding met
       both = omega (arith, total-sum a (λ e. ifAny b (lookup key lt (key e) n)) m, met-swap (λ e f. b f) m n R Q)
 
-      pub between-weight : (g : Option E → Option E → List C) → ((e : E) → total w (g (some e) none) ≤ a e)
-          → ((e f : E) → key e ≡ key f → total w (g (some e) (some f)) ≤ a e + b f) → total w (between key lt g m n) ≤ total a m + total b n
-      unfolding ifAny
-      between-weight g p q =
-          omega (
-            arith,
-            total-between g m n,
-            total-less _ (λ e. a e + ifAny b (lookup key lt (key e) n)) m
-                (all (λ e. lookup-cases key S e n (λ o. total w (g (some e) o) ≤ a e + ifAny b o) (omega (arith, p e)) (q e)) m),
-            both,
-            total-less _ b n (all (λ f. lookup-cases key S f m (λ o. ifAny (λ e. b f) o ≤ b f) (omega arith) (λ e h. omega arith)) n),
-          )
-
       pub compare-weight : (r : Rules E C) → ((e : E) → total w (r .gone e) ≤ a e) → ((f : E) → total w (r .came f) ≤ b f)
           → ((e f : E) → key e ≡ key f → total w (r .kept e f) ≤ a e + b f) → total w (compare key lt r m n) ≤ total a m + total b n
       unfolding ifAny unmatched matched total

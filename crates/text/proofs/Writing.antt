@@ -69,10 +69,6 @@ pub space-write : {d : List ℕ} {at n : ℕ} → at + n < 2 ^ 62 → at + n ≤
 unfolding Room
 space-write h r = record { small = h; room = r }
 
-pub puts-measured : {d : List ℕ} {at : ℕ} {xs : List ℕ} {r : ℕ} {d′ : List ℕ} → Puts Measure d at xs r d′ → d′ ≡ d
-unfolding putIn
-puts-measured p = p .bytes
-
 -- from the start of a buffer
 pub puts-written : {d : List ℕ} {xs : List ℕ} {r : ℕ} {d′ : List ℕ} → Puts Write d 0 xs r d′ → d′ ≡ xs ++ drop (length xs) d
 unfolding putIn put
