@@ -7,7 +7,7 @@ use Rattle.maps.specs.Orders.{before}
 use Rattle.maps.specs.Keyed.{lookup}
 use Rattle.maps.specs.Walk.{Rising, next}
 use Rattle.maps.proofs.Names.{byName}
-use Rattle.maps.proofs.Survivors.{rising, lookup-key}
+use Rattle.maps.proofs.Survivors.{rising}
 use Rattle.image.specs.Schema.{Name, Schema}
 use Rattle.parts.specs.Promise.{schemaOf, DeclHere, declIn, declOf}
 use Rattle.parts.specs.declared.Entry.{Entry}
@@ -36,9 +36,6 @@ module _ (s : List ℕ) (name : Name) {r : Entry} (h : Survives s name r) where
 
     pub survives-here : DeclHere s at
     survives-here = entry-here s e (h .here)
-
-    pub survives-name : declIn s at .name ≡ name
-    survives-name = lookup-key nameOf byName name (declarations (schemaOf s)) (declIn s at) survives-body
 
 -- the answers of `next_decl`
 module _ (s : List ℕ) (after : Entry) {r : Entry} (h : Follows s after r) where

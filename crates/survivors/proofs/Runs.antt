@@ -10,9 +10,9 @@ use Rattle.maps.specs.Lists.{All}
 use Rattle.maps.specs.Keyed.{survivors, lookup}
 use Rattle.maps.specs.Walk.{Rising, next}
 use Rattle.maps.proofs.Orders.{byNumber}
-use Rattle.maps.proofs.Survivors.{rising, lookup-key}
+use Rattle.maps.proofs.Survivors.{rising}
 use Rattle.maps.proofs.Places.{Placed, lookup-placed, next-placed}
-use Rattle.parts.specs.Promise.{ItemOf, ItemHere, itemEnd, ItemsHere, placesFrom, ordinalIn, variantItems, variantIn, DeclHere, declIn, itemsIn}
+use Rattle.parts.specs.Promise.{ItemOf, ItemHere, itemEnd, ItemsHere, ItemsListed, placesFrom, ordinalIn, variantItems, variantIn, DeclHere, declIn, itemsIn}
 use Rattle.parts.specs.declared.Shape.{Shape}
 use Rattle.parts.specs.declared.Shape.the-variants as shape
 use Rattle.parts.specs.declared.Run.{Run}
@@ -27,26 +27,25 @@ use Rattle.survivors.specs.declared.Ordinal.the-variants as ordinal
 
 -- ---- the runs of an accepted image
 
+listed : (h : Shape) (s : List ℕ) {n : Run} {xs : List (ItemOf h)} → ItemsListed h s n (itemIn h s) xs → Holds h s n xs
+unfolding itemsOf
+listed h s l = record { here = l .here; are = l .are }
+
 module _ (s : List ℕ) (at : ℕ) (g : DeclHere s at) where
   pub message-holds : declIn s at .kind ≡ 0 → Holds shape.Field s (itemsIn s at) (declIn s at .fields)
-  unfolding itemsOf
-  message-holds e = record { here = message-listed s at g e .here; are = message-listed s at g e .are }
+  message-holds e = listed shape.Field s (message-listed s at g e)
 
   pub enum-holds : declIn s at .kind ≡ 1 → Holds shape.Bare s (itemsIn s at) (declIn s at .variants)
-  unfolding itemsOf
-  enum-holds e = record { here = enum-listed s at g e .here; are = enum-listed s at g e .are }
+  enum-holds e = listed shape.Bare s (enum-listed s at g e)
 
   pub flags-holds : declIn s at .kind ≡ 2 → Holds shape.Bare s (itemsIn s at) (declIn s at .variants)
-  unfolding itemsOf
-  flags-holds e = record { here = flags-listed s at g e .here; are = flags-listed s at g e .are }
+  flags-holds e = listed shape.Bare s (flags-listed s at g e)
 
   pub union-holds : declIn s at .kind ≡ 3 → Holds shape.Variant s (itemsIn s at) (declIn s at .variants)
-  unfolding itemsOf
-  union-holds e = record { here = union-listed s at g e .here; are = union-listed s at g e .are }
+  union-holds e = listed shape.Variant s (union-listed s at g e)
 
 pub variant-holds : (s : List ℕ) (at : ℕ) → ItemHere shape.Variant s at → Holds shape.Field s (variantItems s at) (variantIn s at .fields)
-unfolding itemsOf
-variant-holds s at g = record { here = variant-listed s at g .here; are = variant-listed s at g .are }
+variant-holds s at g = listed shape.Field s (variant-listed s at g)
 
 -- any run that is well formed
 pub run-holds : (h : Shape) (s : List ℕ) (n : Run) → ItemsHere h s (n .count) (n .start) → Holds h s n (itemsOf h s n)
@@ -107,10 +106,6 @@ module _ (h : Shape) (s : List ℕ) (n : Run) {xs : List (ItemOf h)} (r : Holds 
       pub found-here : ItemHere h s p
       unfolding FoundHere
       found-here = rw e at (a .here)
-
-      pub found-ordinal : ordinalIn s p ≡ k
-      unfolding placeOf
-      found-ordinal = lookup-key (ordinalIn s) byNumber k (placeMap h s n) p (sym (a .place) ∙ ap placeOf e)
 
   -- the answers of `next_item`
   module _ (after : Ordinal) {o : Ordinal} (a : numberOf o ≡ next (ordinalIn s) ltb (numberOf after) (placeMap h s n)) where
