@@ -10,10 +10,10 @@ use lib.ListN.{getD}
 use Rattle.image.specs.Schema.{Schema}
 use Rattle.image.specs.Parse.{Parsed, ok, no}
 use Rattle.image.specs.Image.{readImage}
-use Rattle.image.specs.Reads.{refusal}
 use Rattle.image.specs.WellFormed.{Good, valueOr}
-use Rattle.reader.specs.Answer.{acceptance, numberOf, Answers}
+use Rattle.reader.specs.Answer.{Answers}
 use Rattle.reader.specs.declared.Acceptance.{Acceptance}
+use Rattle.reader.proofs.Laws.Answers.{accepted-good, rejected-no}
 use Rattle.parts.specs.Promise.{Accepted, schemaOf, nameEnd, namePlaces, itemEnd, placesFrom, DeclHere, declIn, declOf, EntryHere, Resolved}
 use Rattle.parts.specs.declared.Shape.{Shape}
 use Rattle.parts.specs.declared.Entry.{Entry}
@@ -23,28 +23,23 @@ use Rattle.parts.proofs.Laws.Decls.{decl-head}
 pub use Rattle.parts.proofs.Laws.Contents.{accepted-most, segments-listed}
 -- the entry of an id by its pair in the contents: empty, or its body as a list of its own
 pub use Rattle.parts.proofs.Laws.Bodies.{BodyIn, bytesIn, entry-pair, entry-none, entry-body, entry-short}
--- so many names, or items: the first, and the rest, and the one at any of their places
+-- so many names, or items: the first, and the rest
 pub use Rattle.parts.proofs.Laws.Skips.{names-first, names-rest}
-pub use Rattle.parts.proofs.Laws.Items.{items-first, items-rest, items-member}
+pub use Rattle.parts.proofs.Laws.Items.{items-first, items-rest}
 -- a declaration: the items of a message, an enum, flags, a union, and that they are its fields or its variants; a newtype's type
 pub use Rattle.parts.proofs.Laws.Decls.{message-listed, enum-listed, flags-listed, union-listed, inner-here, inner-tree}
 -- an item: what holds of a bare one holds of its start; the values of a field and of a union's variant
-pub use Rattle.parts.proofs.Laws.Fields.{field-coded}
 pub use Rattle.parts.proofs.Laws.Items.{item-bare, field-ordinal, field-name, field-type-here, field-type, variant-ordinal, variant-name, variant-listed}
--- a type: at most 32 nodes on a path may be said of any; it has a label; a node by how many inner types its tag has
-pub use Rattle.parts.proofs.Laws.Trees.{type-whole, type-some, type-label, type-first, type-second, node-leaf, node-one, node-two}
+-- a type has a label; a node by how many inner types its tag has
+pub use Rattle.parts.proofs.Laws.Trees.{type-some, type-label, type-first, type-second, node-leaf, node-one, node-two}
 pub use Rattle.parts.proofs.Laws.Ends.{end-leaf, end-one, end-two}
 -- a label: what its tag allows; the names of bits
 pub use Rattle.parts.proofs.Laws.Labels.{label-regular, bits-listed}
 
 -- what `read_image` accepted
 pub accepted : (s : List ℕ) {r : Acceptance} → Answers (readImage s) r → r ≡ Acceptance.Accepted → Accepted s
-unfolding Accepted acceptance Good
-accepted s {r} a e = go (readImage s) (sym e ∙ a .is)
-  where
-    go : (p : Parsed Schema) → Acceptance.Accepted ≡ acceptance p → Good p
-    go (ok v n) q = tt
-    go (no k) q = absurd (let z : _≡_ {A = ℕ} 0 1 = cc in omega arith)
+unfolding Accepted
+accepted s a e = accepted-good (readImage s) e a
 
 -- what it answered, as a parse: an accepted image holds its schema, and a rejected one has the answer's number
 module _ (s : List ℕ) where
@@ -61,12 +56,7 @@ module _ (s : List ℕ) where
   read-accepted e = (rw e tt, rw e)
 
   pub rejected-read : {r : Acceptance} {k : ℕ} → Answers (readImage s) r → r ≡ Acceptance.Rejected k → readImage s ≡ no k
-  unfolding acceptance numberOf refusal
-  rejected-read {r} {k} a e = go (readImage s) (sym e ∙ a .is) (sym (ap numberOf e) ∙ a .number)
-    where
-      go : (p : Parsed Schema) → Acceptance.Rejected k ≡ acceptance p → k ≡ refusal p → p ≡ no k
-      go (ok x n) q z = absurd (let z : _≡_ {A = ℕ} 0 1 = cc in omega arith)
-      go (no l) q z = ap no (sym z)
+  rejected-read a e = rejected-no (readImage s) e a
 
 -- the two answers of `entry`
 module _ (s : List ℕ) (id : ℕ) {r : Entry} (h : Resolved s id r) where

@@ -1,5 +1,5 @@
 -- What an accepted image holds is no larger than the bytes that hold it. Assumes nothing.
-use mathlib.Core.Path.{_≡_, refl, ap}
+use mathlib.Core.Path.{_≡_, ap}
 use mathlib.Core.Bool.{_&&_}
 use mathlib.Core.Option.{Option, none, some}
 use mathlib.Core.List.{List, [], _∷_}
@@ -7,7 +7,7 @@ use Prim.Native.Nat.{ℕ, zero, suc, _+_, _≤_}
 use native.Mathlib.Omega.{arith}
 use borrow.Author.Tests.{leb-true, eqb-true}
 use lib.Dec.{leb}
-use lib.ListN.{length, getD, drop, length-take, length-drop}
+use lib.ListN.{length, getD, drop}
 use Rattle.maps.specs.Lists.{total, All}
 use Rattle.image.specs.Schema.{Name, Encoding, Label, Ty, Decl, Schema}
 use Rattle.image.specs.Parse.{Parsed, ok, shift, within, part, many, counted}
@@ -15,9 +15,11 @@ use Rattle.image.specs.Names.{nameAt, namesAt}
 use Rattle.image.specs.Types.{Follows, code, subByte, identity, size, nothing, bits, unknown, followsTag, innerTypes, afterTag, labelOf, innerAt, typeOf, typeAt}
 use Rattle.image.specs.Fields.{plain, delta, marksAt, encodingOf, encodingAt, limitAt, fieldAt, bareAt, variantAt}
 use Rattle.image.specs.Bodies.{messageAt, enumAt, flagsAt, unionAt, newtypeAt, otherAt, implAt, declAt, bodyOf}
-use Rattle.image.specs.Image.{entryCount, idCount, segmentCount, segmentsAt, idsAt, idsFrom, headOf, tablesOf, entryOffset, entryLength, entryOf, entriesOf, readImage}
-use Rattle.image.proofs.Laws.Sure.{Sure, sure-ok, sure-no, sure-bind, sure-pick, sure-need, sure-then, byte-sure, code-sure, number-sure, name-sure, names-sure}
-use Rattle.rules.proofs.Equal.{both}
+use Rattle.image.specs.Image.{entryCount, idCount, segmentCount, segmentsAt, idsAt, tablesOf, entryOffset, entryLength, entryOf, entriesOf, readImage}
+use Rattle.image.proofs.Laws.Sure.{Sure, sure-ok, sure-no, sure-bind, sure-pick, sure-need, sure-then, byte-sure, code-sure, number-sure, name-sure, names-sure, Head, head-sure}
+use Rattle.image.proofs.Laws.Repeats.{ids-length}
+use Rattle.image.proofs.Laws.Names.{part-length}
+use Rattle.refusals.proofs.Tests.{both}
 use Rattle.rules.proofs.Sizes.{namesSize, typeSize, fieldSize, variantSize, declSize}
 
 -- a value of this size stands between the position and the one after it
@@ -33,10 +35,6 @@ sure-both (sure-ok h) (sure-ok k) = sure-ok (h, k)
 sure-both sure-no sure-no = sure-no
 
 -- ---- names
-
-part-length : (from count : ℕ) (s : List ℕ) → (length (part from count s) ≤ count) × (length (part from count s) ≤ length s)
-unfolding part
-part-length from count s = simp (length-take, length-drop) (omega arith, omega arith)
 
 name-takes : (short : ℕ) (s : List ℕ) (at : ℕ) → Sure (Takes (λ (x : Name). 1 + length x) at) (nameAt short s at)
 name-takes short s at =
@@ -210,32 +208,17 @@ module _ (s : List ℕ) (l : length s ≤ 32768) where
   entries-small (suc count) i =
       sure-bind _ (entry-small i) (λ e n p. sure-bind _ (entries-small count (i + 1)) (λ es m q. yields (e ∷ es) m (p, q)))
 
-ids-length : (count : ℕ) (s : List ℕ) (at : ℕ) → length (idsFrom count s at) ≡ count
-unfolding idsFrom
-ids-length zero s at = refl
-ids-length (suc count) s at = ap suc (ids-length count s (at + 4))
-
 -- what an accepted image holds
 pub record Held (x : Schema) : Type 0 where
   pub entries : All Small (x .registry)
   pub ids : length (x .ids) ≤ 512
   pub segments : namesSize (x .namespace) ≤ 32768
 
--- what the head promises
-record Head (s : List ℕ) : Type 0 where
-  fits : length s ≤ 32768
-  few : idCount s ≤ 512
-
-head-sure : (s : List ℕ) → Sure (λ h n. Head s) (headOf s)
-unfolding headOf
-head-sure s =
-    sure-need _ _ (λ l.
-    sure-need _ _ (λ e.
-    sure-need _ _ (λ f.
-    sure-need _ _ (λ c.
-    let p = both (leb (entryCount s) 512) (leb (idCount s) 512 && leb (segmentCount s) 16) c in
-    let q = both (leb (idCount s) 512) (leb (segmentCount s) 16) (p .1) in
-    sure-ok (record { fits = leb-true (length s) 32768 l; few = leb-true (idCount s) 512 (q .0) })))))
+-- the head says how many ids there are at most
+few-ids : (s : List ℕ) → Head s → idCount s ≤ 512
+few-ids s h =
+    let p = both (leb (entryCount s) 512) (leb (idCount s) 512 && leb (segmentCount s) 16) (h .counts) in
+    leb-true (idCount s) 512 (both (leb (idCount s) 512) (leb (segmentCount s) 16) (p .1) .0)
 
 tables-sure : (s : List ℕ) → Sure (λ ids n. (length ids ≡ idCount s) × (n ≤ length s)) (tablesOf s)
 unfolding tablesOf
@@ -248,5 +231,5 @@ image-held s =
     sure-bind _ (tables-sure s) (λ ids n₂ q₂.
     sure-bind _ (sure-both (names-take 2 (segmentCount s) s n₂) (names-sure 2 (segmentCount s) s n₂ (q₂ .1))) (λ names n₃ q₃.
     sure-need _ _ (λ l.
-    sure-bind _ (entries-small s (q₁ .fits) (entryCount s) 0) (λ es n₄ q₄.
-    yields _ n₄ (record { entries = q₄; ids = omega (arith, q₂ .0, q₁ .few); segments = omega (arith, q₃ .0, q₃ .1, q₁ .fits) }))))))
+    sure-bind _ (entries-small s (q₁ .most) (entryCount s) 0) (λ es n₄ q₄.
+    yields _ n₄ (record { entries = q₄; ids = omega (arith, q₂ .0, few-ids s q₁); segments = omega (arith, q₃ .0, q₃ .1, q₁ .most) }))))))

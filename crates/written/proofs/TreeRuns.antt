@@ -1,12 +1,11 @@
 -- What is read as a label or a type is within the limits, and its bytes stand where it was read. Assumes nothing.
 use mathlib.Core.Path.{_≡_, refl}
-use mathlib.Core.Bool.{Bool, true, false, cond, _&&_}
+use mathlib.Core.Bool.{Bool, true, false, cond}
 use mathlib.Core.List.{List, [], _∷_}
 use Prim.Native.Nat.{ℕ, zero, suc, _+_, max, _≤_, _<_}
 use native.Mathlib.Omega.{arith}
 use native.Mathlib.Decide.{decLt}
 use borrow.Author.Tests.{leb-true, eqb-true, eqb-false}
-use lib.Dec.{leb}
 use lib.ListN.{length, drop}
 use Rattle.image.specs.Schema.{Name, Label, label, Ty}
 use Rattle.image.specs.Parse.{Parsed, shift, within}
@@ -15,6 +14,7 @@ use Rattle.image.specs.Types.{Follows, code, subByte, identity, size, nothing, 
 use Rattle.written.specs.Writer.{writeEach, writeName, writeAfter, writeLabel, writeType}
 use Rattle.written.specs.Limits as Limits
 use Rattle.written.specs.Limits.{Each, Byte, NameWithin, Wrapping, optional, array, set, vector, LabelWithin, primitive, semantic, named, wrapping, fixedArray, map, result, Typed, bare, around, between, nodes, TypeWithin}
+use Rattle.image.proofs.Laws.Types.{inner-most}
 use Rattle.refusals.proofs.Told.{Told, told-ok, told-no, told-bind, told-then}
 use Rattle.written.proofs.Trees.{wraps-nothing, wraps-one}
 use Rattle.written.proofs.Runs.{Run, run-none, run-inside, run-join, Free, Keeps, each-drop, byte-keeps, code-keeps, number-keeps, name-keeps, each-keeps}
@@ -125,15 +125,6 @@ shift-keeps s at h (told-no u) = told-no u
 -- a type of at most `left` nodes on a path
 abbrev Kept : ℕ → Ty → Type 0
 Kept left t = Typed t × (nodes t ≤ left)
-
-inner-most : (tag : ℕ) → innerTypes tag ≤ 2
-unfolding innerTypes
-inner-most tag = go (leb 4 tag && leb tag 15) (leb 8 tag && leb tag 9)
-  where
-    go : (b c : Bool) → cond b (cond c 2 1) 0 ≤ 2
-    go true true = omega arith
-    go true false = omega arith
-    go false c = omega arith
 
 inner-keeps : (left : ℕ) → ((t : List ℕ) → Each Byte t → Keeps (Kept left) writeType t 0 (typeOf left t)) → (s : List ℕ) → Each Byte s → (i : ℕ)
     → i ≤ 2 → (l : Label)

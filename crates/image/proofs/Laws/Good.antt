@@ -1,44 +1,13 @@
 -- Answers that are values: what was read before them was a value too, and so on from part to part. Assumes nothing.
-use mathlib.Core.Path.{_≡_, refl, sym, ap, _∙_}
+use mathlib.Core.Path.{_≡_, refl, ap, _∙_}
 use mathlib.Core.List.{List, [], _∷_}
 use Prim.Native.Nat.{ℕ, zero, suc, _+_, _-_, _<_}
 use native.Mathlib.Omega.{arith}
 use native.Mathlib.Numerals.{sub-one}
-use lib.ListN.{length, drop}
+use lib.ListN.{drop}
 use Rattle.image.specs.Parse.{Parsed, ok, no, bind, shift, within, many}
-use Rattle.image.specs.Reads.{skip}
 use Rattle.image.specs.WellFormed.{Good, valueOr, endOf}
-use Rattle.image.specs.declared.Read.{Read}
-use Rattle.image.specs.declared.Read.the-variants.{At, Refused}
-use Rattle.image.proofs.Laws.Answers.{apart}
 use Rattle.image.proofs.Laws.Sure.{Sure, sure-ok, sure-no}
-
--- a position that was answered is the end, and a refusal has the end 0
-module _ {A : Type 0} (p : Parsed A) {x : Read} where
-  pub end-at : {n : ℕ} → x ≡ At n → x ≡ skip p → n ≡ endOf p
-  unfolding skip endOf
-  end-at {n} h e = go p e
-    where
-      go : (p : Parsed A) → x ≡ skip p → n ≡ endOf p
-      go (ok a m) e = cc
-      go (no k) e = apart (sym h ∙ e)
-
-  pub end-no : {k : ℕ} → x ≡ Refused k → x ≡ skip p → 0 ≡ endOf p
-  unfolding skip endOf
-  end-no h e = go p e
-    where
-      go : (p : Parsed A) → x ≡ skip p → 0 ≡ endOf p
-      go (ok a m) e = apart (sym e ∙ h)
-      go (no k) e = refl
-
-  -- and only a value answers a position
-  pub good-at : {n : ℕ} → x ≡ At n → x ≡ skip p → Good p
-  unfolding skip Good
-  good-at h e = go p e
-    where
-      go : (p : Parsed A) → x ≡ skip p → Good p
-      go (ok a m) e = tt
-      go (no k) e = apart (sym h ∙ e)
 
 -- what holds of every answer holds of a good one
 pub sure-good : {A : Type 0} {P : A → ℕ → Type 0} {p : Parsed A} (d : A) → Sure P p → Good p → P (valueOr d p) (endOf p)
@@ -143,16 +112,3 @@ module _ {A : Type 0} (d : A) (p : List ℕ → ℕ → Parsed A) where
         go : (c : ℕ) → 0 < c → Good (many p c s at) → endOf (many p c s at) ≡ endOf (many p (c - 1) s (endOf (p s at)))
         go zero h g = absurd (omega arith)
         go (suc c) h g = rw sub-one (ap endOf (more-are c s at g))
-
-  -- as many as were asked for
-  many-zero : (s : List ℕ) (at : ℕ) → length (valueOr [] (many p 0 s at)) ≡ 0
-  unfolding many valueOr
-  many-zero s at = refl
-
-  pub many-count : (c : ℕ) (s : List ℕ) (at : ℕ) → Good (many p c s at) → length (valueOr [] (many p c s at)) ≡ c
-  many-count zero s at g = many-zero s at
-  many-count (suc c) s at g =
-      let h : 0 < suc c = omega arith in
-      let r : Good (many p c s (endOf (p s at))) = rw sub-one at (many-rest (suc c) s at h g) in
-      let n = many-count c s (endOf (p s at)) r in
-      rw (many-are (suc c) s at h g, sub-one) (ap suc n)

@@ -7,7 +7,7 @@ use native.Mathlib.Omega.{arith}
 use native.Mathlib.Nat.{add-sub-cancel-left}
 use native.Mathlib.Numerals.{add-one}
 use borrow.Author.Tests.{le-leb, lt-leb, lt-ltb, le-ltb}
-use lib.ListN.{length, getD, take, drop}
+use lib.ListN.{length, getD, take, drop, length-take, length-drop}
 use lib.Seq.{drop-cons}
 use Rattle.image.specs.Parse.{bind, pick, part, byteAt}
 use Rattle.image.specs.Names.{nameByte, nameBytes, nameAt}
@@ -33,6 +33,11 @@ module _ (short : ℕ) (s : List ℕ) (at : ℕ) where
       pub name-good : nameBytes (part (at + 1) (getD s at 0) s) ≡ true → At (at + 1 + getD s at 0) ≡ skip (nameAt short s at)
       unfolding nameAt byteAt bind skip pick
       name-good e = rw (lt-ltb at (length s) h, le-leb (at + 1 + getD s at 0) (length s) l, e)
+
+-- a part is no longer than its count, nor than what is there
+pub part-length : (from count : ℕ) (s : List ℕ) → (length (part from count s) ≤ count) × (length (part from count s) ≤ length s - from)
+unfolding part
+part-length from count s = simp (length-take, length-drop) (omega arith, omega arith)
 
 -- the bytes from i to e: the first, and the rest
 pub part-cons : (i e : ℕ) (s : List ℕ) → i < e → e ≤ length s → part i (e - i) s ≡ getD s i 0 ∷ part (i + 1) (e - (i + 1)) s

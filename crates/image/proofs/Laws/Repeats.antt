@@ -1,12 +1,13 @@
 -- So many of a kind, one after the other, for any kind. One loop of the code reads them: what it answers for all of them is what it
 -- answers for those that are left, from the next position on. Assumes nothing.
-use mathlib.Core.Path.{_≡_, sym}
+use mathlib.Core.Path.{_≡_, refl, sym, ap}
 use mathlib.Core.List.{List}
-use Prim.Native.Nat.{ℕ, zero, suc, _-_, _<_}
+use Prim.Native.Nat.{ℕ, zero, suc, _+_, _-_, _<_}
 use native.Mathlib.Omega.{arith}
 use native.Mathlib.Numerals.{sub-one}
-use lib.ListN.{drop}
+use lib.ListN.{length, drop}
 use Rattle.image.specs.Parse.{Parsed, littleEndian, numberAt, many, counted}
+use Rattle.image.specs.Image.{idsFrom}
 use Rattle.image.specs.Reads.{skip}
 use Rattle.image.specs.declared.Read.{Read}
 use Rattle.image.specs.declared.Read.the-variants.{At, Refused}
@@ -44,3 +45,9 @@ module _ {A : Type 0} (p : List ℕ → ℕ → Parsed A) (s : List ℕ) (at : �
       → y ≡ skip (counted p s at)
   unfolding counted
   counted-as h e q r = next-is _ (number-is 2 s at h e) (rw q at r)
+
+-- as many ids as are asked for
+pub ids-length : (count : ℕ) (s : List ℕ) (at : ℕ) → length (idsFrom count s at) ≡ count
+unfolding idsFrom
+ids-length zero s at = refl
+ids-length (suc count) s at = ap suc (ids-length count s (at + 4))

@@ -9,10 +9,11 @@ use borrow.Author.Tests.{ltb-true, leb-true}
 use lib.ListN.{length, getD, drop, length-drop}
 use lib.Dec.{leb}
 use Rattle.image.specs.Schema.{Label, Ty}
-use Rattle.image.specs.Parse.{Parsed, ok, no, bind, pick, shift, within, part, byteAt, codeAt, littleEndian, numberAt, many, counted}
+use Rattle.image.specs.Parse.{Parsed, ok, no, bind, pick, shift, within, part, byteAt, codeAt, littleEndian, numberAt, many}
 use Rattle.image.specs.Names.{nameBytes, nameAt, namesAt}
-use Rattle.image.specs.Types.{Follows, code, subByte, identity, size, nothing, bits, unknown, followsTag, innerTypes, afterTag, labelOf, innerAt, typeOf, typeAt}
-use Rattle.image.specs.Fields.{marksAt, encodingOf, encodingAt, limitAt, fieldAt, bareAt, variantAt}
+use Rattle.image.specs.Types.{Follows, code, subByte, identity, size, nothing, bits, unknown, followsTag, innerTypes, afterTag, labelOf, innerAt, typeOf}
+use Rattle.image.specs.Fields.{limitAt}
+use Rattle.image.specs.Image.{entryCount, idCount, segmentCount, headOf}
 use Rattle.image.specs.Reads.{skip}
 use Rattle.image.specs.declared.Read.{Read}
 use Rattle.image.specs.declared.Read.the-variants.{At}
@@ -126,11 +127,6 @@ unfolding many
 many-sure p s q zero at h = sure-ok h
 many-sure p s q (suc c) at h = sure-bind _ (q at h) (λ x n i. sure-bind _ (many-sure p s q c n i) (λ xs m j. sure-ok j))
 
-pub counted-sure : {A : Type 0} (p : List ℕ → ℕ → Parsed A) (s : List ℕ) → ((at : ℕ) → at ≤ length s → Sure (In s) (p s at)) → (at : ℕ)
-    → Sure (In s) (counted p s at)
-unfolding counted
-counted-sure p s q at = sure-bind _ (number-sure 2 s at) (λ c n k. many-sure p s q c n (k .inside))
-
 pub names-sure : (short c : ℕ) (s : List ℕ) (at : ℕ) → at ≤ length s → Sure (In s) (namesAt short c s at)
 unfolding namesAt
 names-sure short c s at h = many-sure (nameAt short) s (λ at _. sure-then (name-sure short s at) (λ x n q. q .inside)) c at h
@@ -192,51 +188,21 @@ type-sure zero s = sure-no
 type-sure (suc d) s =
     sure-bind _ (label-sure s) (λ l n q. inner-sure (typeOf d) (λ t. type-sure d t) (innerTypes (l .tag)) l s n (q .inside))
 
-pub type-at-sure : (s : List ℕ) (at : ℕ) → at ≤ length s → Sure (In s) (typeAt s at)
-unfolding typeAt
-type-at-sure s at h = within-sure (typeOf 32) s at h (type-sure 32 (drop at s))
-
--- the items of a body
-pub marks-sure : (s : List ℕ) (at : ℕ) → Sure (In s) (marksAt s at)
-unfolding marksAt
-marks-sure s at = sure-bind _ (code-sure 0 3 s at) (λ b n q. sure-ok (q .byte .inside))
-
-encoding-of-sure : (left : ℕ) (s : List ℕ) (at : ℕ) → Sure (In s) (encodingOf left s at)
-unfolding encodingOf
-encoding-of-sure zero s at = sure-bind _ (code-sure 0 3 s at) (λ b n q. sure-pick _ (λ h. sure-no) (λ h. sure-ok (q .byte .inside)))
-encoding-of-sure (suc left) s at =
-    sure-bind _ (code-sure 0 3 s at) (λ b n q.
-    sure-pick _ (λ h. sure-bind _ (encoding-of-sure left s n) (λ e m r. sure-ok r)) (λ h. sure-ok (q .byte .inside)))
-
-pub encoding-sure : (s : List ℕ) (at : ℕ) → Sure (In s) (encodingAt s at)
-unfolding encodingAt
-encoding-sure s at = encoding-of-sure 8 s at
-
+-- a limit ends within the list
 pub limit-sure : (s : List ℕ) (at : ℕ) → Sure (In s) (limitAt s at)
 unfolding limitAt
 limit-sure s at =
     sure-bind _ (code-sure 0 1 s at) (λ b n q.
     sure-pick _ (λ h. sure-ok (q .byte .inside)) (λ h. sure-bind _ (number-sure 8 s n) (λ v m r. sure-ok (r .inside))))
 
-pub field-sure : (s : List ℕ) (at : ℕ) → Sure (In s) (fieldAt s at)
-unfolding fieldAt
-field-sure s at =
-    sure-bind _ (number-sure 4 s at) (λ o n₁ _.
-    sure-bind _ (name-sure 8 s n₁) (λ x n₂ _.
-    sure-bind _ (marks-sure s n₂) (λ m n₃ _.
-    sure-bind _ (encoding-sure s n₃) (λ e n₄ _.
-    sure-bind _ (limit-sure s n₄) (λ l n₅ i.
-    sure-bind _ (type-at-sure s n₅ i) (λ t n₆ j.
-    sure-ok j))))))
+-- what is known of an image whose head is read
+pub record Head (s : List ℕ) : Type 0 where
+  pub most : length s ≤ 32768
+  pub least : 8 ≤ length s
+  pub counts : (leb (entryCount s) 512 && (leb (idCount s) 512 && leb (segmentCount s) 16)) ≡ true
 
-pub bare-sure : (s : List ℕ) (at : ℕ) → Sure (In s) (bareAt s at)
-unfolding bareAt
-bare-sure s at = sure-bind _ (number-sure 4 s at) (λ o n₁ _. sure-bind _ (name-sure 8 s n₁) (λ x n₂ q. sure-ok (q .inside)))
-
-pub variant-sure : (s : List ℕ) (at : ℕ) → Sure (In s) (variantAt s at)
-unfolding variantAt
-variant-sure s at =
-    sure-bind _ (number-sure 4 s at) (λ o n₁ _.
-    sure-bind _ (name-sure 8 s n₁) (λ x n₂ _.
-    sure-bind _ (counted-sure fieldAt s (λ k _. field-sure s k) n₂) (λ fs n₃ j.
-    sure-ok j)))
+pub head-sure : (s : List ℕ) → Sure (λ _ _. Head s) (headOf s)
+unfolding headOf
+head-sure s =
+    sure-need _ _ (λ a. sure-need _ _ (λ b. sure-need _ _ (λ _. sure-need _ _ (λ c.
+    sure-ok (record { most = leb-true (length s) 32768 a; least = leb-true 8 (length s) b; counts = c })))))

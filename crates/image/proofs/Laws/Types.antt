@@ -32,6 +32,16 @@ pub label-by : (s : List ℕ) {n : ℕ} {x : Read} (t : ℕ) (f : Follows) → T
 unfolding labelOf bind
 label-by s t f b k q e = simp (b .is, k, q) e
 
+-- at most two inner types
+pub inner-most : (tag : ℕ) → innerTypes tag ≤ 2
+unfolding innerTypes
+inner-most tag = go (leb 4 tag && leb tag 15) (leb 8 tag && leb tag 9)
+  where
+    go : (a b : Bool) → cond a (cond b 2 1) 0 ≤ 2
+    go true true = omega arith
+    go true false = omega arith
+    go false b = omega arith
+
 pub follows-nothing : (tag : ℕ) → (tag ≡ 0 → ⊥) → (tag ≡ 1 → ⊥) → (tag ≡ 2 → ⊥) → (tag ≡ 3 → ⊥) → (tag ≡ 6 → ⊥) → (tag ≡ 16 → ⊥) → tag ≤ 15
     → followsTag tag ≡ nothing
 unfolding followsTag

@@ -6,16 +6,16 @@ use mathlib.Core.Option.{none, some}
 use mathlib.Core.List.{List, []}
 use Prim.Native.Nat.{ℕ, zero, suc, _+_, _-_, _*_, _≤_, _<_}
 use native.Mathlib.Omega.{arith}
-use native.Mathlib.Nat.{min-le-right}
 use borrow.Author.Tests.{ltb-true, ltb-false, eqb-true, eqb-false, ne-eqb}
 use lib.Dec.{eqb, ltb}
-use lib.ListN.{length, getD, take, drop, length-take, length-drop}
+use lib.ListN.{length, getD, take, drop}
 use Rattle.image.specs.Schema.{Decl}
 use Rattle.image.specs.Parse.{Parsed, ok, no, pick, part}
 use Rattle.image.specs.Bodies.{bodyOf}
 use Rattle.image.specs.Image.{entryCount, entryOffset, entryLength, entryOf, entriesOf, readImage}
 use Rattle.image.specs.WellFormed.{Good}
 use Rattle.image.proofs.Laws.Sure.{Sure, sure-ok, sure-no, sure-bind, sure-need}
+use Rattle.image.proofs.Laws.Names.{part-length}
 use Rattle.image.proofs.Laws.Good.{sure-good, good-first, good-second}
 use Rattle.reader.proofs.Laws.Contents.{laid-inside}
 use Rattle.reader.proofs.Laws.Contents.{entry-part as part-is}
@@ -36,13 +36,6 @@ pub record BodyIn (s : List ℕ) (id from count : ℕ) : Type 0 where
   pub is : getD (schemaOf s .registry) id none ≡ some (declIn (bytesIn s from count) 0)
   pub short : length (declIn (bytesIn s from count) 0 .name) ≤ length s
 
-part-length : (from count : ℕ) (s : List ℕ) → length (part from count s) ≤ length s
-unfolding part
-part-length from count s =
-    let m : length (take count (drop from s)) ≤ length (drop from s) = rw length-take (min-le-right count (length (drop from s))) in
-    let d = length-drop from s in
-    omega arith
-
 -- a name is no longer than what it stands in
 name-short : (s : List ℕ) (at : ℕ) → DeclHere s at → length (declIn s at .name) ≤ length s
 name-short s at g = go (ltb (getD s at 0) 8) refl
@@ -50,7 +43,7 @@ name-short s at g = go (ltb (getD s at 0) 8) refl
     go : (b : Bool) → ltb (getD s at 0) 8 ≡ b → length (declIn s at .name) ≤ length s
     go true e =
         let n = decl-head s at g .named (ltb-true (getD s at 0) 8 e) in
-        omega (arith, ap length (n .1 ∙ name-stands s (at + 1) (n .0) .value), part-length (at + 1 + 1) (getD s (at + 1) 0) s)
+        omega (arith, ap length (n .1 ∙ name-stands s (at + 1) (n .0) .value), part-length (at + 1 + 1) (getD s (at + 1) 0) s .1)
     go false e = omega (arith, ap length (decl-head s at g .nameless (omega (arith, ltb-false (getD s at 0) 8 e))))
 
 -- ---- every entry of an accepted image was read
@@ -132,7 +125,7 @@ module _ (s : List ℕ) (g : Accepted s) (id : ℕ) (l : id < length (schemaOf s
             inside = omega (arith, fits);
             here = rw same here-there;
             is = rw same (body-entry s g id counted some-body .1 ∙ ap some (start-is s (entryOffset s id) (entryLength s id) (omega (arith, fits)) good));
-            short = rw same (omega (arith, name-short _ 0 here-there, part-length (entryOffset s id) (entryLength s id) s));
+            short = rw same (omega (arith, name-short _ 0 here-there, part-length (entryOffset s id) (entryLength s id) s .1));
           }
 
   -- the name of its declaration, if it has one

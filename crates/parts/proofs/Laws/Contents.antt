@@ -2,19 +2,20 @@
 use mathlib.Core.Path.{_≡_, refl, sym, ap, _∙_}
 use mathlib.Core.Option.{Option, none, some}
 use mathlib.Core.List.{List, [], _∷_}
-use Prim.Native.Nat.{ℕ, zero, suc, _+_, _-_, _*_, _≤_, _<_}
+use Prim.Native.Nat.{ℕ, zero, suc, _+_, _*_, _≤_, _<_}
 use native.Mathlib.Omega.{arith}
-use native.Mathlib.Nat.{min-le-right}
 use borrow.Author.Tests.{leb-true, ne-eqb}
-use lib.ListN.{length, getD, take, drop, length-take, length-drop, List·getD-eq-default}
+use lib.ListN.{length, getD, take, drop, List·getD-eq-default}
 use Rattle.image.specs.Schema.{Decl, Schema}
 use Rattle.image.specs.Parse.{ok, bind, pick, part, littleEndian, byteAt}
 use Rattle.image.specs.Names.{nameAt, namesAt}
 use Rattle.image.specs.Bodies.{bodyOf}
 use Rattle.image.specs.Image.{entryCount, idCount, segmentCount, entryOffset, entryLength, idsAt, segmentsAt, idsFrom, headOf, tablesOf, entryOf, entriesOf, readImage}
 use Rattle.image.specs.WellFormed.{Good, valueOr}
-use Rattle.image.proofs.Laws.Sure.{Sure, sure-ok, sure-need}
+use Rattle.image.proofs.Laws.Sure.{Head, head-sure}
 use Rattle.image.proofs.Laws.Good.{sure-good, good-first}
+use Rattle.image.proofs.Laws.Repeats.{ids-length}
+use Rattle.image.proofs.Laws.Names.{part-length}
 use Rattle.parts.specs.Promise.{noDecl, Accepted, schemaOf, NamesHere, NamesListed, namePlaces, nameIn, nameEnd, DeclHere, declIn, segmentsIn}
 use Rattle.parts.proofs.Laws.Kept.{kept-good, kept-value, part-of, part-self, names-kept, body-kept}
 use Rattle.parts.proofs.Laws.Steps.{good-is, then-is, then-good, need-is, need-true, byte-is}
@@ -22,17 +23,6 @@ use Rattle.parts.proofs.Laws.Places.{many-places}
 
 abbrev noSchema : Schema
 noSchema = record { registry = []; ids = []; namespace = [] }
-
--- the head and the tables
-pub record Head (s : List ℕ) : Type 0 where
-  pub most : length s ≤ 32768
-  pub least : 8 ≤ length s
-
-head-sure : (s : List ℕ) → Sure (λ _ _. Head s) (headOf s)
-unfolding headOf
-head-sure s =
-    sure-need _ _ (λ a. sure-need _ _ (λ b. sure-need _ _ (λ _. sure-need _ _ (λ _.
-    sure-ok (record { most = leb-true (length s) 32768 a; least = leb-true 8 (length s) b })))))
 
 -- what an accepted image consists of
 pub record Whole (s : List ℕ) : Type 0 where
@@ -70,11 +60,6 @@ whole s g =
 
 -- the ids
 module _ (s : List ℕ) where
-  ids-count : (c at : ℕ) → length (idsFrom c s at) ≡ c
-  unfolding idsFrom
-  ids-count zero at = refl
-  ids-count (suc c) at = ap suc (ids-count c (at + 4))
-
   ids-at : (c at k : ℕ) → k < c → getD (idsFrom c s at) k 0 ≡ littleEndian 4 (drop (at + 4 * k) s)
   unfolding idsFrom
   ids-at zero at k l = absurd (omega arith)
@@ -131,9 +116,7 @@ module _ (s : List ℕ) where
   unfolding bodyOf part
   body-there from count g =
       let l = byte-is (take count (drop from s)) 0 8 (good-first 0 (byteAt 8 (take count (drop from s)) 0) _ g) .1 in
-      let m : length (take count (drop from s)) ≤ length (drop from s) = rw length-take (min-le-right count (length (drop from s))) in
-      let d = length-drop from s in
-      omega arith
+      omega (arith, part-length from count s .1)
 
   entry-body : (i : ℕ) → (entryLength s i ≡ 0 → ⊥) → Good (entryOf s i) → DeclHere s (entryOffset s i) × (valueOr none (entryOf s i) ≡ some (declIn s (entryOffset s i)))
   unfolding DeclHere declIn valueOr
@@ -159,7 +142,7 @@ module _ (s : List ℕ) (g : Accepted s) where
   ids-are = ap (λ (c : Schema). c .ids) (whole s g .is)
 
   pub id-count-is : idCount s ≡ length (schemaOf s .ids)
-  id-count-is = sym (ap length ids-are ∙ ids-count s (idCount s) (idsAt s))
+  id-count-is = sym (ap length ids-are ∙ ids-length (idCount s) s (idsAt s))
 
   pub id-is : (k : ℕ) → k < length (schemaOf s .ids)
       → (littleEndian 4 (drop (8 + 4 * entryCount s + 4 * k) s) ≡ getD (schemaOf s .ids) k 0) × (8 + 4 * entryCount s + 4 * k + 4 ≤ length s)

@@ -8,11 +8,12 @@ use Rattle.image.specs.Schema.{noType}
 use Rattle.image.specs.Types.{innerTypes, typeAt}
 use Rattle.image.specs.Parse.{many}
 use Rattle.image.specs.WellFormed.{Good, endOf}
+use Rattle.image.proofs.Laws.Types.{inner-most}
 use Rattle.parts.specs.Promise.{labelIn, labelEnd, TypeHere, typeEnd}
 use Rattle.parts.proofs.Laws.Places.{many-turn}
 use Rattle.parts.proofs.Laws.Labels.{label-there}
 use Rattle.parts.proofs.Laws.Trees.{type-whole, type-label, type-first, type-second}
-use Rattle.parts.proofs.Laws.Skips.{inner-most, node-inner, types-start, types-done}
+use Rattle.parts.proofs.Laws.Skips.{node-inner, types-start, types-done}
 
 module _ (s : List ℕ) (at left : ℕ) (h : TypeHere left s at) where
   inner : Good (many typeAt (innerTypes (labelIn s at .tag)) s (labelEnd s at))

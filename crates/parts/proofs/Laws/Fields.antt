@@ -14,11 +14,9 @@ use Rattle.image.specs.Fields.{plain, delta, encodingOf, encodingAt, limitAt}
 use Rattle.image.specs.WellFormed.{Good, valueOr, endOf}
 use Rattle.image.proofs.Laws.Sure.{Sure, sure-ok, sure-no, sure-bind, sure-pick, Byte, Coded, code-sure}
 use Rattle.image.proofs.Laws.Good.{sure-good, good-first}
-use Rattle.parts.specs.Promise.{nameEnd, ItemHere, fieldIn, marksPlace, encodingPlace, encodingIn, limitPlace, typePlace}
-use Rattle.parts.specs.Promise.{codingOf}
+use Rattle.parts.specs.Promise.{nameEnd, ItemHere, fieldIn, marksPlace, encodingPlace, encodingIn, limitPlace, typePlace, codingOf, limitOf}
 use Rattle.parts.specs.declared.Shape.the-variants as shape
 use Rattle.parts.specs.declared.Limit.the-variants.{Most, Unlimited}
-use Rattle.parts.specs.Promise.{limitOf}
 use Rattle.parts.proofs.Laws.Steps.{then-is, code-is, number-is}
 use Rattle.parts.proofs.Laws.Items.{field-parts}
 
@@ -180,15 +178,6 @@ module _ (s : List ℕ) (at : ℕ) (g : ItemHere shape.Field s at) where
         go true true p r h = no-more (eqb-true (getD s (e + 1) 0) 0 p) (eqb-true (getD s (e + 1 + 1) 0) 0 r)
         go true false p r h = absurd (false≢true h)
         go false y p r h = absurd (false≢true h)
-
-  -- at most 8 deltas around a base of 0 to 2
-  pub field-coded : (fieldIn s at .encoding .deltas ≤ 8) × (fieldIn s at .encoding .base ≤ 2)
-  unfolding encodingIn
-  field-coded =
-      let p = field-parts s at g in
-      let h = encoding-stands s (encodingPlace s at) (p .encoding) in
-      let e = ap (λ (f : Field). f .encoding) (p .value) in
-      rw e (h .few, h .low)
 
   limit-good : Good (limitAt s (limitPlace s at))
   limit-good = field-parts s at g .limit

@@ -1,7 +1,7 @@
 -- Items at places of the image: ordinal and name, and what each shape has after them. Assumes nothing.
 use mathlib.Core.Path.{_≡_, sym, ap, ap₂, _∙_}
 use mathlib.Core.Option.{none}
-use mathlib.Core.List.{List, [], List·Memᴰ}
+use mathlib.Core.List.{List, []}
 use Prim.Native.Nat.{ℕ, _+_, _-_, _≤_, _<_}
 use native.Mathlib.Omega.{arith}
 use lib.ListN.{length, getD, drop}
@@ -16,7 +16,7 @@ use Rattle.parts.specs.Promise.{noField, noVariant, NameHere, nameIn, na
 use Rattle.parts.specs.declared.Shape.{Shape}
 use Rattle.parts.specs.declared.Shape.the-variants as shape
 use Rattle.parts.proofs.Laws.Steps.{good-is, then-is, then-good, number-is, number-there, marks-is, name-is}
-use Rattle.parts.proofs.Laws.Places.{many-places, many-turn, many-done, many-member}
+use Rattle.parts.proofs.Laws.Places.{many-places, many-turn, many-done}
 
 -- a type at a place
 module _ (s : List ℕ) (at : ℕ) (g : Good (typeAt s at)) where
@@ -228,7 +228,3 @@ module _ (h : Shape) (s : List ℕ) (c at : ℕ) (l : 0 < c) (g : ItemsHere h s 
 pub items-done : (h : Shape) (s : List ℕ) (c at : ℕ) → c ≤ 0 → itemsEnd h s c at ≡ at
 unfolding itemsEnd
 items-done h s c at l = many-done (noItem h) (itemAt h) s c at l
-
-pub items-member : (h : Shape) (s : List ℕ) (c at q : ℕ) → ItemsHere h s c at → List·Memᴰ q (placesFrom h s c at) → ItemHere h s q
-unfolding ItemsHere placesFrom itemEnd ItemHere
-items-member h s c at q g m = many-member (noItem h) (itemAt h) s c at q g m

@@ -5,9 +5,8 @@ use mathlib.Core.Bool.{Bool, true, false}
 use mathlib.Core.List.{List}
 use Prim.Native.Nat.{ℕ, zero, suc, _+_, _*_, _≤_, _<_}
 use native.Mathlib.Omega.{arith}
-use native.Mathlib.Nat.{min-le-left, min-le-right}
 use borrow.Author.Tests.{ltb-true, leb-true, le-leb, lt-ltb}
-use lib.ListN.{length, getD, take, drop, length-drop, length-take}
+use lib.ListN.{length, getD, drop, length-drop}
 use lib.Seq.{drop-drop, getD-drop, getD-take, ext-getD, length-take-le}
 use lib.Dec.{ltb, leb, eqb}
 use Rattle.image.specs.Schema.{Label, Ty}
@@ -18,6 +17,7 @@ use Rattle.image.specs.Fields.{marksAt, encodingOf, encodingAt, limitAt, fieldA
 use Rattle.image.specs.Bodies.{messageAt, enumAt, flagsAt, unionAt, newtypeAt, otherAt, implAt, declAt, bodyOf}
 use Rattle.parts.specs.Promise.{bodyAt}
 use Rattle.image.specs.WellFormed.{Good, valueOr, endOf}
+use Rattle.image.proofs.Laws.Names.{part-length}
 
 -- the first answer is a refusal, or the second is the same with its end moved on
 pub data Kept {A : Type 0} (by : ℕ) : Parsed A → Parsed A → Type 0 where
@@ -72,15 +72,9 @@ part-self s = record { fits = omega arith; same = λ i h. let e : 0 + i ≡ i = 
 pub part-of : (from count : ℕ) (s : List ℕ) → from ≤ length s → Part from (part from count s) s
 unfolding part
 part-of from count s h = record {
-  fits = (let m = short in let e = length-drop from s in omega arith);
-  same = λ i l. (let k : i < count = omega (arith, few) in getD-take count (drop from s) i 0 k ∙ getD-drop from s i 0);
+  fits = omega (arith, part-length from count s .1);
+  same = λ i l. (let k : i < count = omega (arith, part-length from count s .0) in getD-take count (drop from s) i 0 k ∙ getD-drop from s i 0);
 }
-  where
-    short : length (take count (drop from s)) ≤ length (drop from s)
-    short = rw length-take (min-le-right count (length (drop from s)))
-
-    few : length (take count (drop from s)) ≤ count
-    few = rw length-take (min-le-left count (length (drop from s)))
 
 pub part-from : (at : ℕ) (s : List ℕ) → at ≤ length s → Part at (drop at s) s
 part-from at s h = record { fits = (let e = length-drop at s in omega arith); same = λ i l. getD-drop at s i 0 }
@@ -126,9 +120,6 @@ le-part (suc w) {by} {t} {s} h at l =
 
 -- bytes, coded bytes, numbers and names
 module _ {by : ℕ} {t s : List ℕ} (h : Part by t s) where
-  inside : (n : ℕ) → n ≤ length t → by + n ≤ length s
-  inside n l = let f = h .fits in omega arith
-
   fits-less : (at : ℕ) → ltb at (length t) ≡ true → ltb (by + at) (length s) ≡ true
   fits-less at e = let l = ltb-true at (length t) e in let f = h .fits in lt-ltb (by + at) (length s) (omega arith)
 

@@ -1,7 +1,6 @@
 -- So many of a kind, one after the other, by their places. Assumes nothing.
 use mathlib.Core.Path.{_≡_, refl, sym, ap, _∙_}
-use mathlib.Core.Logic.{⊎-elim}
-use mathlib.Core.List.{List, [], _∷_, map, List·Memᴰ, List·Memᴰ·not-nil, List·Memᴰ·cases-cons}
+use mathlib.Core.List.{List, [], _∷_, map}
 use Prim.Native.Nat.{ℕ, zero, suc, _+_, _-_, _≤_, _<_}
 use native.Mathlib.Omega.{arith}
 use native.Mathlib.Numerals.{sub-one}
@@ -75,14 +74,3 @@ module _ {A : Type 0} (d : A) (p : List ℕ → ℕ → Parsed A) (s : List ℕ)
   many-done c at l =
       let z : c ≡ 0 = omega arith in
       rw (z, many-none at)
-
-  -- a good one stands at each of the places
-  pub many-member : (c at q : ℕ) → Good (many p c s at) → List·Memᴰ q (placesBy (λ q. endOf (p s q)) c at) → Good (p s q)
-  unfolding placesBy
-  many-member zero at q g m = absurd (List·Memᴰ·not-nil m)
-  many-member (suc c) at q g m =
-      let l : 0 < suc c = omega arith in
-      ⊎-elim
-      (λ (e : q ≡ at). rw e (many-first d p (suc c) s at l g))
-      (λ n. many-member c (endOf (p s at)) q (rw sub-one at (many-rest d p (suc c) s at l g)) n)
-      (List·Memᴰ·cases-cons m)

@@ -1,10 +1,8 @@
 -- How the code skips what it need not read: so many names, and the nodes of a type with those that are still to come. Assumes nothing.
 use mathlib.Core.Path.{_≡_, refl, sym, ap, _∙_}
-use mathlib.Core.Bool.{Bool, true, false, cond, _&&_}
 use mathlib.Core.List.{List, [], _∷_}
 use Prim.Native.Nat.{ℕ, zero, suc, _+_, _-_, _≤_, _<_}
 use native.Mathlib.Omega.{arith}
-use lib.Dec.{leb}
 use lib.ListN.{length, getD, drop}
 use Rattle.image.specs.Schema.{Label, Ty, one, two, noType}
 use Rattle.image.specs.Parse.{Parsed, ok, no, bind, shift, within, many}
@@ -15,6 +13,7 @@ use Rattle.image.specs.WellFormed.{labelIn as firstLabel}
 use Rattle.image.specs.Reads.{skip}
 use Rattle.image.proofs.Laws.Answers.{apart}
 use Rattle.image.proofs.Laws.Sure.{Sure, sure-ok, sure-no, sure-bind, sure-then, byte-sure, code-sure, number-sure, name-sure}
+use Rattle.image.proofs.Laws.Types.{inner-most}
 use Rattle.image.proofs.Laws.Good.{sure-good, good-first, bind-is, many-first, many-rest, many-end}
 use Rattle.parts.specs.Promise.{noLabel, NameHere, nameEnd, NamesHere, namesEnd, LabelHere, labelIn, labelEnd, TypeHere, typeEnd}
 use Rattle.parts.proofs.Laws.Kept.{kept-good, kept-end, part-from, many-kept, within-kept, type-kept}
@@ -70,16 +69,6 @@ label-forward s = sure-bind _ (byte-sure 8 s 0) (λ t n q. sure-then (after-forw
 pub label-longer : (s : List ℕ) (at : ℕ) → LabelHere s at → at < labelEnd s at
 unfolding LabelHere labelEnd
 label-longer s at g = let h = sure-good noLabel (label-forward (drop at s)) g in omega arith
-
--- at most two inner types
-pub inner-most : (tag : ℕ) → innerTypes tag ≤ 2
-unfolding innerTypes
-inner-most tag = go (leb 4 tag && leb tag 15) (leb 8 tag && leb tag 9)
-  where
-    go : (a b : Bool) → cond a (cond b 2 1) 0 ≤ 2
-    go true true = omega arith
-    go true false = omega arith
-    go false b = omega arith
 
 good-within : (p : List ℕ → Parsed Ty) (s : List ℕ) (at : ℕ) → Good (p (drop at s)) → Good (within p s at)
 unfolding within shift Good

@@ -16,7 +16,7 @@ use Rattle.image.specs.Reads.{skip}
 use Rattle.image.specs.declared.Read.{Read}
 use Rattle.image.specs.declared.Read.the-variants.{At, Refused}
 use Rattle.image.proofs.Laws.Answers.{refused, got, next, stop, skip-ok, pick-true, pick-false}
-use Rattle.image.proofs.Laws.Sure.{Sure, sure-ok, sure-need, sure-at, names-sure}
+use Rattle.image.proofs.Laws.Sure.{Sure, sure-ok, sure-need, sure-at, names-sure, head-sure}
 
 -- the head: what each test leaves
 module _ (s : List ℕ) where
@@ -60,13 +60,8 @@ module _ (s : List ℕ) where
     head-good d e h = rw (counts, le-leb (entryCount s) 512 d, le-leb (idCount s) 512 e, le-leb (segmentCount s) 16 h)
 
 -- a head that was read
-head-sure : (s : List ℕ) → Sure (λ a n. 8 ≤ length s) (headOf s)
-unfolding headOf
-head-sure s =
-    sure-need _ _ (λ a. sure-need _ _ (λ b. sure-need _ _ (λ c. sure-need _ _ (λ d. sure-ok (leb-true 8 (length s) b)))))
-
 pub head-there : (s : List ℕ) {x : Read} {n : ℕ} → x ≡ At n → x ≡ skip (headOf s) → 8 ≤ length s
-head-there s h e = sure-at (head-sure s) h e .2
+head-there s h e = sure-at (head-sure s) h e .2 .least
 
 -- the contents and the ids
 tables-sure : (s : List ℕ) → Sure (λ a n. (8 + 4 * entryCount s ≤ length s) × (n ≤ length s)) (tablesOf s)

@@ -8,8 +8,9 @@ use lib.ListN.{length, getD}
 use Rattle.image.specs.Parse.{many}
 use Rattle.image.specs.Types.{typeAt}
 use Rattle.image.specs.WellFormed.{Good, endOf}
+use Rattle.image.proofs.Laws.Types.{inner-most}
 use Rattle.parts.proofs.Laws.Labels.{label-there}
-use Rattle.parts.proofs.Laws.Skips.{inner-most, label-longer, types-start, types-done, types-label, types-turn}
+use Rattle.parts.proofs.Laws.Skips.{label-longer, types-start, types-done, types-label, types-turn}
 use Rattle.parts.specs.Promise.{typeEnd}
 use Rattle.parts.proofs.types.type_end.Statement.{statement}
 use Rattle.parts.proofs.types.type_end.Tie as tie
