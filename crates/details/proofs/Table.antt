@@ -1,5 +1,5 @@
 -- A text that is cut into words at starts; and the words of rules in the table of all. Assumes nothing.
-use mathlib.Core.Path.{_≡_, refl, sym, ap, _∙_}
+use mathlib.Core.Path.{_≡_, ap, _∙_}
 use mathlib.Core.Bool.{Bool, true, false, _&&_}
 use mathlib.Core.List.{List, [], _∷_, _++_}
 use Prim.Native.Nat.{ℕ, zero, suc, _+_, _-_, _≤_, _<_}
@@ -11,10 +11,10 @@ use lib.Dec.{leb}
 use lib.ListN.{length, getD, take, drop, List·getD-append}
 use lib.Seq.{getD-append-add}
 use Rattle.image.specs.Words.{bytes, kindWord}
+use Rattle.refusals.proofs.Tests.{both}
 use Rattle.rules.specs.Equal.{sameName}
 use Rattle.rules.specs.Text.{word}
 use Rattle.rules.specs.Report.{changeWord, bumpWord, resultWord}
-use Rattle.rules.proofs.Equal.{both}
 use Rattle.rules.proofs.Equal.{names as names-sound}
 use Rattle.details.specs.Words.{changeNames, bumpNames, resultNames, declNames, names, wordAt}
 

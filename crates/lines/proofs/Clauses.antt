@@ -1,5 +1,5 @@
 -- The changes that the clauses of rules report are those of sites, by clause. Assumes nothing.
-use mathlib.Core.Path.{_≡_, refl, sym, ap, _∙_}
+use mathlib.Core.Path.{_≡_, refl, sym, ap}
 use mathlib.Core.Bool.{Bool, true, false, not, _&&_, Bool·beq}
 use mathlib.Core.Option.{Option, none, some}
 use mathlib.Core.List.{List, [], _∷_, _++_, append-nil, append-assoc}
@@ -14,16 +14,16 @@ use Rattle.parts.proofs.Promise.{item-bare, field-ordinal, field-name, field-ty
 use Rattle.rules.specs.Equal.{sameOption, sameName, sameNames}
 use Rattle.rules.specs.Types.{Reading, resolve}
 use Rattle.text.specs.Decimal.{decimal}
-use Rattle.rules.specs.Text.{showType}
 use Rattle.rules.specs.Changes.{Bump, patch, minor, major, level, kindCount, Change, change, only, quoted, numbered, fromTo}
-use Rattle.rules.specs.Clauses.{showNamespace, compareNamespaces, Reader, reader, compareTypes, fieldText, compareFieldNames, sameEncoding, compareEncodings, compareDeprecated, fieldRules, variantText, variantGone, variantCame, compareNonExhaustive, bitText, flagsRules, compareNewtypes, declText, declRules}
+use Rattle.rules.specs.Clauses.{compareNamespaces, Reader, reader, compareTypes, fieldText, compareFieldNames, sameEncoding, compareEncodings, compareDeprecated, fieldRules, variantText, variantGone, variantCame, compareNonExhaustive, bitText, flagsRules, compareNewtypes, declText, declRules}
 use Rattle.rules.specs.Clauses.{kindChanged as kindsDiffer}
+use Rattle.rules.proofs.Chain.{bump-bound}
 use Rattle.text.specs.declared.Mode.{Mode}
 use Rattle.tally.specs.Reporting.{Ready, Ran}
 use Rattle.tally.specs.declared.Tally.{Tally}
 use Rattle.tally.proofs.Running.{ran-none}
 use Rattle.lines.specs.Sites.{bumpAt, changeOf, SiteHere}
-use Rattle.details.specs.Details.{declarationOf, itemOf, wordText, itemText, newtypeText, fieldNameText, fieldOrdinalText, subjectText, verbText, valueText, valuesText, detailText, ScopeHere, ItemOfHere, SubjectHere, ValueHere, ValuesHere, DetailHere}
+use Rattle.details.specs.Details.{declarationOf, itemOf, wordText, itemText, newtypeText, fieldNameText, fieldOrdinalText, subjectText, verbText, valueText, valuesText, detailText, ScopeHere, ItemOfHere, SubjectHere, ValueHere, ValuesHere}
 use Rattle.lines.specs.Clauses.{namespaceChanged, declRemoved, declAdded, kindChanged, fieldRemoved, fieldAdded, fieldRenamed, fieldTypeChanged, fieldEncodingChanged, fieldDeprecated, declDeprecated, nonExhaustiveChanged, variantRemoved, variantAdded, bitRemoved, bitAdded, newtypeChanged}
 use Rattle.details.specs.declared.Scope.{Scope}
 use Rattle.details.specs.declared.Word.{Word}
@@ -102,12 +102,6 @@ unfolding bumpAt level
 bump-level patch = refl
 bump-level minor = refl
 bump-level major = refl
-
-level-most : (b : Bump) → level b ≤ 2
-unfolding level
-level-most patch = omega arith
-level-most minor = omega arith
-level-most major = omega arith
 
 module _ (old new : List ℕ) (a : Accepted old) (b : Accepted new) where
   places :
@@ -244,7 +238,7 @@ module _ (old new : List ℕ) (a : Accepted old) (b : Accepted new) where
       pub variant-added : (b : Bump) (j : ℕ) → Named new j (v .name) (v .ordinal) → Reports old new (variantAdded (level b) d j) true (variantCame b (declIn old d .name) v)
       unfolding changeOf declarationOf itemOf detailText subjectText verbText valuesText valueText bytes ScopeHere ItemOfHere SubjectHere ValuesHere ValueHere variantCame variantText wordText
       variant-added b j n = record {
-        here = places (variantAdded (level b) d j) (omega arith) (level-most b) g (n .here) (n .here) tt;
+        here = places (variantAdded (level b) d j) (omega arith) (bump-bound b) g (n .here) (n .here) tt;
         are = always (rw (bump-level b) (same-change (ap some (n .called)) (item-said n Word.Variant (bytes " was added"))));
       }
 

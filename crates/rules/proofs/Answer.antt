@@ -69,7 +69,7 @@ module _ (view : Schema → View) (same : Reading) where
 
 -- ---- the selectors from 5 on
 
-counts-at : (n from k : ℕ) (cs : List Change) → k < n → getD (counts n from cs) k 0 ≡ countOf (from + k) cs
+pub counts-at : (n from k : ℕ) (cs : List Change) → k < n → getD (counts n from cs) k 0 ≡ countOf (from + k) cs
 unfolding counts
 counts-at zero from k cs h = absurd (omega arith)
 counts-at (suc n) from zero cs h = ap (λ i. countOf i cs) (omega arith)

@@ -31,7 +31,7 @@ abbrev pub levelOf : Change → ℕ
 levelOf c = level (c .bump)
 
 -- nothing is worse than Major
-bump-bound : (b : Bump) → level b ≤ 2
+pub bump-bound : (b : Bump) → level b ≤ 2
 unfolding level
 bump-bound patch = omega arith
 bump-bound minor = omega arith

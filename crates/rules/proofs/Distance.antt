@@ -17,6 +17,7 @@ use Rattle.maps.proofs.Survivors.{rising}
 use Rattle.image.specs.Schema.{Schema, Ty}
 use Rattle.image.specs.Parse.{Parsed, ok, no}
 use Rattle.image.specs.Image.{readImage}
+use Rattle.refusals.proofs.Tests.{both}
 use Rattle.rules.specs.Equal.{Sound}
 use Rattle.rules.specs.Survivors.{nameOf, listed, declarations, View, viewOf}
 use Rattle.rules.specs.Types.{Reading, resolve, holdsVector}
@@ -25,7 +26,6 @@ use Rattle.rules.specs.Clauses.{comparedTypes}
 use Rattle.rules.specs.Verdict.{bumpOf, countOf, any}
 use Rattle.rules.specs.Answer.{outcome, checked, selected, select, verdictOf}
 use Rattle.rules.specs.Distance.{Image, vectorCompared, last, otherKinds, Verdict, distance, counted, Steps, largestStep, Swapped, DistanceRule, holdsVectors}
-use Rattle.rules.proofs.Equal.{both}
 use Rattle.rules.proofs.Types.{types, holds-resolved}
 use Rattle.rules.proofs.Chain.{changes-chained}
 use Rattle.rules.proofs.Self.{changes-self}

@@ -5,13 +5,10 @@ use mathlib.Core.Option.{Option, none, some}
 use mathlib.Core.List.{List, [], _∷_}
 use lib.Dec.{eqb}
 use borrow.Author.Tests.{eqb-true, eq-eqb}
+use Rattle.refusals.proofs.Tests.{both}
 use Rattle.rules.specs.Equal.{sameList, sameOption, sameName, sameNames, Sound, never}
 
--- ---- both parts of a conjunction
-
-pub both : (a b : Bool) → (a && b) ≡ true → (a ≡ true) × (b ≡ true)
-both true b e = (refl, e)
-both false b e = absurd (false≢true e)
+-- ---- two tests that hold
 
 pub join : {a b : Bool} → a ≡ true → b ≡ true → (a && b) ≡ true
 join p q = rw (p, q)

@@ -17,6 +17,7 @@ use Rattle.maps.proofs.Survivors.{all-lookup, lookup-key, lookup-own}
 use Rattle.image.specs.Schema.{Name, Decl, Schema}
 use Rattle.image.specs.Parse.{no}
 use Rattle.image.specs.Image.{readImage}
+use Rattle.refusals.proofs.Tests.{both}
 use Rattle.rules.specs.Survivors.{nameOf, declarations, viewOf}
 use Rattle.rules.specs.Types.{sameType}
 use Rattle.rules.specs.Changes.{Change}
@@ -25,7 +26,6 @@ use Rattle.rules.specs.Verdict.{alias, isAlias, any, aliasPair}
 use Rattle.rules.specs.Report.{report}
 use Rattle.rules.specs.Answer.{bothSides, Outcome, refused, compared, comparePair, acceptNew, acceptOld, outcome, checked, selected, select, verdictOf, fit, reported, reportLength, written}
 use Rattle.rules.specs.Refusals.{Accepted, NewRefused, Alias, AliasPair, Refusal, VerdictRefusals, ReportRefusals}
-use Rattle.rules.proofs.Equal.{both}
 use Rattle.rules.proofs.Answer.{Case, old-refused, new-refused, pair-refused, verdict, case}
 use Rattle.rules.proofs.Distance.{view-rises}
 

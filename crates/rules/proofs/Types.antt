@@ -5,11 +5,12 @@ use mathlib.Core.Bool.{Bool, true, false, not, _&&_, _||_, false≢true}
 use lib.Dec.{eqb}
 use borrow.Author.Tests.{eqb-true}
 use Rattle.image.specs.Schema.{Label, label, Ty, leaf, one, two}
+use Rattle.refusals.proofs.Tests.{both}
 use Rattle.rules.specs.Equal.{Sound, never}
 use Rattle.rules.specs.Survivors.{Registry}
 use Rattle.rules.specs.Types.{resolveLabel, resolve, vector, sameLabel, equalLabel, sameType, holdsVector}
 use Rattle.rules.specs.Clauses.{sameEncoding}
-use Rattle.rules.proofs.Equal.{both, join, numbers, nameLists}
+use Rattle.rules.proofs.Equal.{join, numbers, nameLists}
 
 pub encodings : Sound sameEncoding never
 unfolding sameEncoding
@@ -91,7 +92,7 @@ types = record { equal = type-equal; self = type-self }
 
 -- ---- resolving keeps the tags
 
-tag-resolved : (R : Registry) (l : Label) → resolveLabel R l .tag ≡ l .tag
+pub tag-resolved : (R : Registry) (l : Label) → resolveLabel R l .tag ≡ l .tag
 unfolding resolveLabel
 tag-resolved R l = go (eqb (l .tag) 3) refl
   where

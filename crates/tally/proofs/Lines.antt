@@ -1,13 +1,10 @@
 -- A line of a report in pieces, for a writer. Assumes nothing.
 use mathlib.Core.Path.{_≡_, refl, sym, ap, _∙_}
 use mathlib.Core.List.{List, [], _∷_, _++_, append-assoc}
-use Prim.Native.Nat.{ℕ, _≤_}
-use native.Mathlib.Omega.{arith}
-use lib.ListN.{length, length-append}
+use Prim.Native.Nat.{ℕ}
 use Rattle.image.specs.Words.{bytes}
-use Rattle.rules.specs.Changes.{Change}
 use Rattle.rules.specs.Text.{joined}
-use Rattle.rules.specs.Report.{line, changeLine}
+use Rattle.rules.specs.Report.{line}
 use Rattle.text.proofs.Pieces.{together, together-cons}
 
 -- parts with a `;` between each two and byte 10 after the last
@@ -23,12 +20,3 @@ line-pieces (p ∷ []) = refl
 line-pieces (p ∷ q ∷ ps) =
     append-assoc p (bytes ";" ++ joined (bytes ";") (q ∷ ps)) (bytes "\n")
     ∙ ap (λ (l : List ℕ). p ++ l) (append-assoc (bytes ";") (joined (bytes ";") (q ∷ ps)) (bytes "\n") ∙ ap (λ (l : List ℕ). bytes ";" ++ l) (line-pieces (q ∷ ps)) ∙ sym (together-cons (bytes ";") (linePieces (q ∷ ps))))
-
--- byte 10 at least
-some : (ps : List (List ℕ)) → 1 ≤ length (line ps)
-unfolding line bytes
-some ps = omega (arith, length-append (joined (bytes ";") ps) (bytes "\n"))
-
-pub line-some : (c : Change) → 1 ≤ length (changeLine c)
-unfolding changeLine
-line-some c = some _

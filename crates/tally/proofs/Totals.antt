@@ -15,9 +15,10 @@ use Rattle.rules.specs.Changes.{level, kindCount, Change}
 use Rattle.rules.specs.Report.{changeLine}
 use Rattle.rules.specs.Verdict.{bumpOf, countOf}
 use Rattle.rules.specs.Answer.{counts}
+use Rattle.rules.proofs.Answer.{counts-at}
+use Rattle.rules.proofs.Texts.{line-some}
 use Rattle.tally.specs.Tallies.{noChange, counted, tallied, tallyFrom, linesOf, TallyOf, Sound}
 use Rattle.tally.specs.declared.Tally.{Tally}
-use Rattle.tally.proofs.Lines.{line-some}
 
 pub tally-append : (t : Tally) (xs ys : List Change) → tallyFrom t (xs ++ ys) ≡ tallyFrom (tallyFrom t xs) ys
 unfolding tallyFrom
@@ -71,12 +72,6 @@ counts-length : (n from : ℕ) (cs : List Change) → length (counts n from cs) 
 unfolding counts
 counts-length zero from cs = refl
 counts-length (suc n) from cs = ap suc (counts-length n (suc from) cs)
-
-counts-at : (n from k : ℕ) (cs : List Change) → k < n → getD (counts n from cs) k 0 ≡ countOf (from + k) cs
-unfolding counts
-counts-at zero from k cs h = absurd (omega arith)
-counts-at (suc n) from zero cs h = ap (λ i. countOf i cs) (omega arith)
-counts-at (suc n) from (suc k) cs h = counts-at n (suc from) k cs (omega arith) ∙ ap (λ i. countOf i cs) (omega arith)
 
 -- ---- the tally of a list
 

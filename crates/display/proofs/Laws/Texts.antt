@@ -2,7 +2,7 @@
 use mathlib.Core.Path.{_≡_, refl, sym, ap, _∙_}
 use mathlib.Core.Bool.{Bool, true, false, cond}
 use mathlib.Core.List.{List, [], _∷_, _++_, append-assoc, append-nil}
-use Prim.Native.Nat.{ℕ, zero, suc, _+_, _-_, _/_, _<_}
+use Prim.Native.Nat.{ℕ, zero, suc, _-_, _<_}
 use native.Mathlib.Omega.{arith}
 use native.Mathlib.Numerals.{sub-one}
 use borrow.Author.Tests.{eqb-true, eqb-false, eq-eqb, ne-eqb}
@@ -17,6 +17,7 @@ use Rattle.parts.specs.declared.Encoding.{Encoding}
 use Rattle.rules.specs.Types.{resolve}
 use Rattle.text.specs.Decimal.{decimal}
 use Rattle.rules.specs.Text.{joined, word, primitiveWord, semanticWord, showName, showLeaf, opening, showSize, showType, deltasAround, showEncoding}
+use Rattle.rules.proofs.Types.{tag-resolved}
 use Rattle.text.specs.Text.{Space, Puts}
 use Rattle.text.specs.declared.Mode.{Mode}
 use Rattle.text.proofs.Writing.{in-nil}
@@ -28,7 +29,7 @@ use Rattle.types.specs.Resolved.{namedBy, nodeIn, typeIn}
 use Rattle.display.specs.Display.{repeated}
 use Rattle.types.proofs.Laws.Names.{names-none}
 use Rattle.display.proofs.Laws.Words.{table, whole, wholeWords, table-word}
-use Rattle.types.proofs.Laws.Labels.{not-named, named, same-tag, bits-in}
+use Rattle.types.proofs.Laws.Labels.{not-named, named, bits-in}
 
 -- ---- the same text
 
@@ -99,7 +100,7 @@ module _ (s : List ℕ) (t : ℕ) where
 
   pub size-none : (labelIn s t .tag ≡ 6 → ⊥) → showSize (nodeIn s t) ≡ []
   unfolding showSize
-  size-none n = rw (same-tag _ (labelIn s t), ne-eqb (labelIn s t .tag) 6 n)
+  size-none n = rw (tag-resolved _ (labelIn s t), ne-eqb (labelIn s t .tag) 6 n)
 
   pub size-some : labelIn s t .tag ≡ 6 → {x : ℕ} → x ≡ labelIn s t .first → showSize (nodeIn s t) ≡ together (bytes ", " ∷ decimal x ∷ [])
   unfolding showSize together
@@ -131,8 +132,8 @@ module _ (s : List ℕ) (t inner : ℕ) where
   text-some n f {x} e {p} q = rw (q, e, opening-words (labelIn s t .tag)) (go (eqb inner 1) refl)
     where
       go : (b : Bool) → eqb inner 1 ≡ b → showType (typeIn s t) ≡ opening (labelIn s t .tag) ++ (showType (typeIn s (labelEnd s t)) ++ closing s t inner)
-      go true k = rw (k, n .single (eqb-true inner 1 k) .tree, same-tag _ (labelIn s t))
-      go false k = rw (k, n .pair f (eqb-false inner 1 k) .tree, same-tag _ (labelIn s t))
+      go true k = rw (k, n .single (eqb-true inner 1 k) .tree, tag-resolved _ (labelIn s t))
+      go false k = rw (k, n .pair f (eqb-false inner 1 k) .tree, tag-resolved _ (labelIn s t))
 
   pub closing-one : inner ≡ 1 → together (closing s t inner ∷ []) ≡ together (showSize (nodeIn s t) ∷ bytes ">" ∷ [])
   unfolding together closing

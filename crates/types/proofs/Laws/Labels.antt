@@ -8,6 +8,7 @@ use native.Mathlib.Omega.{arith}
 use borrow.Author.Tests.{eqb-true, eq-eqb, ne-eqb, lt-ltb, le-ltb, le-leb, lt-leb, leb-true, leb-false}
 use lib.Dec.{eqb, ltb, leb}
 use Rattle.image.specs.Schema.{Name, Label, label}
+use Rattle.refusals.proofs.Tests.{both}
 use Rattle.parts.specs.Promise.{LabelHere, labelIn, Regular, bitsIn, declIn, Resolved}
 use Rattle.parts.proofs.Promise.{label-regular, bits-listed, resolved-body, resolved-none}
 use Rattle.parts.specs.declared.Entry.{Entry}
@@ -15,7 +16,7 @@ use Rattle.parts.specs.declared.Run.{Run}
 use Rattle.rules.specs.Equal.{sameList, sameName, sameNames}
 use Rattle.rules.specs.Survivors.{Registry, declOf}
 use Rattle.rules.specs.Types.{nameIn, resolveLabel, vector, sameLabel, equalLabel}
-use Rattle.rules.proofs.Equal.{both}
+use Rattle.rules.proofs.Types.{tag-resolved}
 use Rattle.types.specs.Names.{NamesIn, namesIn}
 use Rattle.types.specs.Resolved.{namedBy, nodeIn}
 
@@ -28,14 +29,6 @@ not-named R l n = rw (ne-eqb (l .tag) 3 n)
 pub named : (R : Registry) (l : Label) → l .tag ≡ 3 → resolveLabel R l ≡ label 3 0 0 (nameIn (declOf R (l .first)))
 unfolding resolveLabel
 named R l e = rw (eq-eqb (l .tag) 3 e)
-
-pub same-tag : (R : Registry) (l : Label) → resolveLabel R l .tag ≡ l .tag
-unfolding resolveLabel
-same-tag R l = go (eqb (l .tag) 3) refl
-  where
-    go : (b : Bool) → eqb (l .tag) 3 ≡ b → resolveLabel R l .tag ≡ l .tag
-    go true p = rw p (sym (eqb-true (l .tag) 3 p))
-    go false p = rw p
 
 -- what an id stands for, by the answer of `entry`
 module _ (s : List ℕ) (id : ℕ) {r : Entry} (h : Resolved s id r) where
@@ -88,7 +81,7 @@ unfolding equalLabel sameLabel
 equal-tags R S l m e =
     let p = both (not (vector (resolveLabel R l .tag))) _ e .1 in
     let q = both (eqb (resolveLabel R l .tag) (resolveLabel S m .tag)) _ p .0 in
-    sym (same-tag R l) ∙ eqb-true _ _ q ∙ same-tag S m
+    sym (tag-resolved R l) ∙ eqb-true _ _ q ∙ tag-resolved S m
 
 -- of one tag, by what it has: what it has not is 0 or empty in both
 module _ (l m : Label) (D : Regular l) (E : Regular m) (t : l .tag ≡ m .tag) where
@@ -134,7 +127,7 @@ past-codes {x} c a b =
 
 module _ (s : List ℕ) (i : ℕ) (t : List ℕ) (j : ℕ) {x y : ℕ} (p : x ≡ labelIn s i .tag) (q : y ≡ labelIn t j .tag) where
   pub tags-differ : (x ≡ y → ⊥) → false ≡ equalLabel (nodeIn s i) (nodeIn t j)
-  tags-differ d = sym (unequal (nodeIn s i) (nodeIn t j) (λ e. d (p ∙ sym (same-tag _ (labelIn s i)) ∙ e ∙ same-tag _ (labelIn t j) ∙ sym q)))
+  tags-differ d = sym (unequal (nodeIn s i) (nodeIn t j) (λ e. d (p ∙ sym (tag-resolved _ (labelIn s i)) ∙ e ∙ tag-resolved _ (labelIn t j) ∙ sym q)))
 
   module _ (e : x ≡ y) where
     tags : labelIn s i .tag ≡ labelIn t j .tag
