@@ -140,6 +140,12 @@ pub fn rows(rows: &mut Rows) {
         rows.one(format!("namespace of {segments} segments kept"));
         rows.one(format!("namespace of {segments} segments changed"));
     }
+    of_declarations(rows);
+    of_items(rows);
+    of_encodings(rows);
+}
+
+fn of_declarations(rows: &mut Rows) {
     for (number, kind) in (0..).zip(KIND_NAMES) {
         rows.one(format!("{kind} removed"));
         rows.one(format!("{kind} added"));
@@ -157,6 +163,9 @@ pub fn rows(rows: &mut Rows) {
         rows.one(format!("alias {place} in old, standing in new"));
         rows.one(format!("alias {place} in old, {place} in new"));
     }
+}
+
+fn of_items(rows: &mut Rows) {
     for place in ["message", "enum", "field", "variant's field"] {
         for (old, new) in (0..16).map(|n| (n / 4, n % 4)) {
             rows.one(format!("{place} marks {old} to {new}"));
@@ -170,6 +179,9 @@ pub fn rows(rows: &mut Rows) {
     for what in ["kept", "renamed"] {
         rows.one(format!("union variant {what}, fields changed"));
     }
+}
+
+fn of_encodings(rows: &mut Rows) {
     rows.distinct("encodings ", 27 * 27);
     for limit in [0, 1, u64::MAX] {
         rows.one(format!("limit {limit} gained"));
