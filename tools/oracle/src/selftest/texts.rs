@@ -14,6 +14,8 @@ pub fn run(tests: &mut Tests) {
     example(tests);
     leniency(tests);
     faults(tests);
+    type_faults(tests);
+    item_faults(tests);
     limits(tests);
 }
 
@@ -98,7 +100,14 @@ fn faults(tests: &mut Tests) {
     fault("#0 impl I", "not understood: I");
     fault("#0 newtype N", "`:` is missing before: ");
     fault("@0 f: u8", "an item, and no declaration above it");
-    let mut newtype = |ty: &str, wanted: &str| fault(&format!("#0 newtype N: {ty}"), wanted);
+}
+
+/// The same of the type of a newtype.
+fn type_faults(tests: &mut Tests) {
+    let mut newtype = |ty: &str, wanted: &str| {
+        let text = format!("namespace\ndeclares\n#0 newtype N: {ty}");
+        tests.equal(&text, make(&text), Err(format!("line 3: {wanted}")));
+    };
     newtype("", "no type: ");
     newtype("u65", "no type: u65");
     newtype("i0", "no type: i0");
@@ -114,10 +123,9 @@ fn faults(tests: &mut Tests) {
     newtype("M#0", "M#0 should be N#0");
     newtype("N#1", "N#1 should be <unknown>#1");
     newtype("<unknown>#0", "<unknown>#0 should be N#0");
-    items(tests);
 }
 
-fn items(tests: &mut Tests) {
+fn item_faults(tests: &mut Tests) {
     let mut fault = |heading: &str, line: &str, wanted: &str| {
         let text = format!("namespace\ndeclares\n#0 {heading}\n{line}\n");
         tests.equal(&text, make(&text), Err(format!("line 4: {wanted}")));

@@ -109,74 +109,92 @@ fn add_marks(annotations: &mut ResolvedAnnotations) {
 
 fn load(def: &mut TypeDef) {
     match def {
-        TypeDef::Message(d) => {
-            annotate(&mut d.annotations);
-            d.span = span();
-            d.tombstones.push(tombstone());
-            d.wire_size = Some(WireSize::Fixed(7));
-            d.fields.iter_mut().for_each(load_field);
-        }
-        TypeDef::Enum(d) => {
-            annotate(&mut d.annotations);
-            d.span = span();
-            d.tombstones.push(tombstone());
-            d.backing = Some(EnumBacking::U16);
-            d.wire_bits = 16;
-            for variant in &mut d.variants {
-                add_marks(&mut variant.annotations);
-                variant.span = span();
-            }
-        }
-        TypeDef::Flags(d) => {
-            add_marks(&mut d.annotations);
-            d.span = span();
-            d.tombstones.push(tombstone());
-            d.wire_bytes = 2;
-            for bit in &mut d.bits {
-                add_marks(&mut bit.annotations);
-                bit.span = span();
-            }
-        }
-        TypeDef::Union(d) => {
-            add_marks(&mut d.annotations);
-            d.span = span();
-            d.tombstones.push(tombstone());
-            d.wire_size = Some(WireSize::Fixed(7));
-            d.variants.iter_mut().for_each(load_variant);
-        }
-        TypeDef::Newtype(d) => {
-            add_marks(&mut d.annotations);
-            d.span = span();
-            d.terminal_type = some_type();
-        }
-        TypeDef::Config(d) => {
-            add_marks(&mut d.annotations);
-            d.fields.push(ConfigFieldDef {
-                name: text(),
-                span: span(),
-                resolved_type: some_type(),
-                default_value: DefaultValue::None,
-                annotations: ResolvedAnnotations::default(),
-            });
-        }
-        TypeDef::GenericAlias(d) => {
-            add_marks(&mut d.annotations);
-            d.type_params.push(text());
-        }
-        TypeDef::Trait(d) => {
-            add_marks(&mut d.annotations);
-            d.functions.push(TraitFnDef {
-                name: text(),
-                params: Vec::new(),
-                return_type: Some(some_type()),
-            });
-        }
-        TypeDef::Impl(d) => {
-            add_marks(&mut d.annotations);
-            d.trait_name = text();
-            d.target_type = some_type();
-        }
+        TypeDef::Message(d) => load_message(d),
+        TypeDef::Enum(d) => load_enum(d),
+        TypeDef::Flags(d) => load_flags(d),
+        TypeDef::Union(d) => load_union(d),
+        TypeDef::Newtype(d) => load_newtype(d),
+        TypeDef::Config(d) => load_config(d),
+        TypeDef::GenericAlias(d) => load_alias(d),
+        TypeDef::Trait(d) => load_trait(d),
+        TypeDef::Impl(d) => load_impl(d),
     }
+}
+
+fn load_message(message: &mut MessageDef) {
+    annotate(&mut message.annotations);
+    message.span = span();
+    message.tombstones.push(tombstone());
+    message.wire_size = Some(WireSize::Fixed(7));
+    message.fields.iter_mut().for_each(load_field);
+}
+
+fn load_enum(enumeration: &mut EnumDef) {
+    annotate(&mut enumeration.annotations);
+    enumeration.span = span();
+    enumeration.tombstones.push(tombstone());
+    enumeration.backing = Some(EnumBacking::U16);
+    enumeration.wire_bits = 16;
+    for variant in &mut enumeration.variants {
+        add_marks(&mut variant.annotations);
+        variant.span = span();
+    }
+}
+
+fn load_flags(flags: &mut FlagsDef) {
+    add_marks(&mut flags.annotations);
+    flags.span = span();
+    flags.tombstones.push(tombstone());
+    flags.wire_bytes = 2;
+    for bit in &mut flags.bits {
+        add_marks(&mut bit.annotations);
+        bit.span = span();
+    }
+}
+
+fn load_union(union: &mut UnionDef) {
+    add_marks(&mut union.annotations);
+    union.span = span();
+    union.tombstones.push(tombstone());
+    union.wire_size = Some(WireSize::Fixed(7));
+    union.variants.iter_mut().for_each(load_variant);
+}
+
+fn load_newtype(newtype: &mut NewtypeDef) {
+    add_marks(&mut newtype.annotations);
+    newtype.span = span();
+    newtype.terminal_type = some_type();
+}
+
+fn load_config(config: &mut ConfigDef) {
+    add_marks(&mut config.annotations);
+    config.fields.push(ConfigFieldDef {
+        name: text(),
+        span: span(),
+        resolved_type: some_type(),
+        default_value: DefaultValue::None,
+        annotations: ResolvedAnnotations::default(),
+    });
+}
+
+fn load_alias(alias: &mut GenericAliasDef) {
+    add_marks(&mut alias.annotations);
+    alias.type_params.push(text());
+}
+
+fn load_trait(def: &mut TraitDef) {
+    add_marks(&mut def.annotations);
+    def.functions.push(TraitFnDef {
+        name: text(),
+        params: Vec::new(),
+        return_type: Some(some_type()),
+    });
+}
+
+fn load_impl(def: &mut ImplDef) {
+    add_marks(&mut def.annotations);
+    def.trait_name = text();
+    def.target_type = some_type();
 }
 
 fn load_variant(variant: &mut UnionVariantDef) {

@@ -6,7 +6,7 @@ use crate::limits::{ENTRIES, IMAGE_BYTES, NODES};
 use crate::make::*;
 use crate::random::deepened;
 use crate::reader::read_image;
-use crate::schema::{Declaration, Field, Item, Schema, Type};
+use crate::schema::{Declaration, Field, Item, Schema, Type, KIND_NAMES};
 use crate::vexil::compile;
 use crate::vexil::exporter::{export, Refused};
 use crate::writer::image;
@@ -142,25 +142,31 @@ fn crowded(tests: &mut Tests) {
 
 /// Where names stand, with the name in question there.
 fn named_places(name: &str) -> Vec<(Schema, String)> {
-    let shown = format!("{name:?}");
-    let field_of = |name: &str| vec![field(7, name, primitive(0))];
-    let kinds = [
-        "message",
-        "enum",
-        "flags",
-        "union",
-        "newtype",
-        "config",
-        "generic_alias",
-        "trait",
-    ];
-    let mut places: Vec<(Declaration, String)> = (0..)
-        .zip(kinds)
-        .map(|(kind, word)| (of_kind(kind, name), format!("{word} {shown}")))
-        .collect();
-    let inner = |place: &str| format!("{place} {shown} @7");
-    places.extend([
-        (message("M", field_of(name)), inner(r#"message "M", field"#)),
+    let mut schemas = vec![(
+        schema(vec![]).in_namespace(&["a", name]),
+        "namespace, segment 1".to_string(),
+    )];
+    let declarations = named_kinds(name).chain(named_items(name));
+    schemas.extend(declarations.map(|(declaration, place)| {
+        // Behind an empty entry, so that ids and not bodies are counted.
+        let empty = schema(vec![]).with_entries(vec![None, Some(declaration)]);
+        (empty, format!("entry 1, {place}"))
+    }));
+    schemas
+}
+
+/// A declaration of each kind that has a name.
+fn named_kinds(name: &str) -> impl Iterator<Item = (Declaration, String)> + '_ {
+    let kinds = (0..).zip(&KIND_NAMES[..8]);
+    kinds.map(move |(kind, word)| (of_kind(kind, name), format!("{word} {name:?}")))
+}
+
+/// The places inside declarations.
+fn named_items(name: &str) -> [(Declaration, String); 6] {
+    let one_field = || vec![field(7, name, primitive(0))];
+    let inner = |place: &str| format!("{place} {name:?} @7");
+    [
+        (message("M", one_field()), inner(r#"message "M", field"#)),
         (
             enumeration("E", 0, vec![item(7, name)]),
             inner(r#"enum "E", variant"#),
@@ -171,24 +177,14 @@ fn named_places(name: &str) -> Vec<(Schema, String)> {
             inner(r#"union "U", variant"#),
         ),
         (
-            union("U", vec![variant(0, "v", field_of(name))]),
+            union("U", vec![variant(0, "v", one_field())]),
             inner(r#"union "U", variant "v" @0, field"#),
         ),
         (
             newtype("N", wrapped(4, bits(&["a", name]))),
             r#"newtype "N", type, optional, bits, name 1"#.to_string(),
         ),
-    ]);
-    let mut schemas = vec![(
-        schema(vec![]).in_namespace(&["a", name]),
-        "namespace, segment 1".to_string(),
-    )];
-    schemas.extend(places.into_iter().map(|(declaration, place)| {
-        // Behind an empty entry, so that ids and not bodies are counted.
-        let empty = schema(vec![]).with_entries(vec![None, Some(declaration)]);
-        (empty, format!("entry 1, {place}"))
-    }));
-    schemas
+    ]
 }
 
 fn names(tests: &mut Tests) {
