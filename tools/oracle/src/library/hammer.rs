@@ -73,7 +73,7 @@ impl Hammer {
     fn pairs(&mut self, pairs: impl Iterator<Item = (Vec<u8>, Vec<u8>)>) -> Outcome {
         for (old, new) in pairs {
             if Instant::now() >= self.stop {
-                println!("the time is over");
+                println!("the time is over after {} pairs", self.passed);
                 break;
             }
             self.pair(&old, &new)?;
