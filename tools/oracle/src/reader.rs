@@ -36,11 +36,13 @@ pub fn read_image(image: &[u8]) -> Read<Schema> {
         .map(|_| front.name("segment"))
         .collect::<Read<_>>()?;
     judge_contents(&contents, front.at(), image.len())?;
-    let registry = contents
-        .iter()
-        .map(|entry| match entry.is_empty() {
+    let registry = (0..)
+        .zip(&contents)
+        .map(|(id, entry)| match entry.is_empty() {
             true => Ok(None),
-            false => read_body(&image[entry.offset..entry.offset + entry.length]).map(Some),
+            false => read_body(&image[entry.offset..entry.offset + entry.length])
+                .map(Some)
+                .map_err(|refusal| refusal.of_entry(id)),
         })
         .collect::<Read<_>>()?;
     Ok(Schema {
@@ -89,9 +91,10 @@ fn read_ids(front: &mut Cursor, ids: u16) -> Read<Vec<u32>> {
 /// The bodies stand in contents order without gaps from the names' end to the
 /// image's end.
 fn judge_contents(contents: &[Entry], names_end: usize, image_end: usize) -> Read<()> {
-    let refused = |what, value: usize| Err(Refusal::new(CONTENTS, what, value as u64));
+    let refusal = |what, value: usize| Refusal::new(CONTENTS, what, value as u64);
     let mut end = names_end;
-    for entry in contents.iter().filter(|entry| !entry.is_empty()) {
+    for (id, entry) in (0..).zip(contents).filter(|(_, entry)| !entry.is_empty()) {
+        let refused = |what, value| Err(refusal(what, value).of_entry(id));
         if entry.length == 0 {
             return refused("entry of no length", entry.offset);
         }
@@ -108,7 +111,7 @@ fn judge_contents(contents: &[Entry], names_end: usize, image_end: usize) -> Rea
     }
     match image_end - end {
         0 => Ok(()),
-        left if end == names_end => refused("left after the names", left),
-        left => refused("left after the last body", left),
+        left if end == names_end => Err(refusal("left after the names", left)),
+        left => Err(refusal("left after the last body", left)),
     }
 }

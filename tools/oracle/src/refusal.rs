@@ -1,6 +1,10 @@
 //! A refusal: its number, and what the reader met, for messages and for the
 //! coverage table.
 
+use crate::limits::IMAGE_BYTES;
+use crate::schema::KIND_NAMES;
+use std::fmt;
+
 #[derive(Clone, PartialEq, Debug)]
 pub struct Refusal {
     pub number: u8,
@@ -8,6 +12,8 @@ pub struct Refusal {
     pub what: &'static str,
     /// The value found, or how many bytes are missing or left over.
     pub value: u64,
+    /// The id of the entry it stands in.
+    pub entry: Option<usize>,
     /// The kind of the body it stands in.
     pub kind: Option<u8>,
 }
@@ -18,8 +24,52 @@ impl Refusal {
             number,
             what,
             value,
+            entry: None,
             kind: None,
         }
+    }
+
+    pub fn of_entry(self, id: usize) -> Refusal {
+        Refusal {
+            entry: Some(id),
+            ..self
+        }
+    }
+
+    /// The entry and its kind, as far as they are known.
+    fn place(&self) -> String {
+        let kind = self.kind.map(|kind| KIND_NAMES[usize::from(kind)]);
+        match (self.entry, kind) {
+            (Some(id), Some(kind)) => format!("entry {id}, {kind}: "),
+            (Some(id), None) => format!("entry {id}: "),
+            (None, _) => String::new(),
+        }
+    }
+
+    fn found(&self) -> String {
+        let (what, value) = (self.what, self.value);
+        let bytes = match value {
+            1 => "1 byte".to_string(),
+            _ => format!("{value} bytes"),
+        };
+        match (self.number, what) {
+            // A longer file is not read to its end.
+            (LONG, _) => format!("over {IMAGE_BYTES} bytes"),
+            (CONTENTS, "entry of no length") => format!("{what} at byte {value}"),
+            (CONTENTS, _) | (BODY, "left over") => format!("{what}, {bytes}"),
+            (SHORT_HEAD | BODY, _) => format!("{what}, {bytes} missing"),
+            (NAME, _) => format!("{what}, byte {value}"),
+            _ => format!("{what} {value}"),
+        }
+    }
+}
+
+/// Its number, its word in document 01, and what was met where.
+impl fmt::Display for Refusal {
+    fn fmt(&self, f: &mut fmt::Formatter<'_>) -> fmt::Result {
+        let word = WORDS[usize::from(self.number) - 1];
+        let (place, found) = (self.place(), self.found());
+        write!(f, "refused {}: {word}: {place}{found}", self.number)
     }
 }
 
@@ -37,3 +87,19 @@ pub const CODE: u8 = 9;
 pub const DEEP: u8 = 10;
 pub const ALIAS_PAIR: u8 = 11;
 pub const FULL: u8 = 12;
+
+/// The words of document 01's table, from number 1 on.
+const WORDS: [&str; 12] = [
+    "long",
+    "short head",
+    "format",
+    "crowded",
+    "contents",
+    "kind",
+    "name",
+    "body",
+    "code",
+    "deep",
+    "alias pair",
+    "full",
+];

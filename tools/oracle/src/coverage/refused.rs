@@ -20,6 +20,7 @@ fn met(facts: &mut Facts, refusal: &Refusal, side: &str) {
         what,
         value,
         kind,
+        ..
     } = refusal;
     facts.add(format!("{number} {side}: {what} {value}"));
     facts.add(format!("{number} {side}: {what}"));
