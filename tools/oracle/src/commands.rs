@@ -7,7 +7,6 @@ use crate::limits::IMAGE_BYTES;
 use crate::listing::listing;
 use crate::random::random_schema;
 use crate::reader::read_image;
-use crate::refusal::Refusal;
 use crate::rng::Rng;
 use crate::text;
 use crate::writer::image;
@@ -17,27 +16,28 @@ use std::io::{Read, Write};
 /// A command has done its job, or says why not.
 pub type Outcome = Result<(), String>;
 
-/// The bytes of a file, as far as they decide anything. One that can't be
-/// opened counts as empty.
-fn read_file(path: &str) -> Vec<u8> {
+/// The bytes of a file, as far as they decide anything.
+fn read_file(path: &str) -> Result<Vec<u8>, String> {
+    let file = File::open(path).map_err(|error| format!("{path}: can't be opened: {error}"))?;
     let mut bytes = Vec::new();
-    if let Ok(file) = File::open(path) {
-        let most = IMAGE_BYTES as u64 + 1;
-        if file.take(most).read_to_end(&mut bytes).is_err() {
-            bytes.clear();
-        }
-    }
-    bytes
+    let read = file.take(IMAGE_BYTES as u64 + 1).read_to_end(&mut bytes);
+    read.map_err(|error| format!("{path}: can't be read: {error}"))?;
+    Ok(bytes)
+}
+
+/// The same, but a file that can't be opened counts as empty (01).
+fn read_or_empty(path: &str) -> Vec<u8> {
+    read_file(path).unwrap_or_default()
 }
 
 pub fn report(old: &str, new: &str) -> Outcome {
-    let answer = judge(&read_file(old), &read_file(new)).answer;
+    let answer = judge(&read_or_empty(old), &read_or_empty(new)).answer;
     let written = std::io::stdout().write_all(&answer.printed());
     written.map_err(|error| error.to_string())
 }
 
 pub fn verdict(old: &str, new: &str, selector: Option<&str>) -> Outcome {
-    let answer = judge(&read_file(old), &read_file(new)).answer;
+    let answer = judge(&read_or_empty(old), &read_or_empty(new)).answer;
     match selector {
         Some(text) => println!("{}", answer.select(number(text)?)),
         None => (0..SELECTORS).for_each(|n| println!("{n} {}", answer.select(n))),
@@ -47,21 +47,12 @@ pub fn verdict(old: &str, new: &str, selector: Option<&str>) -> Outcome {
 
 /// Prints the text of an image, or the refusal.
 pub fn show(path: &str) -> Outcome {
-    match read_image(&read_file(path)) {
-        Ok(schema) => {
-            let written = std::io::stdout().write_all(text::show(&schema).as_bytes());
-            written.map_err(|error| error.to_string())
-        }
-        Err(Refusal {
-            number,
-            what,
-            value,
-            ..
-        }) => {
-            println!("refused {number}");
-            Err(format!("{path}: {what}: {value}"))
-        }
-    }
+    let schema = read_image(&read_file(path)?).map_err(|refusal| {
+        println!("refused {}", refusal.number);
+        format!("{path}: {refusal}")
+    })?;
+    let written = std::io::stdout().write_all(text::show(&schema).as_bytes());
+    written.map_err(|error| error.to_string())
 }
 
 /// Writes the image that a text stands for.
@@ -74,7 +65,7 @@ pub fn make(text: &str, image: &str) -> Outcome {
 
 /// The contents listing of one image, or its refusal, always of the old side.
 pub fn list(path: &str) -> Outcome {
-    match read_image(&read_file(path)) {
+    match read_image(&read_or_empty(path)) {
         Ok(schema) => print!("{}", listing(&schema)),
         Err(refusal) => println!("refused {} old", refusal.number),
     }

@@ -1,5 +1,5 @@
-//! `show` and `make` as they are called: what they print, what they write, and
-//! their exit status.
+//! The commands on files as they are called: what they print, what they write,
+//! and their exit status.
 
 use super::{Tests, ROOT};
 use std::path::Path;
@@ -35,6 +35,7 @@ pub fn run(tests: &mut Tests) {
         return;
     }
     show(tests);
+    missing(tests, &folder);
     make(tests, &folder);
     let removed = std::fs::remove_dir_all(&folder);
     tests.holds("the folder is removed", removed.is_ok());
@@ -49,9 +50,30 @@ fn show(tests: &mut Tests) {
     let text = std::fs::read_to_string(sample("ride-new.txt")).ok();
     tests.equal("show prints the text", Some(shown.printed), text);
     tests.equal("show, status", shown.status, Some(0));
-    let refused = call(&["show", &sample("damaged.img")]);
+    let damaged = sample("damaged.img");
+    let refused = call(&["show", &damaged]);
     tests.equal("show refuses", refused.printed.as_str(), "refused 9\n");
     tests.equal("show refuses, status", refused.status, Some(1));
+    let why = format!("oracle: {damaged}: refused 9: code: entry 3, message: bits 71\n");
+    tests.holds("show says why", refused.complaint.ends_with(&why));
+}
+
+/// To `show` a file that can't be opened is none, to the others it is empty.
+fn missing(tests: &mut Tests, folder: &Path) {
+    let path = folder.join("missing.img").to_string_lossy().into_owned();
+    let shown = call(&["show", &path]);
+    tests.equal("show of no file", shown.printed.as_str(), "");
+    tests.equal("show of no file, status", shown.status, Some(1));
+    let why = format!("oracle: {path}: can't be opened: ");
+    let told = shown.complaint.contains(&why);
+    tests.holds("show says that there is none", told);
+    for words in [&["report", &path, &path][..], &["list", &path]] {
+        let empty = call(words);
+        tests.equal(words[0], empty.printed.as_str(), "refused 2 old\n");
+        tests.equal(words[0], empty.status, Some(0));
+    }
+    let number = call(&["verdict", &path, &path, "0"]);
+    tests.equal("verdict", number.printed.as_str(), "2\n");
 }
 
 fn make(tests: &mut Tests, folder: &Path) {
