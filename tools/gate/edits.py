@@ -11,6 +11,7 @@ from typing import NamedTuple
 UNFIT = re.compile(r"has no `Need-|\.Lts\.[^`]*` has no field|expected type `tie\.Need-|not in scope|expected `[^`]*`, found|was not admitted")
 FUNCTION = re.compile(r'^(\s*)(?:pub(?:\(crate\))? )?(?:extern "C" )?fn (\w+)')
 IMPL = re.compile(r"^impl (\w+)")
+CLAUSE = re.compile(r"\b(?:requires|ensures) \{")
 
 
 class Function(NamedTuple):
@@ -21,7 +22,7 @@ class Function(NamedTuple):
 
 
 class Answer(NamedTuple):
-    """A wrong answer, and the functions that it changes; None for a change outside of functions."""
+    """A wrong answer, and the functions that it changes; None for a change of anything else, also of a contract, which others rest on."""
 
     label: str
     functions: set[Function | None]
@@ -43,7 +44,7 @@ def names_at(source: str, text: str) -> list[str]:
 def function_at(crate: Path, file: str, text: str) -> Function | None:
     """The function that holds the text. Functions that call each other have one proof, in a folder with all their names."""
     names = names_at((crate / file).read_text(), text) if file.startswith("src/") else []
-    if not names:
+    if not names or CLAUSE.search(text):
         return None
     module = Path(file).relative_to("src").with_suffix("").parts
     names = [*(module if module not in (("lib",), ("main",)) else ()), *names]

@@ -9,7 +9,9 @@ import edits
 SOURCE = """// Two functions, a method and a constant.
 const SIDE: u8 = 1;
 
-fn first(a: u8) -> u8 {
+fn first(a: u8) -> u8
+    ensures { r }
+{
     a
 }
 
@@ -60,6 +62,7 @@ class Edits(unittest.TestCase):
         ):
             self.assertEqual(edits.function_at(self.crate, "src/pairs.rt", text), (path, folder))
         self.assertIsNone(edits.function_at(self.crate, "src/pairs.rt", "u8 = 1"))
+        self.assertIsNone(edits.function_at(self.crate, "src/pairs.rt", "ensures { r }"))
         self.assertIsNone(edits.function_at(self.crate, "specs/Pairs.antt", "a"))
 
     def test_the_root_is_no_module(self):

@@ -16,7 +16,7 @@ use Rattle.tally.specs.Tallies.{noChange, linesOf, TallyOf}
 use Rattle.tally.specs.Reporting.{Ready, Ran}
 use Rattle.tally.specs.declared.Tally.{Tally}
 use Rattle.tally.proofs.Running.{ready-start, ran-tally, ran-lines}
-use Rattle.lines.specs.Last.{resultAt, lastLineOf}
+use Rattle.lines.specs.Last.{lastLineOf}
 use Rattle.lines.proofs.Lines.{last-line}
 use Rattle.details.proofs.Writers.{space-as, puts-as}
 use Rattle.compat.specs.Verdicts.{ofTally, verdictIs, Passed}
@@ -24,7 +24,7 @@ use Rattle.compat.specs.declared.verdicts.Verdict.{Verdict}
 
 -- a tally's verdict, with the report's length, is that of its changes
 tally-verdict : (cs : List Change) (t : Tally) (n : ℕ) → TallyOf cs t → n ≡ length (report cs) → ofTally t n ≡ verdictIs (compared cs)
-unfolding ofTally verdictIs resultAt resultOf
+unfolding ofTally verdictIs resultOf
 tally-verdict cs t n o e = rw (o .bump, o .kinds, e)
 
 module _ {m : Mode} {d : List ℕ} (cs : List Change) (s : Space m d 0 (length (report cs))) where

@@ -6,11 +6,10 @@ use lib.ListN.{length, getD, replicate}
 use Rattle.text.specs.Text.{putIn}
 use Rattle.text.specs.declared.Mode.{Mode}
 use Rattle.rules.specs.Changes.{Change, kindCount}
-use Rattle.rules.specs.Verdict.{bumpOf, resultOf}
+use Rattle.rules.specs.Verdict.{bumpOf, resultAt, resultOf}
 use Rattle.rules.specs.Report.{report}
 use Rattle.rules.specs.Answer.{Outcome, refused, compared, counts, reported, written}
 use Rattle.tally.specs.declared.Tally.{Tally}
-use Rattle.lines.specs.Last.{resultAt}
 use Rattle.compat.specs.declared.verdicts.Verdict.{Verdict}
 
 -- "A refusal is number and side .., with bump Major, result Breaking, all counts and length 0"

@@ -10,13 +10,13 @@ use borrow.Author.Tests.{leb-true}
 use lib.Dec.{leb}
 use lib.ListN.{length, getD, take, drop, List·getD-append}
 use lib.Seq.{getD-append-add}
-use Rattle.image.specs.Words.{bytes, kindWord}
-use Rattle.refusals.proofs.Tests.{both}
+use Rattle.image.specs.Words.{bytes, kindNames, kindWord}
+use Rattle.maps.proofs.Tests.{both}
 use Rattle.rules.specs.Equal.{sameName}
 use Rattle.rules.specs.Text.{word}
-use Rattle.rules.specs.Report.{changeWord, bumpWord, resultWord}
+use Rattle.rules.specs.Report.{changeNames, bumpNames, resultNames, changeWord, bumpWord, resultWord}
 use Rattle.rules.proofs.Equal.{names as names-sound}
-use Rattle.details.specs.Words.{changeNames, bumpNames, resultNames, declNames, names, wordAt}
+use Rattle.details.specs.Words.{names, wordAt}
 
 -- a word stands in the text from a to b
 isPart : List ℕ → ℕ → ℕ → String → Bool
@@ -58,16 +58,16 @@ cut-at text starts t k h = rw (add-one k) (cut-from text starts names t k h)
 
 pub change-word : (k : ℕ) → k < 18 → wordAt k ≡ changeWord k
 unfolding wordAt names word changeWord
-change-word k h = ap bytes (List·getD-append changeNames (bumpNames ++ (resultNames ++ declNames)) "" k h)
+change-word k h = ap bytes (List·getD-append changeNames (bumpNames ++ (resultNames ++ kindNames)) "" k h)
 
 pub bump-word : (l : ℕ) → l < 3 → wordAt (18 + l) ≡ bumpWord l
 unfolding wordAt names word bumpWord
-bump-word l h = ap bytes (getD-append-add changeNames (bumpNames ++ (resultNames ++ declNames)) l "" ∙ List·getD-append bumpNames (resultNames ++ declNames) "" l h)
+bump-word l h = ap bytes (getD-append-add changeNames (bumpNames ++ (resultNames ++ kindNames)) l "" ∙ List·getD-append bumpNames (resultNames ++ kindNames) "" l h)
 
 pub result-word : (r : ℕ) → r < 2 → wordAt (21 + r) ≡ resultWord r
 unfolding wordAt names word resultWord
-result-word r h = ap bytes (getD-append-add (changeNames ++ bumpNames) (resultNames ++ declNames) r "" ∙ List·getD-append resultNames declNames "" r h)
+result-word r h = ap bytes (getD-append-add (changeNames ++ bumpNames) (resultNames ++ kindNames) r "" ∙ List·getD-append resultNames kindNames "" r h)
 
 pub decl-word : (k : ℕ) → wordAt (23 + k) ≡ kindWord k
 unfolding wordAt names word kindWord
-decl-word k = ap bytes (getD-append-add (changeNames ++ (bumpNames ++ resultNames)) declNames k "")
+decl-word k = ap bytes (getD-append-add (changeNames ++ (bumpNames ++ resultNames)) kindNames k "")

@@ -10,7 +10,9 @@ unfoldable pub bytes : String → List ℕ
 bytes String.[] = []
 bytes (String._∷_ c s) = code c ∷ bytes s
 
+abbrev pub kindNames : List String
+kindNames = "message" ∷ "enum" ∷ "flags" ∷ "union" ∷ "newtype" ∷ "config" ∷ "generic_alias" ∷ "trait" ∷ "impl" ∷ []
+
 unfoldable pub kindWord : ℕ → List ℕ
 unfolding bytes
-kindWord kind =
-    bytes (getD ("message" ∷ "enum" ∷ "flags" ∷ "union" ∷ "newtype" ∷ "config" ∷ "generic_alias" ∷ "trait" ∷ "impl" ∷ []) kind "")
+kindWord kind = bytes (getD kindNames kind "")

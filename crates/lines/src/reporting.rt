@@ -16,11 +16,12 @@ ghost use mathlib.Core.Path.{_≡_};
 ghost use mathlib.Core.List.{[], _∷_};
 ghost use Prim.Native.Nat.{_≤_};
 ghost use lib.ListN.{length};
+ghost use Rattle.rules.specs.Verdict.{resultAt};
 ghost use Rattle.rules.specs.Report.{changeLine};
 ghost use Rattle.text.specs.Text.{Space, Puts};
 ghost use Rattle.tally.specs.Reporting.{Ready, Ran};
 ghost use Rattle.lines.specs.Sites.{changeOf, SiteHere};
-ghost use Rattle.lines.specs.Last.{resultAt, lastLineOf};
+ghost use Rattle.lines.specs.Last.{lastLineOf};
 
 // From the start of the part of the buffer that it is lent.
 fn put_line(mode: Mode, old: &[u8], new: &[u8], out: &mut [u8], site: Site) -> usize

@@ -1,4 +1,5 @@
 -- The laws, each for any strict order of the keys, and worked examples.
+pub mod Tests
 pub mod Lists
 pub mod Orders
 pub mod Names

@@ -15,7 +15,7 @@ use Rattle.image.specs.Parse.{Parsed, ok, no, bind, pick}
 use Rattle.image.specs.Names.{namesAt}
 use Rattle.image.specs.Image.{format, entryCount, idCount, segmentCount, segmentsAt, headOf, tablesOf, laid, readImage}
 use Rattle.refusals.specs.Refusals.{Long, Eight, Format, Over, entries, ids, segments, Crowded, Head, segmentAt, Segment, ShortHead, head, tables, namespace, bodyAt, Misplaced, entry, after, Tables, Contents}
-use Rattle.refusals.proofs.Tests.{apart, both}
+use Rattle.maps.proofs.Tests.{apart, both}
 use Rattle.refusals.proofs.Told.{Told, told-ok, told-no, Any, told-bind, told-pick, told-then}
 use Rattle.refusals.proofs.Bodies.{Body, entries-told}
 use Rattle.refusals.proofs.Segments.{Wrong, past, bad, Fault, Named, segments-told, fault-none, fault-past}

@@ -13,7 +13,7 @@ use Rattle.image.specs.Parse.{part, byteAt, many}
 use Rattle.image.specs.Names.{nameByte, nameBytes, nameAt, namesAt}
 use Rattle.image.specs.Image.{segmentCount}
 use Rattle.refusals.specs.Refusals.{segmentAt, Segment}
-use Rattle.refusals.proofs.Tests.{apart, both}
+use Rattle.maps.proofs.Tests.{apart, both}
 use Rattle.refusals.proofs.Told.{Told, told-ok, told-no, told-bind, told-pick, told-then}
 
 -- the bytes of a part are allowed exactly if each byte is

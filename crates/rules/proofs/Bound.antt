@@ -22,7 +22,7 @@ use Rattle.rules.specs.Types.{nameIn, sameType}
 use Rattle.rules.specs.Text.{joined}
 use Rattle.rules.specs.Changes.{Change, kindCount}
 use Rattle.rules.specs.Clauses.{changes}
-use Rattle.rules.specs.Verdict.{bumpOf, resultOf, countOf}
+use Rattle.rules.specs.Verdict.{bumpOf, resultAt, resultOf, countOf}
 use Rattle.rules.specs.Report.{bumpWord, resultWord, line, lastLine, report}
 use Rattle.rules.specs.Answer.{Outcome, refused, compared, checked, counts, selected, select, verdictOf}
 use Rattle.rules.proofs.Sizes.{namesSize, declSize}
@@ -94,8 +94,8 @@ last-length : (cs : List Change) → length (lastLine cs) ≤ 40
 unfolding lastLine line joined bytes bumpWord resultWord largest
 last-length cs = simp length-append (omega (arith, result, bump, decimal-length (length cs)))
   where
-    result : length (resultWord (resultOf cs)) ≤ 10
-    result = word-length _ (resultOf cs)
+    result : length (resultWord (resultAt (bumpOf cs))) ≤ 10
+    result = word-length _ (resultAt (bumpOf cs))
 
     bump : length (bumpWord (bumpOf cs)) ≤ 5
     bump = word-length _ (bumpOf cs)

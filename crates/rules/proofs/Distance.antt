@@ -17,7 +17,7 @@ use Rattle.maps.proofs.Survivors.{rising}
 use Rattle.image.specs.Schema.{Schema, Ty}
 use Rattle.image.specs.Parse.{Parsed, ok, no}
 use Rattle.image.specs.Image.{readImage}
-use Rattle.refusals.proofs.Tests.{both}
+use Rattle.maps.proofs.Tests.{both}
 use Rattle.rules.specs.Equal.{Sound}
 use Rattle.rules.specs.Survivors.{nameOf, listed, declarations, View, viewOf}
 use Rattle.rules.specs.Types.{Reading, resolve, holdsVector}

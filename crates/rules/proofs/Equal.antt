@@ -5,7 +5,7 @@ use mathlib.Core.Option.{Option, none, some}
 use mathlib.Core.List.{List, [], _∷_}
 use lib.Dec.{eqb}
 use borrow.Author.Tests.{eqb-true, eq-eqb}
-use Rattle.refusals.proofs.Tests.{both}
+use Rattle.maps.proofs.Tests.{both}
 use Rattle.rules.specs.Equal.{sameList, sameOption, sameName, sameNames, Sound, never}
 
 -- ---- two tests that hold

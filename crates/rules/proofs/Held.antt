@@ -19,7 +19,7 @@ use Rattle.image.specs.Image.{entryCount, idCount, segmentCount, segmentsAt, id
 use Rattle.image.proofs.Laws.Sure.{Sure, sure-ok, sure-no, sure-bind, sure-pick, sure-need, sure-then, byte-sure, code-sure, number-sure, name-sure, names-sure, Head, head-sure}
 use Rattle.image.proofs.Laws.Repeats.{ids-length}
 use Rattle.image.proofs.Laws.Names.{part-length}
-use Rattle.refusals.proofs.Tests.{both}
+use Rattle.maps.proofs.Tests.{both}
 use Rattle.rules.proofs.Sizes.{namesSize, typeSize, fieldSize, variantSize, declSize}
 
 -- a value of this size stands between the position and the one after it

@@ -17,7 +17,7 @@ use Rattle.maps.proofs.Survivors.{all-lookup, lookup-key, lookup-own}
 use Rattle.image.specs.Schema.{Name, Decl, Schema}
 use Rattle.image.specs.Parse.{no}
 use Rattle.image.specs.Image.{readImage}
-use Rattle.refusals.proofs.Tests.{both}
+use Rattle.maps.proofs.Tests.{both}
 use Rattle.rules.specs.Survivors.{nameOf, declarations, viewOf}
 use Rattle.rules.specs.Types.{sameType}
 use Rattle.rules.specs.Changes.{Change}

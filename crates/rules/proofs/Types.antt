@@ -5,7 +5,7 @@ use mathlib.Core.Bool.{Bool, true, false, not, _&&_, _||_, false≢true}
 use lib.Dec.{eqb}
 use borrow.Author.Tests.{eqb-true}
 use Rattle.image.specs.Schema.{Label, label, Ty, leaf, one, two}
-use Rattle.refusals.proofs.Tests.{both}
+use Rattle.maps.proofs.Tests.{both}
 use Rattle.rules.specs.Equal.{Sound, never}
 use Rattle.rules.specs.Survivors.{Registry}
 use Rattle.rules.specs.Types.{resolveLabel, resolve, vector, sameLabel, equalLabel, sameType, holdsVector}

@@ -1,5 +1,5 @@
 -- Document 01, "Turned back", for two images: when each number is given, with which side, and what a refusal is. When a single image is
--- refused, and that its numbers are 1 to 10, is said by the crate image. Assumes nothing.
+-- refused, and that its numbers are 1 to 10, is said by the crate refusals. Assumes nothing.
 use mathlib.Core.Path.{_≡_}
 use mathlib.Core.Logic.{_↔_}
 use mathlib.Core.Option.{some}

@@ -51,6 +51,6 @@ pub record View : Type 0 where
   pub standing : List Decl
   pub registry : Registry
 
--- today the survivors stand
+-- the survivors stand
 unfoldable pub viewOf : Schema → View
 viewOf s = record { namespace = s .namespace; standing = declarations s; registry = s .registry }

@@ -16,8 +16,11 @@ unfoldable pub bumpOf : List Change → ℕ
 bumpOf cs = largest (λ c. level (c .bump)) cs
 
 -- "the result (Breaking exactly at Major)": Breaking 1, Compatible 0
+abbrev pub resultAt : ℕ → ℕ
+resultAt bump = cond (eqb bump 2) 1 0
+
 unfoldable pub resultOf : List Change → ℕ
-resultOf cs = cond (eqb (bumpOf cs) 2) 1 0
+resultOf cs = resultAt (bumpOf cs)
 
 -- "the count for each of the 18 names of `ChangeKind`"
 unfoldable pub countOf : ℕ → List Change → ℕ

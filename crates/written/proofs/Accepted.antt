@@ -17,7 +17,7 @@ use Rattle.image.specs.Image.{u16At, format, entryCount, idCount, segmentCount,
 use Rattle.refusals.specs.Refusals.{Head, bodyAt, Placed}
 use Rattle.written.specs.Writer.{digits, writeEach, writeName, writeBody, writeEntry, writeContents, writeHead, bodiesAt, write}
 use Rattle.written.specs.Limits.{Each, end, also, Byte, U32, NameWithin, DeclWithin, EntryWithin, empty, full, Within}
-use Rattle.refusals.proofs.Tests.{apart}
+use Rattle.maps.proofs.Tests.{apart}
 use Rattle.refusals.proofs.Told.{Told, told-ok, told-no, told-bind, told-pick, told-then, told-both}
 use Rattle.refusals.proofs.Places.{Laid, good, wrong, placed-empty, placed-full}
 use Rattle.refusals.proofs.Refusals.{head-told, names-told, fits-told}

@@ -13,7 +13,7 @@ use Rattle.image.specs.Names.{nameByte, nameBytes}
 use Rattle.image.specs.Types.{followsTag}
 use Rattle.written.specs.Writer.{digits, writeEach, writeCounted, writeName, marksByte, writeEncoding, writeLimit, writeAfter, writeLabel, writeType, writeField, writeBare, writeVariant, writeDecl, writeBody, writeEntry, writeContents, writeHead, bodiesAt, write}
 use Rattle.written.specs.Limits.{Each, end, also, Byte, NameWithin, LabelWithin, primitive, subByte, semantic, named, bits, wrapping, fixedArray, map, result, Typed, bare, around, between, FieldWithin, BareWithin, VariantWithin, DeclWithin, message, enum, flags, union, newtype, config, alias, trait, impl, EntryWithin, empty, full, Within}
-use Rattle.refusals.proofs.Tests.{apart, both}
+use Rattle.maps.proofs.Tests.{apart, both}
 use Rattle.written.proofs.Items.{marks-most}
 use Rattle.written.proofs.Trees.{wraps-nothing, wraps-most}
 

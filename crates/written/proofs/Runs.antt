@@ -13,7 +13,7 @@ use Rattle.image.specs.Parse.{Parsed, part, byteAt, codeAt, littleEndian, numbe
 use Rattle.image.specs.Names.{nameBytes, nameAt}
 use Rattle.written.specs.Writer.{digits, writeEach, writeCounted, writeName}
 use Rattle.written.specs.Limits.{Each, end, also, Byte, Few, NameWithin}
-use Rattle.refusals.proofs.Tests.{both}
+use Rattle.maps.proofs.Tests.{both}
 use Rattle.refusals.proofs.Told.{Told, told-ok, told-no, told-bind, told-pick, told-then}
 use Rattle.written.proofs.Here.{Here, here-fits}
 use Rattle.written.proofs.Pieces.{length-digits}

@@ -11,7 +11,7 @@ use lib.Dec.{eqb}
 use lib.ListN.{length, getD, take, drop, length-drop, drop-of-length-le}
 use lib.Seq.{take-suc, drop-cons, drop-length, getD-drop}
 use Rattle.image.specs.Words.{bytes}
-use Rattle.refusals.proofs.Tests.{both}
+use Rattle.maps.proofs.Tests.{both}
 use Rattle.rules.specs.Text.{word}
 use Rattle.display.specs.Words.{upTo, after, wordIn, WordEnd, WordStart}
 

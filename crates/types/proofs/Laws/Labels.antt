@@ -8,7 +8,7 @@ use native.Mathlib.Omega.{arith}
 use borrow.Author.Tests.{eqb-true, eq-eqb, ne-eqb, lt-ltb, le-ltb, le-leb, lt-leb, leb-true, leb-false}
 use lib.Dec.{eqb, ltb, leb}
 use Rattle.image.specs.Schema.{Name, Label, label}
-use Rattle.refusals.proofs.Tests.{both}
+use Rattle.maps.proofs.Tests.{both}
 use Rattle.parts.specs.Promise.{LabelHere, labelIn, Regular, bitsIn, declIn, Resolved}
 use Rattle.parts.proofs.Promise.{label-regular, bits-listed, resolved-body, resolved-none}
 use Rattle.parts.specs.declared.Entry.{Entry}

@@ -8,10 +8,11 @@ use Prim.Native.Nat.{ℕ, _+_, _<_}
 use native.Mathlib.Omega.{arith}
 use Rattle.image.specs.Words.{bytes}
 use Rattle.text.specs.Decimal.{decimal}
+use Rattle.rules.specs.Verdict.{resultAt}
 use Rattle.rules.specs.Report.{bumpWord, resultWord}
 use Rattle.tally.proofs.Lines.{linePieces, line-pieces}
 use Rattle.details.specs.Words.{wordAt}
-use Rattle.lines.specs.Last.{resultAt, lastLineOf}
+use Rattle.lines.specs.Last.{lastLineOf}
 use Rattle.details.proofs.Table.{bump-word, result-word}
 use Rattle.lines.proofs.Lines.{result-most}
 use Rattle.details.proofs.Writers.{space-as, puts-as}
