@@ -8,7 +8,7 @@ from pathlib import Path
 from typing import NamedTuple
 
 # A refusal that says nothing about a fact: the proof no longer fits the code's shape, or rests on what was refused elsewhere.
-UNFIT = re.compile(r"has no `Need-|\.Lts\.[^`]*` has no field|expected type `tie\.Need-|not in scope|expected `[^`]*`, found|was not admitted")
+UNFIT = re.compile(r"has no `Need-|\.Lts\.[^`]*` has no field|expected type `tie\.Need-|not in scope|expected `[^`]*`, found|was not admitted|error: `Inv-")
 FUNCTION = re.compile(r'^(\s*)(?:pub(?:\(crate\))? )?(?:extern "C" )?fn (\w+)')
 IMPL = re.compile(r"^impl (\w+)")
 CLAUSE = re.compile(r"\b(?:requires|ensures) \{")

@@ -16,7 +16,6 @@ use survivors::decls::next_decl;
 use survivors::decls::survivor;
 use tally::Tally;
 use text::Mode;
-ghost use mathlib.Core.Path.{_≡_};
 ghost use Rattle.parts.specs.Promise.{DeclHere, declIn, EntryHere};
 ghost use Rattle.rules.specs.Clauses.{compareKind, compareDecls};
 ghost use Rattle.survivors.specs.Answers.{Survives, Follows};
@@ -51,7 +50,7 @@ fn compare_kind(
 }
 
 // Two declarations under one name.
-pub fn compare_decls(
+fn compare_decls(
     mode: Mode,
     old: &[u8],
     new: &[u8],

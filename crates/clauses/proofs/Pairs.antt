@@ -11,17 +11,16 @@ use Rattle.maps.specs.Compare.{compare}
 use Rattle.parts.specs.Promise.{TypeHere, ItemOf, ItemHere, itemName, fieldIn, variantIn, variantItems, typePlace, declIn, itemsIn, innerPlace}
 use Rattle.parts.specs.declared.Shape.{Shape}
 use Rattle.parts.specs.declared.Run.{Run}
-use Rattle.parts.proofs.Promise.{item-bare, field-type-here, inner-here}
+use Rattle.parts.proofs.Promise.{item-bare, field-type-here, inner-here, message-listed, enum-listed, flags-listed, union-listed, variant-listed}
 use Rattle.rules.specs.Equal.{sameOption, sameName}
 use Rattle.rules.specs.Types.{sameType}
 use Rattle.rules.specs.Survivors.{variantOrdinal, variantMap}
 use Rattle.rules.specs.Changes.{Change, quoted}
 use Rattle.rules.specs.Clauses.{compareTypes, fieldText, compareFieldNames, sameEncoding, compareEncodings, compareDeprecated, compareFields, fieldRules, compareFieldSets, compareMessages, enumRules, compareNonExhaustive, compareEnums, flagsRules, compareFlags, unionRules, compareUnions, compareNewtypes}
 use Rattle.survivors.specs.Answers.{ItemSurvives}
-use Rattle.survivors.specs.Runs.{itemIn, itemOrdinal, itemMap, Holds}
+use Rattle.survivors.specs.Runs.{itemIn, itemOrdinal, itemMap, itemsOf, Holds}
 use Rattle.survivors.specs.declared.Found.{Found}
 use Rattle.survivors.specs.declared.Found.the-variants.{At}
-use Rattle.survivors.proofs.Runs.{message-holds, enum-holds, flags-holds, union-holds, variant-holds}
 use Rattle.details.specs.Details.{declarationOf, ScopeHere}
 use Rattle.lines.specs.Clauses.{fieldRenamed, fieldTypeChanged, fieldEncodingChanged, fieldDeprecated, declDeprecated, nonExhaustiveChanged, newtypeChanged}
 use Rattle.details.specs.declared.Scope.{Scope}
@@ -86,7 +85,7 @@ pub record Over (old new : List ℕ) (x : Items) (cs : List Change) : Type 0 whe
 over : {old new : List ℕ} (x : Items) {xs ys : List (ItemOf (shape old new x))}
     → BothAccepted old new → OwnerHere old new (x .of) → Holds (shape old new x) old (x .old) xs → Holds (shape old new x) new (x .new) ys
     → Over old new x (compare (itemOrdinal (shape old new x)) ltb (rules old new x) (itemMap (shape old new x) xs) (itemMap (shape old new x) ys))
-unfolding itemChanges
+unfolding itemChanges itemsOf
 over x b o h k = record {
   inside = record { accepted = b; owner = o; here = (h .here, k .here) };
   are = rw (h .are, k .are);
@@ -118,7 +117,7 @@ module _ {old new : List ℕ} {a b : Run} {k i j : ℕ} where
   unfolding OwnerHere ScopeHere declarationOf compareFieldSets unionRules
   variant-kept {d} {m} {n} p q r =
       let w = over (fieldItems (Scope.Variant d i) m n) {xs = variantIn old i .fields} {ys = variantIn new j .fields} (p .inside .accepted) (p .inside .owner, p .here .0)
-      (rw q (variant-holds old i (p .here .0))) (rw r (variant-holds new j (p .here .1))) in
+      (rw q (variant-listed old i (p .here .0))) (rw r (variant-listed new j (p .here .1))) in
       record { inside = w .inside; are = p .are ∙ w .are }
 
 -- ---- two declarations
@@ -173,7 +172,7 @@ module _ {old new : List ℕ} {i j : ℕ} {a b : Run} (e : a ≡ itemsIn old i) 
   unfolding OwnerHere ScopeHere declarationOf compareFieldSets
   message-fields p =
       over (fieldItems (Scope.Old i) a b) (p .pair .accepted) (p .pair .here .0)
-      (rw e (message-holds old i (p .pair .here .0) (p .kinds .0))) (rw f (message-holds new j (p .pair .here .1) (p .kinds .1)))
+      (rw e (message-listed old i (p .pair .here .0) (p .kinds .0))) (rw f (message-listed new j (p .pair .here .1) (p .kinds .1)))
 
   pub message-parts : KindPair 0 old new i j → ofPair compareMessages old new i j ≡ together (messageParts old new i j (fieldItems (Scope.Old i) a b))
   unfolding compareMessages together
@@ -183,7 +182,7 @@ module _ {old new : List ℕ} {i j : ℕ} {a b : Run} (e : a ≡ itemsIn old i) 
   unfolding OwnerHere
   enum-variants p =
       over (enumItems i j a b) (p .pair .accepted) (p .pair .here)
-      (rw e (enum-holds old i (p .pair .here .0) (p .kinds .0))) (rw f (enum-holds new j (p .pair .here .1) (p .kinds .1)))
+      (rw e (enum-listed old i (p .pair .here .0) (p .kinds .0))) (rw f (enum-listed new j (p .pair .here .1) (p .kinds .1)))
 
   pub enum-rest : KindPair 1 old new i j → together (enumChanges old new i j ∷ []) ≡ together (loneParts old new (enumItems i j a b))
   unfolding keptItems enumRules together
@@ -193,7 +192,7 @@ module _ {old new : List ℕ} {i j : ℕ} {a b : Run} (e : a ≡ itemsIn old i) 
   unfolding OwnerHere compareFlags
   flags-bits p =
       over (flagsItems i a b) (p .pair .accepted) (p .pair .here .0)
-      (rw e (flags-holds old i (p .pair .here .0) (p .kinds .0))) (rw f (flags-holds new j (p .pair .here .1) (p .kinds .1)))
+      (rw e (flags-listed old i (p .pair .here .0) (p .kinds .0))) (rw f (flags-listed new j (p .pair .here .1) (p .kinds .1)))
 
   pub flags-parts : KindPair 2 old new i j → ofPair (λ r. compareFlags) old new i j ≡ together (loneParts old new (flagsItems i a b))
   unfolding keptItems flagsRules
@@ -203,4 +202,4 @@ module _ {old new : List ℕ} {i j : ℕ} {a b : Run} (e : a ≡ itemsIn old i) 
   unfolding OwnerHere compareUnions
   union-variants p =
       over (unionItems i a b) (p .pair .accepted) (p .pair .here .0)
-      (rw e (union-holds old i (p .pair .here .0) (p .kinds .0))) (rw f (union-holds new j (p .pair .here .1) (p .kinds .1)))
+      (rw e (union-listed old i (p .pair .here .0) (p .kinds .0))) (rw f (union-listed new j (p .pair .here .1) (p .kinds .1)))

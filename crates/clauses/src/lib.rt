@@ -1,6 +1,6 @@
 // The clauses over two declarations of one kind, under the names of compat.rs.
 pub mod enums;
-pub mod fields;
+mod fields;
 pub mod flags;
 pub mod messages;
 pub mod newtypes;

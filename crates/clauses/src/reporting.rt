@@ -32,7 +32,7 @@ pub fn emit_if(
 }
 
 // A type that changed, of a field or of a newtype, by the places of the two types.
-pub fn compare_types(
+pub(crate) fn compare_types(
     mode: Mode,
     old: &[u8],
     new: &[u8],
@@ -50,7 +50,7 @@ pub fn compare_types(
 }
 
 // The mark was gained: by a field, or by a message itself. Lost is silent.
-pub fn compare_deprecated(
+pub(crate) fn compare_deprecated(
     mode: Mode,
     old: &[u8],
     new: &[u8],

@@ -36,8 +36,7 @@ pub enum Word {
     Bit,
 }
 
-// What a detail says something of. Places of items and declarations are those of the image that is named, or of the old one for a
-// declaration's name and the new one for a field's.
+// What a detail says something of. `OldDecl`, `OldItem`, `DeclName` and `Newtype` have places of the old image, the others of the new one.
 pub enum Subject {
     // namespace
     Namespace,

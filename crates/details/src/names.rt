@@ -16,7 +16,7 @@ ghost use Rattle.rules.specs.Report.{fieldPart};
 ghost use Rattle.text.specs.Text.{Space, Puts};
 ghost use Rattle.details.specs.Details.{declarationOf, itemOf, ScopeHere, ItemOfHere};
 
-pub fn put_quoted(mode: Mode, out: &mut [u8], at: usize, name: &[u8]) -> usize
+pub(crate) fn put_quoted(mode: Mode, out: &mut [u8], at: usize, name: &[u8]) -> usize
     requires { ⌜ Space mode (now out) at (length (quoted (now name))) ⌝ }
     ensures { λ r. ⌜ Puts mode (now (out .entry)) at (quoted (now (name .entry))) r (now (out .exit)) ⌝ }
 {

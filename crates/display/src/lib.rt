@@ -1,6 +1,6 @@
 // How types, encodings and namespaces at places of accepted images are shown: measured, or written into a lent buffer at a place.
 pub mod encodings;
-pub mod names;
+mod names;
 pub mod namespaces;
 mod words;
 

@@ -2,9 +2,8 @@
 -- in, and the end is 0. Assumes nothing.
 use mathlib.Core.List.{List, []}
 use Prim.Native.Nat.{ℕ}
-use Rattle.image.specs.Schema.{Name, Label, label, Ty, noType}
+use Rattle.image.specs.Schema.{Label, label, Ty, noType}
 use Rattle.image.specs.Parse.{Parsed, ok, no}
-use Rattle.image.specs.Names.{namesAt}
 use Rattle.image.specs.Types.{labelOf, typeOf}
 
 unfoldable pub Good : {A : Type 0} → Parsed A → Type 0
@@ -19,12 +18,9 @@ unfoldable pub endOf : {A : Type 0} → Parsed A → ℕ
 endOf (ok a n) = n
 endOf (no k) = 0
 
--- the label and the type at the start of a part, and so many names from a position on
+-- the label and the type at the start of a part
 unfoldable pub labelIn : List ℕ → Label
 labelIn s = valueOr (label 0 0 0 []) (labelOf s)
 
 unfoldable pub treeIn : ℕ → List ℕ → Ty
 treeIn depth s = valueOr noType (typeOf depth s)
-
-unfoldable pub namesIn : ℕ → List ℕ → ℕ → List Name
-namesIn count s at = valueOr [] (namesAt 8 count s at)

@@ -18,7 +18,7 @@ pub fn read_marks(s: &[u8], at: usize) -> Read
 }
 
 // 0 default, 1 varint, 2 zigzag, 3 delta and an inner encoding; at most eight deltas.
-pub(crate) fn read_encoding(s: &[u8], at: usize) -> Read
+fn read_encoding(s: &[u8], at: usize) -> Read
     ensures { λ r. ⌜ r ≡ skip (encodingAt (now (s .entry)) at) ⌝ }
 {
     let mut next = at;
@@ -40,7 +40,7 @@ pub(crate) fn read_encoding(s: &[u8], at: usize) -> Read
 }
 
 // A byte 0, or a byte 1 and the limit's eight bytes.
-pub(crate) fn read_limit(s: &[u8], at: usize) -> Read
+fn read_limit(s: &[u8], at: usize) -> Read
     ensures { λ r. ⌜ r ≡ skip (limitAt (now (s .entry)) at) ⌝ }
 {
     let step = read_code(s, at, 0, 1);
@@ -54,7 +54,7 @@ pub(crate) fn read_limit(s: &[u8], at: usize) -> Read
 }
 
 // A variant of an enum or a bit of flags: ordinal and name. Every other item starts so too.
-pub(crate) fn read_bare(s: &[u8], at: usize) -> Read
+fn read_bare(s: &[u8], at: usize) -> Read
     ensures { λ r. ⌜ r ≡ skip (bareAt (now (s .entry)) at) ⌝ }
 {
     let ordinal = read_number(s, at, 4);
@@ -65,7 +65,7 @@ pub(crate) fn read_bare(s: &[u8], at: usize) -> Read
 }
 
 // A field: ordinal, name, marks, encoding, limit, type.
-pub(crate) fn read_field(s: &[u8], at: usize) -> Read
+fn read_field(s: &[u8], at: usize) -> Read
     ensures { λ r. ⌜ r ≡ skip (fieldAt (now (s .entry)) at) ⌝ }
 {
     let bare = read_bare(s, at);
@@ -130,7 +130,7 @@ pub fn read_bares(s: &[u8], at: usize) -> Read
 }
 
 // A variant of a union: ordinal, name and fields.
-pub(crate) fn read_variant(s: &[u8], at: usize) -> Read
+fn read_variant(s: &[u8], at: usize) -> Read
     ensures { λ r. ⌜ r ≡ skip (variantAt (now (s .entry)) at) ⌝ }
 {
     let bare = read_bare(s, at);

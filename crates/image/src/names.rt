@@ -4,7 +4,7 @@ ghost use mathlib.Core.Path.{_≡_};
 ghost use Rattle.image.specs.Names.{nameByte, nameAt, namesAt};
 ghost use Rattle.image.specs.Reads.{skip};
 
-pub(crate) fn is_name_byte(b: u8) -> bool
+fn is_name_byte(b: u8) -> bool
     ensures { λ r. ⌜ r ≡ nameByte b ⌝ }
 {
     if 97 <= b {

@@ -34,7 +34,7 @@ fn read_bits(s: &[u8], at: usize) -> Read
 }
 
 // The label of a type: its tag, and what stands between the tag and the inner types.
-pub(crate) fn read_label(s: &[u8]) -> Read
+fn read_label(s: &[u8]) -> Read
     ensures { λ r. ⌜ r ≡ skip (labelOf (now (s .entry))) ⌝ }
 {
     let step = read_byte(s, 0);
@@ -78,7 +78,7 @@ pub fn inner_types(tag: u8) -> usize
 }
 
 // The type at the start of a part, of at most `left` nodes on a path.
-pub(crate) fn read_type(s: &[u8], left: usize) -> Read
+fn read_type(s: &[u8], left: usize) -> Read
     ensures { λ r. ⌜ r ≡ skip (typeOf left (now (s .entry))) ⌝ }
 {
     if left == 0 {

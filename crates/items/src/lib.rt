@@ -1,6 +1,6 @@
 // Two runs of numbered items: what stands on one side only, by rising ordinal, in one walk for fields, variants and bits, removed or
 // added.
-pub mod sides;
+mod sides;
 mod sites;
 pub mod walk;
 

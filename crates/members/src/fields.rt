@@ -93,7 +93,7 @@ pub fn field_type(image: &[u8], at: usize) -> usize
     place + 9
 }
 
-pub fn field_end(image: &[u8], at: usize) -> usize
+pub(crate) fn field_end(image: &[u8], at: usize) -> usize
     requires { ⌜ ItemHere Shape.Field (now image) at ⌝ }
     ensures { λ r. ⌜ r ≡ itemEnd Shape.Field (now (image .entry)) at ⌝ }
 {

@@ -20,7 +20,7 @@ pub fn name_end(image: &[u8], at: usize) -> usize
 }
 
 // The end of so many names.
-pub fn names_end(image: &[u8], at: usize, count: usize) -> usize
+pub(crate) fn names_end(image: &[u8], at: usize, count: usize) -> usize
     requires { ⌜ NamesHere (now image) count at ⌝ }
     ensures { λ r. ⌜ r ≡ namesEnd (now (image .entry)) count at ⌝ }
 {

@@ -12,7 +12,7 @@ ghost use Rattle.image.specs.Bodies.{messageAt, enumAt, flagsAt, unionAt, newty
 ghost use Rattle.image.specs.Reads.{skip};
 
 // Name, marks, fields.
-pub(crate) fn read_message(s: &[u8], at: usize) -> Read
+fn read_message(s: &[u8], at: usize) -> Read
     ensures { λ r. ⌜ r ≡ skip (messageAt (now (s .entry)) at) ⌝ }
 {
     let name = read_name(s, at, 8);
@@ -27,7 +27,7 @@ pub(crate) fn read_message(s: &[u8], at: usize) -> Read
 }
 
 // Name, marks, variants without fields.
-pub(crate) fn read_enum(s: &[u8], at: usize) -> Read
+fn read_enum(s: &[u8], at: usize) -> Read
     ensures { λ r. ⌜ r ≡ skip (enumAt (now (s .entry)) at) ⌝ }
 {
     let name = read_name(s, at, 8);
@@ -42,7 +42,7 @@ pub(crate) fn read_enum(s: &[u8], at: usize) -> Read
 }
 
 // Name, bits.
-pub(crate) fn read_flags(s: &[u8], at: usize) -> Read
+fn read_flags(s: &[u8], at: usize) -> Read
     ensures { λ r. ⌜ r ≡ skip (flagsAt (now (s .entry)) at) ⌝ }
 {
     let name = read_name(s, at, 8);
@@ -53,7 +53,7 @@ pub(crate) fn read_flags(s: &[u8], at: usize) -> Read
 }
 
 // Name, variants with fields.
-pub(crate) fn read_union(s: &[u8], at: usize) -> Read
+fn read_union(s: &[u8], at: usize) -> Read
     ensures { λ r. ⌜ r ≡ skip (unionAt (now (s .entry)) at) ⌝ }
 {
     let name = read_name(s, at, 8);
@@ -64,7 +64,7 @@ pub(crate) fn read_union(s: &[u8], at: usize) -> Read
 }
 
 // Name, type.
-pub(crate) fn read_newtype(s: &[u8], at: usize) -> Read
+fn read_newtype(s: &[u8], at: usize) -> Read
     ensures { λ r. ⌜ r ≡ skip (newtypeAt (now (s .entry)) at) ⌝ }
 {
     let name = read_name(s, at, 8);
@@ -75,7 +75,7 @@ pub(crate) fn read_newtype(s: &[u8], at: usize) -> Read
 }
 
 // What follows the kind: 5 config, 6 generic alias and 7 trait have only a name, 8 impl has nothing.
-pub(crate) fn read_decl(kind: u8, s: &[u8], at: usize) -> Read
+fn read_decl(kind: u8, s: &[u8], at: usize) -> Read
     ensures { λ r. ⌜ r ≡ skip (declAt kind (now (s .entry)) at) ⌝ }
 {
     match kind {

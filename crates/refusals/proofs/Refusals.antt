@@ -1,7 +1,6 @@
 -- Document 01's table: when each of 1 to 5 is given, as equivalences with the statements of specs/Refusals; and that 1 to 10 are the only
 -- numbers. Assumes nothing.
 use mathlib.Core.Path.{_≡_, refl, ap, _∙_}
-use mathlib.Core.Logic.{_↔_}
 use mathlib.Core.Bool.{Bool, true, false, _&&_, and-false}
 use mathlib.Core.List.{List}
 use Prim.Native.Nat.{ℕ, zero, suc, _≤_, _<_}
@@ -14,7 +13,7 @@ use Rattle.image.specs.Schema.{Schema, Name}
 use Rattle.image.specs.Parse.{Parsed, ok, no, bind, pick}
 use Rattle.image.specs.Names.{namesAt}
 use Rattle.image.specs.Image.{format, entryCount, idCount, segmentCount, segmentsAt, headOf, tablesOf, laid, readImage}
-use Rattle.refusals.specs.Refusals.{Long, Eight, Format, Over, entries, ids, segments, Crowded, Head, segmentAt, Segment, ShortHead, head, tables, namespace, bodyAt, Misplaced, entry, after, Tables, Contents}
+use Rattle.refusals.specs.Refusals.{Long, Eight, Format, Over, entries, ids, segments, Crowded, Head, segmentAt, Segment, ShortHead, head, tables, namespace, bodyAt, Misplaced, entry, after, Tables, Contents, ExactlyIf}
 use Rattle.maps.proofs.Tests.{apart, both}
 use Rattle.refusals.proofs.Told.{Told, told-ok, told-no, Any, told-bind, told-pick, told-then}
 use Rattle.refusals.proofs.Bodies.{Body, entries-told}
@@ -210,14 +209,7 @@ contents-given s c = go (names-told s (segmentsAt s) refl) refl
     go (told-ok {a = names} q) e = from names (e ∙ ap (ok names) (q .1))
     go (told-no f) e = absurd (fault-none s (c .tables .segments) f)
 
--- Document 01's table for 1 to 5.
-pub record ExactlyIf (s : List ℕ) : Type 0 where
-  pub long : (readImage s ≡ no 1) ↔ Long s
-  pub shortHead : (readImage s ≡ no 2) ↔ ShortHead s
-  pub format : (readImage s ≡ no 3) ↔ Format s
-  pub crowded : (readImage s ≡ no 4) ↔ Crowded s
-  pub contents : (readImage s ≡ no 5) ↔ Contents s
-
+-- document 01's table for 1 to 5
 pub exactly-if : (s : List ℕ) → ExactlyIf s
 unfolding Given
 exactly-if s =

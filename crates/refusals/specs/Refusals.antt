@@ -2,11 +2,13 @@
 -- each: "1, eight bytes there (2), 3, 4, rest of 2 and the segments' 7 from left to right, 5". Assumes nothing.
 use mathlib.Core.Path.{_≡_}
 use mathlib.Core.Bool.{true}
+use mathlib.Core.Logic.{_↔_}
 use mathlib.Core.List.{List}
 use Prim.Native.Nat.{ℕ, zero, suc, _+_, _≤_, _<_}
 use lib.ListN.{length, getD}
+use Rattle.image.specs.Parse.{no}
 use Rattle.image.specs.Names.{nameByte}
-use Rattle.image.specs.Image.{format, entryCount, idCount, segmentCount, entryOffset, entryLength, segmentsAt}
+use Rattle.image.specs.Image.{format, entryCount, idCount, segmentCount, entryOffset, entryLength, segmentsAt, readImage}
 
 -- 1 long: "image over 32,768 bytes"
 abbrev pub Long : List ℕ → Type 0
@@ -81,3 +83,11 @@ pub record Tables (s : List ℕ) : Type 0 where
 pub record Contents (s : List ℕ) : Type 0 where
   pub tables : Tables s
   pub misplaced : Misplaced s
+
+-- each is given "exactly if"
+pub record ExactlyIf (s : List ℕ) : Type 0 where
+  pub long : (readImage s ≡ no 1) ↔ Long s
+  pub shortHead : (readImage s ≡ no 2) ↔ ShortHead s
+  pub format : (readImage s ≡ no 3) ↔ Format s
+  pub crowded : (readImage s ≡ no 4) ↔ Crowded s
+  pub contents : (readImage s ≡ no 5) ↔ Contents s

@@ -12,11 +12,11 @@ use Rattle.maps.specs.Walk.{Rising, next}
 use Rattle.maps.proofs.Orders.{byNumber}
 use Rattle.maps.proofs.Survivors.{rising}
 use Rattle.maps.proofs.Places.{Placed, lookup-placed, next-placed}
-use Rattle.parts.specs.Promise.{ItemOf, ItemHere, itemEnd, ItemsHere, ItemsListed, placesFrom, ordinalIn, variantItems, variantIn, DeclHere, declIn, itemsIn}
+use Rattle.parts.specs.Promise.{ItemOf, ItemHere, itemEnd, ItemsHere, placesFrom, ordinalIn}
 use Rattle.parts.specs.declared.Shape.{Shape}
 use Rattle.parts.specs.declared.Shape.the-variants as shape
 use Rattle.parts.specs.declared.Run.{Run}
-use Rattle.parts.proofs.Promise.{places-none, places-more, items-first, items-rest, field-ordinal, variant-ordinal, message-listed, enum-listed, flags-listed, union-listed, variant-listed}
+use Rattle.parts.proofs.Promise.{places-none, places-more, items-first, items-rest, field-ordinal, variant-ordinal}
 use Rattle.rules.specs.Survivors.{fieldMap, variantMap}
 use Rattle.survivors.specs.Answers.{placeOf, FoundHere, numberOf, placeMap, ItemSurvives}
 use Rattle.survivors.specs.Runs.{itemIn, itemOrdinal, itemMap, itemsOf, Holds}
@@ -25,30 +25,9 @@ use Rattle.survivors.specs.declared.Found.the-variants as found
 use Rattle.survivors.specs.declared.Ordinal.{Ordinal}
 use Rattle.survivors.specs.declared.Ordinal.the-variants as ordinal
 
--- ---- the runs of an accepted image
-
-listed : (h : Shape) (s : List ℕ) {n : Run} {xs : List (ItemOf h)} → ItemsListed h s n (itemIn h s) xs → Holds h s n xs
-unfolding itemsOf
-listed h s l = record { here = l .here; are = l .are }
-
-module _ (s : List ℕ) (at : ℕ) (g : DeclHere s at) where
-  pub message-holds : declIn s at .kind ≡ 0 → Holds shape.Field s (itemsIn s at) (declIn s at .fields)
-  message-holds e = listed shape.Field s (message-listed s at g e)
-
-  pub enum-holds : declIn s at .kind ≡ 1 → Holds shape.Bare s (itemsIn s at) (declIn s at .variants)
-  enum-holds e = listed shape.Bare s (enum-listed s at g e)
-
-  pub flags-holds : declIn s at .kind ≡ 2 → Holds shape.Bare s (itemsIn s at) (declIn s at .variants)
-  flags-holds e = listed shape.Bare s (flags-listed s at g e)
-
-  pub union-holds : declIn s at .kind ≡ 3 → Holds shape.Variant s (itemsIn s at) (declIn s at .variants)
-  union-holds e = listed shape.Variant s (union-listed s at g e)
-
-pub variant-holds : (s : List ℕ) (at : ℕ) → ItemHere shape.Variant s at → Holds shape.Field s (variantItems s at) (variantIn s at .fields)
-variant-holds s at g = listed shape.Field s (variant-listed s at g)
-
--- any run that is well formed
+-- a run that is well formed
 pub run-holds : (h : Shape) (s : List ℕ) (n : Run) → ItemsHere h s (n .count) (n .start) → Holds h s n (itemsOf h s n)
+unfolding itemsOf
 run-holds h s n g = record { here = g; are = refl }
 
 -- ---- items by rising ordinal

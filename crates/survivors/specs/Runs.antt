@@ -1,9 +1,8 @@
 -- The items of a declaration or of a variant, as the values that the rules speak of, and the run of places that holds them.
 -- Assumes nothing.
-use mathlib.Core.Path.{_≡_}
 use mathlib.Core.List.{List, map}
 use Prim.Native.Nat.{ℕ}
-use Rattle.parts.specs.Promise.{ItemOf, ItemsHere, placesFrom, fieldIn, bareIn, variantIn}
+use Rattle.parts.specs.Promise.{ItemOf, ItemsListed, placesFrom, fieldIn, bareIn, variantIn}
 use Rattle.parts.specs.declared.Shape.{Shape}
 use Rattle.parts.specs.declared.Shape.the-variants as shape
 use Rattle.parts.specs.declared.Run.{Run}
@@ -31,6 +30,5 @@ unfoldable pub itemsOf : (h : Shape) → List ℕ → Run → List (ItemOf h)
 itemsOf h s n = map (itemIn h s) (placesFrom h s (n .count) (n .start))
 
 -- the run is well formed, and holds these items
-pub record Holds (h : Shape) (s : List ℕ) (n : Run) (xs : List (ItemOf h)) : Type 0 where
-  pub here : ItemsHere h s (n .count) (n .start)
-  pub are : xs ≡ itemsOf h s n
+abbrev pub Holds : (h : Shape) → List ℕ → Run → List (ItemOf h) → Type 0
+Holds h s n xs = ItemsListed h s n (itemIn h s) xs

@@ -23,7 +23,7 @@ pub fn same_name(a: &[u8], b: &[u8]) -> bool
 }
 
 // The names of a run in one image and those of a run in another.
-pub fn same_names(a: &[u8], old: Run, b: &[u8], new: Run) -> bool
+pub(crate) fn same_names(a: &[u8], old: Run, b: &[u8], new: Run) -> bool
     requires { ⌜ NamesIn (now a) old × NamesIn (now b) new ⌝ }
     ensures { λ r. ⌜ r ≡ sameNames (namesIn (now (a .entry)) old) (namesIn (now (b .entry)) new) ⌝ }
 {
