@@ -17,7 +17,7 @@ ghost use lib.ListN.{length, getD};
 ghost use Rattle.parts.specs.Promise.{Accepted, schemaOf};
 ghost use Rattle.text.specs.Text.{Space, Puts};
 ghost use Rattle.listing.specs.Listing.{entryText, listing, outcome, listingVerdict, listingLength, written};
-ghost use Rattle.listing.specs.Answers.{refusal, answerOf, selectIn, Wrote};
+ghost use Rattle.listing.specs.Answers.{refusal, answerOf, selectIn};
 
 // The side of a refusal.
 const OLD: u8 = 1;
@@ -109,27 +109,16 @@ fn select(answer: Answer, selector: u64) -> u64
     }
 }
 
-// The listing of an accepted image at the start of the buffer, and its length; or nothing and 0, if it is longer than the buffer.
-fn write(image: &[u8], out: &mut [u8]) -> usize
-    requires { ⌜ Accepted (now image) ⌝ }
-    ensures { λ r. ⌜ Wrote (now (image .entry)) (now (out .entry)) r (now (out .exit)) ⌝ }
-{
-    let a = measured(image, out.len());
-    if a.number != 0 {
-        return 0;
-    }
-    put_listing(Mode::Write, image, out)
-}
-
 // The listing's length, 0 if refused; the listing stands at the start of the buffer.
 #[no_mangle]
 pub extern "C" fn vexil_compat_listing(image: &[u8], out: &mut [u8]) -> u64
     ensures { λ r. ⌜ (r ≡ listingLength (outcome (now (image .entry)) (length (now (out .entry))))) × (now (out .exit) ≡ written (outcome (now (image .entry)) (length (now (out .entry)))) (now (out .entry))) ⌝ }
 {
-    match read_image(image) {
-        Acceptance::Accepted => write(image, out) as u64,
-        Acceptance::Rejected(_) => 0,
+    let a = checked(image, out.len());
+    if a.number != 0 {
+        return 0;
     }
+    put_listing(Mode::Write, image, out) as u64
 }
 
 // One value of the answer for a buffer of so many bytes, by its selector.
