@@ -19,6 +19,7 @@ use Rattle.rules.specs.Answer.{Outcome as PairOutcome}
 use Rattle.rules.proofs.Answer.{Single, Case as PairCase, old-refused, new-refused, pair-refused, verdict, case as pair-case}
 use Rattle.listing.specs.Listing.{Outcome, refused, listed, listing, accept, fit, outcome, selected, listingLength, written}
 use Rattle.listing.specs.Answers.{refusal, answerOf, selectIn}
+use Rattle.listing.specs.Refusals.{RefusedBy}
 use Rattle.listing.specs.declared.Answer.{Answer}
 use Rattle.listing.proofs.Bounds.{listing-small}
 
@@ -58,7 +59,7 @@ module _ (s : List ℕ) (g : Accepted s) where
 
 module _ (s : List ℕ) (room : ℕ) where
   pub data Case : Outcome → Type 0 where
-    turned : {k : ℕ} → Single k → Case (refused k)
+    turned : {k : ℕ} → Single k → RefusedBy s k → Case (refused k)
     full : Accepted s → room < length (text s) → Case (refused 12)
     fits : Accepted s → length (text s) ≤ room → Case (listed (text s))
 
@@ -75,7 +76,7 @@ module _ (s : List ℕ) (room : ℕ) where
   case = go (pair-case viewOf sameType s s)
     where
       go : {o : PairOutcome} → PairCase viewOf sameType s s o → Case (outcome s room)
-      go (old-refused l p) = rw p (turned l)
+      go (old-refused l p) = rw p (turned l p)
       go (new-refused l p q) = held (read-accepted s p .0)
       go (pair-refused p q e) = held (read-accepted s p .0)
       go (verdict p q e) = held (read-accepted s p .0)
@@ -104,7 +105,7 @@ module _ (s d : List ℕ) {a : Answer} (e : a ≡ answerOf (outcome s (length d)
     ready = go (case s (length d)) (sym number-is ∙ z)
       where
         go : {o : Outcome} → Case s (length d) o → answerOf o .number ≡ 0 → Accepted s × (length (text s) ≤ length d)
-        go (turned l) q = absurd (omega arith)
+        go (turned l p) q = absurd (omega arith)
         go (full g l) q = absurd (omega arith)
         go (fits g l) q = (g, l)
 

@@ -1,3 +1,5 @@
--- Listing: the contents listing of an image, when it is refused, and what the two calls answer. Answers: the same as the code has it.
+-- Listing: the contents listing of an image, when it is refused, and what the two calls answer. Refusals: when each number is given, in
+-- document 01's words. Answers: what the calls answer as the code has it.
 pub mod Listing
+pub mod Refusals
 pub mod Answers
