@@ -13,6 +13,8 @@ BEHIND = re.compile(
     r"Rattle·(?:(?:image|refusals|written|reader)\.(?!specs\.Schema\b|specs\.Words\b|specs\.declared\b)\w+|parts\.proofs\.Laws\b)(?:\.\w+)*"
 )
 INSIDE = {"members"}
+# What their code may not call: what `image` and `reader` read by, but for reading an image; how many inner types a tag has asks for no image.
+CALLED = re.compile(r"\b(?:image::(?!types::inner_types\b)|reader::(?!(?:Acceptance|read_image)\b)|use (?:image|reader)\b(?!::))[\w:]*")
 # Crates above `parts` whose definitions start from what reading an image gives; their proofs rest on the promise.
 DEFINE = {"listing"}
 
@@ -81,17 +83,23 @@ def assumptions(root: Path) -> list[str]:
     ]
 
 
+def named_behind(path: Path) -> list[str]:
+    """What a file names that is behind the promise of `parts`: the first definition, and the first path of its code."""
+    text = path.read_text()
+    found = [BEHIND.search(text), CALLED.search(text) if path.suffix == ".rt" else None]
+    return [match[0] for match in found if match]
+
+
 def unfolded(root: Path) -> list[str]:
-    """Files of crates above `parts` that name the reader's definitions instead of what `parts` promises."""
+    """Files of crates above `parts` that name the reader's definitions or functions instead of what `parts` promises."""
     crates = listed_crates(root)
     return [
-        f"{path.relative_to(root)}: names {match[0]}, which is behind the promise of parts"
+        f"{path.relative_to(root)}: names {named}, which is behind the promise of parts"
         for name in crates
         if "parts" in reached(name, crates) and name not in INSIDE and is_library(root, name)
         for path in sorted((root / "crates" / name).rglob("*"))
         if path.suffix in (".rt", ".antt") and not (name in DEFINE and path.parent.name == "specs")
-        for match in [BEHIND.search(path.read_text())]
-        if match
+        for named in named_behind(path)
     ]
 
 

@@ -2,13 +2,13 @@
 use mathlib.Core.Path.{_≡_, refl}
 use mathlib.Core.Option.{Option, none, some}
 use mathlib.Core.List.{List, [], _∷_}
-use Prim.Native.Nat.{ℕ, zero, suc, _+_, _*_, _^_, _≤_, _<_}
+use Prim.Native.Nat.{ℕ, suc, _+_, _*_, _^_, _≤_, _<_}
 use native.Mathlib.Omega.{arith}
 use lib.ListN.{length, getD, length-append}
 use Rattle.image.specs.Schema.{Name, Decl}
 use Rattle.image.specs.Words.{bytes}
 use Rattle.parts.specs.Promise.{Accepted, schemaOf}
-use Rattle.parts.proofs.Promise.{accepted-most, entry-pair, entry-short}
+use Rattle.parts.proofs.Promise.{accepted-most, entries-most, entry-short}
 use Rattle.rules.proofs.Texts.{kind-length}
 use Rattle.text.proofs.Numbers.{decimal-length}
 use Rattle.listing.specs.Listing.{lineOf, entryLine, entryText, linesFrom, listing}
@@ -24,12 +24,8 @@ lines-length most id [] h = omega arith
 lines-length most id (e ∷ R) h = simp length-append (omega (arith, h 0 (omega arith) id, lines-length most (suc id) R (λ j l. h (suc j) (omega arith))))
 
 module _ (s : List ℕ) (g : Accepted s) where
-  few : length (schemaOf s .registry) ≤ 8192
-  few = go (length (schemaOf s .registry)) refl
-    where
-      go : (n : ℕ) → length (schemaOf s .registry) ≡ n → n ≤ 8192
-      go zero e = omega arith
-      go (suc n) e = omega (arith, entry-pair s g n (omega arith), accepted-most s g)
+  few : length (schemaOf s .registry) ≤ 32768
+  few = omega (arith, entries-most s g, accepted-most s g)
 
   short : (j : ℕ) → j < length (schemaOf s .registry) → (i : ℕ) → length (entryText i (getD (schemaOf s .registry) j none)) ≤ 32804
   unfolding entryText entryLine

@@ -7,8 +7,8 @@ use native.Mathlib.Numerals.{add-one}
 use native.Mathlib.Omega.{arith}
 use lib.ListN.{length, getD, drop, drop-of-length-le}
 use Rattle.image.specs.Schema.{Name, Decl}
-use Rattle.parts.specs.Promise.{schemaOf, DeclHere, declIn}
-use Rattle.parts.proofs.Promise.{decl-most, BodyIn, bytesIn}
+use Rattle.parts.specs.Promise.{schemaOf, DeclHere, declIn, BodyIn, bytesIn}
+use Rattle.parts.proofs.Promise.{decl-most}
 use Rattle.text.specs.Text.{Space, Puts, startIn}
 use Rattle.text.specs.declared.Mode.{Mode}
 use Rattle.text.proofs.Writing.{in-nil}

@@ -5,8 +5,6 @@ mod line;
 use crate::body::put_entry;
 use parts::entries::entry_count;
 use reader::Acceptance;
-use reader::contents::entry_length;
-use reader::contents::entry_offset;
 use reader::read_image;
 use text::Mode;
 use text::start_in;
@@ -44,11 +42,12 @@ fn put_one(mode: Mode, image: &[u8], out: &mut [u8], at: usize, id: usize) -> us
     requires { ⌜ Accepted (now image) × (id < length (schemaOf (now image) .registry)) × Space mode (now out) at (length (entryText id (getD (schemaOf (now image) .registry) id none))) ⌝ }
     ensures { λ r. ⌜ Puts mode (now (out .entry)) at (entryText id (getD (schemaOf (now (image .entry)) .registry) id none)) r (now (out .exit)) ⌝ }
 {
-    let count = entry_length(image, id);
+    let body = parts::entries::body(image, id);
+    let count = body.count;
     if count == 0 {
         return at;
     }
-    let from = entry_offset(image, id);
+    let from = body.start;
     let end = from + count;
     let done = start_in(mode, at);
     let n = put_entry(mode, id, &image[from..end], &mut out[done..]);

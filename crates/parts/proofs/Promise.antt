@@ -19,10 +19,10 @@ use Rattle.parts.specs.declared.Shape.{Shape}
 use Rattle.parts.specs.declared.Entry.{Entry}
 use Rattle.parts.proofs.Laws.Places.{places-none as by-none, places-more as by-more}
 use Rattle.parts.proofs.Laws.Decls.{decl-head}
--- the image: its length, and its namespace by the names at their places
-pub use Rattle.parts.proofs.Laws.Contents.{accepted-most, segments-listed}
--- the entry of an id by its pair in the contents: empty, or its body as a list of its own
-pub use Rattle.parts.proofs.Laws.Bodies.{BodyIn, bytesIn, entry-pair, entry-none, entry-body, entry-short}
+-- the image: its length, how many entries it has, and its namespace by the names at their places
+pub use Rattle.parts.proofs.Laws.Contents.{accepted-most, entries-most, segments-listed}
+-- the name of an entry's declaration
+pub use Rattle.parts.proofs.Laws.Bodies.{entry-short}
 -- so many names, or items: the first, and the rest
 pub use Rattle.parts.proofs.Laws.Skips.{names-first, names-rest}
 pub use Rattle.parts.proofs.Laws.Items.{items-first, items-rest}

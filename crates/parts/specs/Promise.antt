@@ -5,9 +5,9 @@ use mathlib.Core.Path.{_≡_}
 use mathlib.Core.Bool.{cond}
 use mathlib.Core.Option.{Option, none, some}
 use mathlib.Core.List.{List, [], _∷_, map}
-use Prim.Native.Nat.{ℕ, zero, suc, _+_, _≤_, _<_}
+use Prim.Native.Nat.{ℕ, zero, suc, _+_, _-_, _≤_, _<_}
 use lib.Dec.{leb}
-use lib.ListN.{getD, drop}
+use lib.ListN.{length, getD, take, drop}
 use Rattle.image.specs.Schema.{Name, unmarked, Label, label, Ty, noType, Field, Variant, Decl, decl, Schema}
 use Rattle.image.specs.Schema.{Encoding as Coding}
 use Rattle.image.specs.Parse.{Parsed, bind, littleEndian, byteAt, many}
@@ -224,6 +224,21 @@ EntryHere s Unresolvable = Unit {0}
 pub record Resolved (s : List ℕ) (id : ℕ) (r : Entry) : Type 0 where
   pub value : declOf s r ≡ getD (schemaOf s .registry) id none
   pub here : EntryHere s r
+
+-- so many bytes from a place on, as a list of their own
+abbrev pub bytesIn : List ℕ → ℕ → ℕ → List ℕ
+bytesIn s from count = take (from + count - from) (drop from s)
+
+-- bytes of the image that hold the declaration of the entry of an id at their start
+pub record BodyIn (s : List ℕ) (id from count : ℕ) : Type 0 where
+  pub inside : from + count ≤ length s
+  pub here : DeclHere (bytesIn s from count) 0
+  pub is : getD (schemaOf s .registry) id none ≡ some (declIn (bytesIn s from count) 0)
+
+-- where the body of the entry of an id lies; no bytes, if the entry is empty
+pub record BodyOf (s : List ℕ) (id : ℕ) (r : Run) : Type 0 where
+  pub empty : r .count ≡ 0 → getD (schemaOf s .registry) id none ≡ none
+  pub body : (r .count ≡ 0 → ⊥) → BodyIn s id (r .start) (r .count)
 
 -- the namespace's segments
 unfoldable pub segmentsIn : List ℕ → Run

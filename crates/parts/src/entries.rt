@@ -5,7 +5,7 @@ use crate::numbers::u32_at;
 ghost use mathlib.Core.Path.{_≡_};
 ghost use Prim.Native.Nat.{_<_};
 ghost use lib.ListN.{length, getD};
-ghost use Rattle.parts.specs.Promise.{Accepted, schemaOf, Resolved, segmentsIn};
+ghost use Rattle.parts.specs.Promise.{Accepted, schemaOf, Resolved, BodyOf, segmentsIn};
 
 // How many registry entries there are.
 pub fn entry_count(image: &[u8]) -> usize
@@ -45,6 +45,17 @@ pub fn entry(image: &[u8], id: u32) -> Entry
         return Entry::Unresolvable;
     }
     Entry::Body(reader::contents::entry_offset(image, i))
+}
+
+// Where the body of an entry lies; no bytes, if the entry is empty.
+pub fn body(image: &[u8], id: usize) -> Run
+    requires { ⌜ Accepted (now image) × (id < length (schemaOf (now image) .registry)) ⌝ }
+    ensures { λ r. ⌜ BodyOf (now (image .entry)) id r ⌝ }
+{
+    Run {
+        start: reader::contents::entry_offset(image, id),
+        count: reader::contents::entry_length(image, id),
+    }
 }
 
 // The namespace's names.

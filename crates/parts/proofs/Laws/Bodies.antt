@@ -4,11 +4,11 @@ use mathlib.Core.Path.{_≡_, refl, sym, ap, _∙_}
 use mathlib.Core.Bool.{Bool, true, false}
 use mathlib.Core.Option.{none, some}
 use mathlib.Core.List.{List, []}
-use Prim.Native.Nat.{ℕ, zero, suc, _+_, _-_, _*_, _≤_, _<_}
+use Prim.Native.Nat.{ℕ, zero, suc, _+_, _*_, _≤_, _<_}
 use native.Mathlib.Omega.{arith}
 use borrow.Author.Tests.{ltb-true, ltb-false, eqb-true, eqb-false, ne-eqb}
 use lib.Dec.{eqb, ltb}
-use lib.ListN.{length, getD, take, drop}
+use lib.ListN.{length, getD, length-take, length-drop}
 use Rattle.image.specs.Schema.{Decl}
 use Rattle.image.specs.Parse.{Parsed, ok, no, pick, part}
 use Rattle.image.specs.Bodies.{bodyOf}
@@ -19,22 +19,11 @@ use Rattle.image.proofs.Laws.Names.{part-length}
 use Rattle.image.proofs.Laws.Good.{sure-good, good-first, good-second}
 use Rattle.reader.proofs.Laws.Contents.{laid-inside}
 use Rattle.reader.proofs.Laws.Contents.{entry-part as part-is}
-use Rattle.parts.specs.Promise.{noDecl, Accepted, schemaOf, DeclHere, declIn}
+use Rattle.parts.specs.Promise.{noDecl, Accepted, schemaOf, DeclHere, declIn, bytesIn, BodyIn, BodyOf}
 use Rattle.parts.proofs.Laws.Kept.{kept-good, kept-value, part-of, part-self, body-kept}
 use Rattle.parts.proofs.Laws.Steps.{name-stands}
 use Rattle.parts.proofs.Laws.Decls.{decl-head}
 use Rattle.parts.proofs.Laws.Contents.{whole, entry-count-is, pair-there, empty-entry, body-entry}
-
--- so many bytes from a place on
-abbrev pub bytesIn : List ℕ → ℕ → ℕ → List ℕ
-bytesIn s from count = take (from + count - from) (drop from s)
-
--- the body of the entry of an id, which is not empty
-pub record BodyIn (s : List ℕ) (id from count : ℕ) : Type 0 where
-  pub inside : from + count ≤ length s
-  pub here : DeclHere (bytesIn s from count) 0
-  pub is : getD (schemaOf s .registry) id none ≡ some (declIn (bytesIn s from count) 0)
-  pub short : length (declIn (bytesIn s from count) 0 .name) ≤ length s
 
 -- a name is no longer than what it stands in
 name-short : (s : List ℕ) (at : ℕ) → DeclHere s at → length (declIn s at .name) ≤ length s
@@ -45,6 +34,9 @@ name-short s at g = go (ltb (getD s at 0) 8) refl
         let n = decl-head s at g .named (ltb-true (getD s at 0) 8 e) in
         omega (arith, ap length (n .1 ∙ name-stands s (at + 1) (n .0) .value), part-length (at + 1 + 1) (getD s (at + 1) 0) s .1)
     go false e = omega (arith, ap length (decl-head s at g .nameless (omega (arith, ltb-false (getD s at 0) 8 e))))
+
+bytes-short : (s : List ℕ) (from count : ℕ) → length (bytesIn s from count) ≤ length s
+bytes-short s from count = simp (length-take, length-drop) (omega arith)
 
 -- ---- every entry of an accepted image was read
 
@@ -98,11 +90,8 @@ module _ (s : List ℕ) (g : Accepted s) (id : ℕ) (l : id < length (schemaOf s
   pub entry-pair : 8 + 4 * id + 4 ≤ length s
   entry-pair = pair-there s g id counted
 
-  module _ {count : ℕ} (e : count ≡ entryLength s id) where
-    pub entry-none : count ≡ 0 → getD (schemaOf s .registry) id none ≡ none
-    entry-none z = empty-entry s g id counted (sym e ∙ z)
-
-    module _ {from : ℕ} (d : from ≡ entryOffset s id) (f : count ≡ 0 → ⊥) where
+  module _ {from count : ℕ} (d : from ≡ entryOffset s id) (e : count ≡ entryLength s id) where
+    module _ (f : count ≡ 0 → ⊥) where
       some-body : entryLength s id ≡ 0 → ⊥
       some-body z = f (e ∙ z)
 
@@ -115,29 +104,32 @@ module _ (s : List ℕ) (g : Accepted s) (id : ℕ) (l : id < length (schemaOf s
           let z : 0 + id ≡ id = omega arith in
           body-good s id some-body (rw z at (entry-good s (entryCount s) 0 id counted (whole s g .entries)))
 
-      here-there : DeclHere (part (entryOffset s id) (entryLength s id) s) 0
-      here-there = start-here s (entryOffset s id) (entryLength s id) (omega (arith, fits)) good
-
-      pub entry-body : BodyIn s id from count
-      entry-body =
+      found : BodyIn s id from count
+      found =
           let same = part-is s d e in
+          let there = start-here s (entryOffset s id) (entryLength s id) (omega (arith, fits)) good in
           record {
             inside = omega (arith, fits);
-            here = rw same here-there;
+            here = rw same there;
             is = rw same (body-entry s g id counted some-body .1 ∙ ap some (start-is s (entryOffset s id) (entryLength s id) (omega (arith, fits)) good));
-            short = rw same (omega (arith, name-short _ 0 here-there, part-length (entryOffset s id) (entryLength s id) s .1));
           }
+
+    pub entry-body : BodyOf s id (record { start = from; count = count })
+    entry-body = record { empty = λ z. empty-entry s g id counted (sym e ∙ z); body = found }
 
   -- the name of its declaration, if it has one
   pub entry-short : (d : Decl) → getD (schemaOf s .registry) id none ≡ some d → length (d .name) ≤ length s
   entry-short d q = go (eqb (entryLength s id) 0) refl
     where
-      go : (b : Bool) → eqb (entryLength s id) 0 ≡ b → length (d .name) ≤ length s
+      b : BodyOf s id (record { start = entryOffset s id; count = entryLength s id })
+      b = entry-body refl refl
+
+      go : (t : Bool) → eqb (entryLength s id) 0 ≡ t → length (d .name) ≤ length s
       go true z =
-          let n = sym (entry-none refl (eqb-true (entryLength s id) 0 z)) ∙ q in
+          let n = sym (b .empty (eqb-true (entryLength s id) 0 z)) ∙ q in
           absurd (let z : _≡_ {A = ℕ} 0 1 = cc in omega arith)
       go false z =
-          let b = entry-body refl refl (λ y. eqb-false (entryLength s id) 0 z y) in
-          let n = sym (b .is) ∙ q in
+          let i = b .body (λ y. eqb-false (entryLength s id) 0 z y) in
+          let n = sym (i .is) ∙ q in
           let k : declIn (bytesIn s (entryOffset s id) (entryLength s id)) 0 ≡ d = cc in
-          rw k at (b .short)
+          omega (arith, name-short _ 0 (i .here), bytes-short s (entryOffset s id) (entryLength s id), ap (λ (d : Decl). length (d .name)) k)

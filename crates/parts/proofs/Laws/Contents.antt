@@ -158,6 +158,10 @@ module _ (s : List ℕ) (g : Accepted s) where
   pub entry-count-is : entryCount s ≡ length (schemaOf s .registry)
   entry-count-is = sym (ap length entries-are ∙ entries-count s (entryCount s) 0 (whole s g .entries))
 
+  -- each has a pair in the contents
+  pub entries-most : length (schemaOf s .registry) ≤ length s
+  entries-most = omega (arith, entry-count-is, tables-there)
+
   pub entry-past : (id : ℕ) → entryCount s ≤ id → getD (schemaOf s .registry) id none ≡ none
   entry-past id l = List·getD-eq-default (schemaOf s .registry) none (let e = entry-count-is in omega arith)
 
