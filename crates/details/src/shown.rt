@@ -2,8 +2,7 @@
 use crate::Value;
 use crate::Values;
 use crate::names::put_quoted;
-use crate::words::DECLS;
-use crate::words::put_word;
+use crate::words::put_kind;
 use display::encodings::encoding_display;
 use display::namespaces::namespace_display;
 use display::type_display;
@@ -15,22 +14,12 @@ use text::Mode;
 use text::put_byte;
 use text::put_text;
 ghost use lib.ListN.{length};
-ghost use Rattle.image.specs.Words.{kindWord};
-ghost use Rattle.parts.specs.Promise.{Accepted, schemaOf, DeclHere, declIn};
+ghost use Rattle.parts.specs.Promise.{Accepted, schemaOf};
 ghost use Rattle.rules.specs.Text.{boolWord};
 ghost use Rattle.rules.specs.Changes.{fromTo};
 ghost use Rattle.rules.specs.Clauses.{showNamespace};
 ghost use Rattle.text.specs.Text.{Space, Puts};
 ghost use Rattle.details.specs.Details.{valueText, valuesText, ValueHere, ValuesHere};
-
-// The word of a declaration's kind.
-pub fn put_kind(mode: Mode, image: &[u8], out: &mut [u8], at: usize, decl: usize) -> usize
-    requires { ⌜ DeclHere (now image) decl × Space mode (now out) at (length (kindWord (declIn (now image) decl .kind))) ⌝ }
-    ensures { λ r. ⌜ Puts mode (now (out .entry)) at (kindWord (declIn (now (image .entry)) decl .kind)) r (now (out .exit)) ⌝ }
-{
-    let kind = decl_kind(image, decl) as usize;
-    put_word(mode, out, at, DECLS + kind)
-}
 
 fn put_bool(mode: Mode, out: &mut [u8], at: usize, value: bool) -> usize
     requires { ⌜ Space mode (now out) at (length (boolWord value)) ⌝ }
@@ -57,7 +46,7 @@ fn put_value(mode: Mode, image: &[u8], out: &mut [u8], at: usize, value: Value) 
 {
     match value {
         Value::Name(i) => put_quoted(mode, out, at, item_name(image, i)),
-        Value::Kind(decl) => put_kind(mode, image, out, at, decl),
+        Value::Kind(decl) => put_kind(mode, out, at, decl_kind(image, decl)),
         Value::NonExhaustive(decl) => put_bool(mode, out, at, non_exhaustive(image, decl)),
         Value::Type(t) => type_display(mode, image, out, at, t),
         Value::Encoding(i) => encoding_display(mode, out, at, field_encoding(image, i)),

@@ -2,9 +2,10 @@
 use crate::Subject;
 use crate::Word;
 use crate::names::put_quoted;
-use crate::shown::put_kind;
+use crate::words::put_kind;
 use members::items::item_name;
 use members::items::ordinal_at;
+use parts::decls::decl_kind;
 use parts::decls::decl_name;
 use text::Mode;
 use text::put_byte;
@@ -45,7 +46,7 @@ fn put_decl(mode: Mode, image: &[u8], out: &mut [u8], at: usize, decl: usize) ->
     requires { ⌜ DeclHere (now image) decl × Space mode (now out) at (length (declText (declIn (now image) decl))) ⌝ }
     ensures { λ r. ⌜ Puts mode (now (out .entry)) at (declText (declIn (now (image .entry)) decl)) r (now (out .exit)) ⌝ }
 {
-    let at = put_kind(mode, image, out, at, decl);
+    let at = put_kind(mode, out, at, decl_kind(image, decl));
     let at = put_byte(mode, out, at, b' ');
     put_quoted(mode, out, at, decl_name(image, decl))
 }

@@ -1,8 +1,9 @@
 // The names of `ChangeKind`, `BumpKind` and `CompatResult`, and those of `decl_kind_name`, by their number in one table.
 use text::Mode;
 use text::put_text;
-ghost use Prim.Native.Nat.{_<_};
+ghost use Prim.Native.Nat.{_≤_, _<_};
 ghost use lib.ListN.{length};
+ghost use Rattle.image.specs.Words.{kindWord};
 ghost use Rattle.text.specs.Text.{Space, Puts};
 ghost use Rattle.details.specs.Words.{wordAt};
 
@@ -11,7 +12,7 @@ pub const BUMPS: usize = 18;
 
 pub const RESULTS: usize = 21;
 
-pub const DECLS: usize = 23;
+const DECLS: usize = 23;
 
 // Where each name starts in their text, and where the last ends.
 const STARTS: [usize; 33] = [
@@ -59,4 +60,12 @@ pub fn put_word(mode: Mode, out: &mut [u8], at: usize, word: usize) -> usize
     let start = STARTS[word];
     let end = STARTS[word + 1];
     put_text(mode, out, at, &names[start..end])
+}
+
+// The word of a kind of declaration.
+pub fn put_kind(mode: Mode, out: &mut [u8], at: usize, kind: u8) -> usize
+    requires { ⌜ (kind ≤ 8) × Space mode (now out) at (length (kindWord kind)) ⌝ }
+    ensures { λ r. ⌜ Puts mode (now (out .entry)) at (kindWord kind) r (now (out .exit)) ⌝ }
+{
+    put_word(mode, out, at, DECLS + kind as usize)
 }

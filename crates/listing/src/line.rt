@@ -1,23 +1,13 @@
 // The line of an entry.
-use details::words::DECLS;
-use details::words::put_word;
+use details::words::put_kind;
 use text::Mode;
 use text::put_byte;
 use text::put_number;
 use text::put_text;
 ghost use Prim.Native.Nat.{_≤_};
 ghost use lib.ListN.{length};
-ghost use Rattle.image.specs.Words.{kindWord};
 ghost use Rattle.text.specs.Text.{Space, Puts};
 ghost use Rattle.listing.specs.Listing.{lineOf};
-
-// The word of a kind, from `decl_kind_name`.
-fn put_kind(mode: Mode, out: &mut [u8], at: usize, kind: u8) -> usize
-    requires { ⌜ (kind ≤ 8) × Space mode (now out) at (length (kindWord kind)) ⌝ }
-    ensures { λ r. ⌜ Puts mode (now (out .entry)) at (kindWord kind) r (now (out .exit)) ⌝ }
-{
-    put_word(mode, out, at, DECLS + kind as usize)
-}
 
 // "id, the kind's word .. and the name, parted by `;`. Each line ends with byte 10", from the start of the part of the buffer that it is lent.
 pub fn put_line(mode: Mode, id: usize, kind: u8, name: &[u8], out: &mut [u8]) -> usize

@@ -1,6 +1,9 @@
 -- `details::shown::put_value` meets its contract: in each arm the value is known. Assumes nothing.
 use mathlib.Core.Path.{_≡_, sym, ap, _∙_}
+use native.Mathlib.Omega.{arith}
 use borrow.Author.Needs.{needs}
+use Rattle.image.specs.Words.{kindWord}
+use Rattle.parts.proofs.Promise.{decl-most}
 use Rattle.rules.specs.Text.{boolWord, showEncoding}
 use Rattle.rules.specs.Changes.{quoted}
 use Rattle.details.specs.Details.{valueText, ValueHere}
@@ -27,9 +30,16 @@ put-quoted-requires c κs = space-as (ap (quoted) (c .item-name .ensures) ∙ sy
 enum-known-value-2 : tie.Need-enum-known-value-2
 enum-known-value-2 c = search needs
 
+decl-kind-requires : tie.Need-decl-kind-requires
+unfolding ValueHere
+decl-kind-requires c κs = rw (c .before .before .value2 .given .1) at (c .before .before .before .before .before .before .pre .1)
+
 put-kind-requires : tie.Need-put-kind-requires
-unfolding valueText ValueHere
-put-kind-requires c κs = (rw (c .before .before .value2 .given .1) at (c .before .before .before .before .before .before .pre .1), space-as (sym (same (c .before .before .before .before .before .before) (c .before .before .value2 .given .1))) (c .before .before .before .before .before .before .pre .2))
+unfolding valueText
+put-kind-requires c κs = (
+  omega (arith, c .decl-kind .ensures, decl-most _ _ (decl-kind-requires (c .before) κs)),
+  space-as (ap kindWord (c .decl-kind .ensures) ∙ sym (same (c .before .before .before .before .before .before .before) (c .before .before .before .value2 .given .1))) (c .before .before .before .before .before .before .before .pre .2),
+)
 
 enum-known-value-3 : tie.Need-enum-known-value-3
 enum-known-value-3 c = search needs
@@ -79,7 +89,7 @@ same-length-2 c = search needs
 
 returns-2 : tie.Need-returns-2
 unfolding valueText
-returns-2 c = puts-as (sym (same (c .before .before .before .before .before .before .before .before .before) (c .before .before .before .before .before .value2 .given .1))) (c .before .before .put-kind .ensures)
+returns-2 c = puts-as (ap kindWord (c .before .before .before .decl-kind .ensures) ∙ sym (same (c .before .before .before .before .before .before .before .before .before .before) (c .before .before .before .before .before .before .value2 .given .1))) (c .before .before .put-kind .ensures)
 
 same-length-3 : tie.Need-same-length-3
 same-length-3 c = search needs
@@ -117,6 +127,7 @@ put-value-spec =
     item-name-requires
     put-quoted-requires
     enum-known-value-2
+    decl-kind-requires
     put-kind-requires
     enum-known-value-3
     non-exhaustive-requires

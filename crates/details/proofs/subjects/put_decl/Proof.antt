@@ -2,11 +2,13 @@
 use mathlib.Core.Path.{refl, ap}
 use mathlib.Core.List.{List, [], _∷_}
 use Prim.Native.Nat.{ℕ}
+use native.Mathlib.Omega.{arith}
 use lib.ListN.{drop}
 use Rattle.text.proofs.Writing.{puts-length}
 use Rattle.text.proofs.Pieces.{together, Owes, owes-start, owes-room, owes-next, owes-end}
 use Rattle.image.specs.Words.{bytes, kindWord}
 use Rattle.parts.specs.Promise.{declIn}
+use Rattle.parts.proofs.Promise.{decl-most}
 use Rattle.rules.specs.Changes.{quoted}
 use Rattle.rules.specs.Clauses.{declText}
 use Rattle.details.proofs.Writers.{space-as, puts-as}
@@ -27,21 +29,25 @@ o₀ : (s : tie.Start) → Left 0 s (s .args .at) (s .args .out .now)
 unfolding together declText
 o₀ s = owes-start refl (s .pre .1)
 
-o₁ : (c : tie.After-put-kind) → Left 1 (c .before .before .before .before) (c .put-kind .result) (c .put-kind .last .1 .1 .0)
+o₁ : (c : tie.After-put-kind) → Left 1 (c .before .before .before .before .before) (c .put-kind .result) (c .put-kind .last .1 .0)
 unfolding bytes
-o₁ c = owes-next (o₀ (c .before .before .before .before)) (c .put-kind .ensures)
+o₁ c = owes-next (o₀ (c .before .before .before .before .before)) (puts-as (ap kindWord (c .before .decl-kind .ensures)) (c .put-kind .ensures))
 
-o₂ : (c : tie.After-put-byte) → Left 2 (c .before .before .before .before .before .before .before .before) (c .put-byte .result) (c .put-byte .last .1 .0)
+o₂ : (c : tie.After-put-byte) → Left 2 (c .before .before .before .before .before .before .before .before .before) (c .put-byte .result) (c .put-byte .last .1 .0)
 unfolding bytes
 o₂ c = owes-next (o₁ (c .before .before .before .before)) (c .put-byte .ensures)
 
-o₃ : (c : tie.After-put-quoted) → Left 3 (c .before .before .before .before .before .before .before .before .before .before .before .before .before) (c .put-quoted .result) (c .put-quoted .last .1 .0)
+o₃ : (c : tie.After-put-quoted) → Left 3 (c .before .before .before .before .before .before .before .before .before .before .before .before .before .before) (c .put-quoted .result) (c .put-quoted .last .1 .0)
 unfolding bytes
 o₃ c = owes-next (o₂ (c .before .before .before .before .before)) (puts-as (ap quoted (c .before .decl-name .ensures)) (c .put-quoted .ensures))
 
+decl-kind-requires : tie.Need-decl-kind-requires
+decl-kind-requires c κs = c .before .before .before .pre .0
+
 put-kind-requires : tie.Need-put-kind-requires
 unfolding bytes
-put-kind-requires c κs = (c .before .before .before .pre .0, owes-room (o₀ (c .before .before .before)))
+put-kind-requires c κs =
+    (omega (arith, c .decl-kind .ensures, decl-most _ _ (c .before .before .before .before .pre .0)), space-as (ap kindWord (c .decl-kind .ensures)) (owes-room (o₀ (c .before .before .before .before))))
 
 put-byte-requires : tie.Need-put-byte-requires
 unfolding bytes
@@ -52,18 +58,19 @@ unfolding bytes
 put-quoted-requires c κs = space-as (ap quoted (c .decl-name .ensures)) (owes-room (o₂ (c .before .before .before .before)))
 
 decl-name-requires : tie.Need-decl-name-requires
-decl-name-requires c κs = c .before .before .before .before .before .before .before .before .before .before .before .pre .0
+decl-name-requires c κs = c .before .before .before .before .before .before .before .before .before .before .before .before .pre .0
 
 returns : tie.Need-returns
 returns c = owes-end (o₃ (c .before .before))
 
 same-length : tie.Need-same-length
-same-length c = puts-length (text (c .before .before .before .before .before .before .before .before .before .before .before .before .before .before .before)) (c .before .before .before .before .before .before .before .before .before .before .before .before .before .before .before .pre .1) (returns c)
+same-length c = puts-length (text (c .before .before .before .before .before .before .before .before .before .before .before .before .before .before .before .before)) (c .before .before .before .before .before .before .before .before .before .before .before .before .before .before .before .before .pre .1) (returns c)
 
 pub put-decl-spec : {M : Type 1} → statement M
 put-decl-spec =
     tie.close
     (tie.spec
+    decl-kind-requires
     put-kind-requires
     put-byte-requires
     decl-name-requires

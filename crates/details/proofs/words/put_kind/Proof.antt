@@ -1,10 +1,10 @@
--- `listing::line::put_kind` meets its contract: the kinds stand in the table of words from DECLS on. Assumes nothing.
+-- `details::words::put_kind` meets its contract: the kinds stand in the table from DECLS on. Assumes nothing.
 use native.Mathlib.Omega.{arith}
 use borrow.Author.Needs.{needs}
 use Rattle.details.proofs.Table.{decl-word}
 use Rattle.details.proofs.Writers.{space-as, puts-as}
-use Rattle.listing.proofs.line.put_kind.Statement.{statement}
-use Rattle.listing.proofs.line.put_kind.Tie as tie
+use Rattle.details.proofs.words.put_kind.Statement.{statement}
+use Rattle.details.proofs.words.put_kind.Tie as tie
 
 add-put-word : tie.Need-add-put-word
 add-put-word c = search needs
