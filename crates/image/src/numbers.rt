@@ -2,7 +2,7 @@
 use crate::Read;
 ghost use mathlib.Core.Path.{_≡_};
 ghost use Prim.Native.Nat.{_+_, _^_, _≤_, _<_};
-ghost use lib.ListN.{length, drop};
+ghost use lib.ListN.{length, getD, drop};
 ghost use Rattle.image.specs.Parse.{byteAt, codeAt, numberAt, littleEndian};
 ghost use Rattle.image.specs.Reads.{skip};
 
@@ -59,10 +59,30 @@ pub fn number(s: &[u8], at: usize, w: usize) -> u64
     value
 }
 
-// The number of two bytes that are there.
+fn byte(s: &[u8], at: usize) -> u32
+    requires { ⌜ at < length (now s) ⌝ }
+    ensures { λ r. ⌜ (r ≡ getD (now (s .entry)) at 0) × (r < 256) ⌝ }
+{
+    s[at] as u32
+}
+
+// The number of two bytes that are there, and of four, without a loop.
 pub fn u16_at(s: &[u8], at: usize) -> usize
     requires { ⌜ at + 2 ≤ length (now s) ⌝ }
     ensures { λ r. ⌜ (r ≡ littleEndian 2 (drop at (now (s .entry)))) × (r < 65536) ⌝ }
 {
-    number(s, at, 2) as usize
+    let a = byte(s, at);
+    let b = byte(s, at + 1);
+    (a + 256 * b) as usize
+}
+
+pub fn u32_at(s: &[u8], at: usize) -> u32
+    requires { ⌜ at + 4 ≤ length (now s) ⌝ }
+    ensures { λ r. ⌜ r ≡ littleEndian 4 (drop at (now (s .entry))) ⌝ }
+{
+    let a = byte(s, at);
+    let b = byte(s, at + 1);
+    let c = byte(s, at + 2);
+    let d = byte(s, at + 3);
+    a + 256 * (b + 256 * (c + 256 * d))
 }

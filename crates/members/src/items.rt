@@ -1,11 +1,11 @@
 // Items of declarations: fields, variants and bits. Each starts with its ordinal and its name, so these are found without its shape.
 use crate::fields::field_end;
+use image::numbers::u16_at;
+use image::numbers::u32_at;
 use parts::Run;
 use parts::Shape;
 use parts::names::name_at;
 use parts::names::name_end;
-use parts::numbers::u16_at;
-use parts::numbers::u32_at;
 ghost use mathlib.Core.Path.{_≡_};
 ghost use Prim.Native.Nat.{_+_, _≤_};
 ghost use lib.ListN.{length};

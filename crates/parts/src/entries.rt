@@ -1,7 +1,7 @@
 // The tables of an accepted image: entries, ids, namespace.
 use crate::Entry;
 use crate::Run;
-use crate::numbers::u32_at;
+use image::numbers::u32_at;
 ghost use mathlib.Core.Path.{_≡_};
 ghost use Prim.Native.Nat.{_<_};
 ghost use lib.ListN.{length, getD};

@@ -4,7 +4,6 @@
 pub mod decls;
 pub mod entries;
 pub mod names;
-pub mod numbers;
 pub mod types;
 
 // What an id stands for: a declaration whose body starts at a place, or nothing.

@@ -2,7 +2,7 @@
 // end of the first.
 use crate::Run;
 use crate::names::names_end;
-use crate::numbers::u32_at;
+use image::numbers::u32_at;
 ghost use mathlib.Core.Path.{_≡_};
 ghost use Prim.Native.Nat.{_≤_};
 ghost use Rattle.parts.specs.Promise.{LabelHere, labelIn, labelEnd, bitsIn, TypeHere, typeEnd};

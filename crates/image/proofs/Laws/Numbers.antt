@@ -1,5 +1,5 @@
 -- Bytes, coded bytes and little-endian numbers: what the code's answers say of them. Assumes nothing.
-use mathlib.Core.Path.{_≡_, ap, _∙_}
+use mathlib.Core.Path.{_≡_, refl, ap, _∙_}
 use mathlib.Core.Bool.{and-false}
 use mathlib.Core.List.{List}
 use Prim.Native.Nat.{ℕ, suc, _+_, _-_, _*_, _^_, _≤_, _<_}
@@ -129,3 +129,34 @@ pub below-seven : (k v : ℕ) → k ≤ 7 → v < 256 ^ k → v < 72057594037927
 below-seven k v h l =
     let z : 256 ^ k ≤ 256 ^ 7 = pow-le-pow-right (omega arith) h in
     omega arith
+
+-- numbers of two and of four bytes, byte by byte
+module _ (s : List ℕ) (at : ℕ) where
+  next-byte : (w : ℕ) → littleEndian (suc w) (drop at s) ≡ getD s at 0 + 256 * littleEndian w (drop (at + 1) s)
+  unfolding littleEndian
+  next-byte w =
+      let z : at + 0 ≡ at = omega arith in
+      rw (drop-drop 1 at s, getD-drop at s 0 0, z)
+
+no-bytes : (s : List ℕ) → littleEndian 0 s ≡ 0
+unfolding littleEndian
+no-bytes s = refl
+
+module _ (s : List ℕ) (at : ℕ) {a b : ℕ} (p : a ≡ getD s at 0) (q : b ≡ getD s (at + 1) 0) where
+  pub two-bytes : a + 256 * b ≡ littleEndian 2 (drop at s)
+  two-bytes =
+      let x = next-byte s at 1 in
+      let y = next-byte s (at + 1) 0 in
+      let z = no-bytes (drop (at + 1 + 1) s) in
+      omega arith
+
+  pub four-bytes : {c d : ℕ} → c ≡ getD s (at + 2) 0 → d ≡ getD s (at + 3) 0 → a + 256 * (b + 256 * (c + 256 * d)) ≡ littleEndian 4 (drop at s)
+  four-bytes {c} {d} r t =
+      let u : at + 1 + 1 ≡ at + 2 = omega arith in
+      let v : at + 2 + 1 ≡ at + 3 = omega arith in
+      let w = next-byte s at 3 in
+      let x = rw u at (next-byte s (at + 1) 2) in
+      let y = rw v at (next-byte s (at + 2) 1) in
+      let z = next-byte s (at + 3) 0 in
+      let o = no-bytes (drop (at + 3 + 1) s) in
+      omega arith

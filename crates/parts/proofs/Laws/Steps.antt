@@ -2,12 +2,11 @@
 use mathlib.Core.Path.{_≡_, refl, sym, ap₂, _∙_}
 use mathlib.Core.Bool.{Bool, true, false}
 use mathlib.Core.List.{List, []}
-use Prim.Native.Nat.{ℕ, suc, _+_, _-_, _*_, _≤_, _<_}
+use Prim.Native.Nat.{ℕ, _+_, _-_, _≤_, _<_}
 use native.Mathlib.Omega.{arith}
 use native.Mathlib.Nat.{add-sub-cancel-left}
 use borrow.Author.Tests.{le-leb}
 use lib.ListN.{length, getD, take, drop}
-use lib.Seq.{drop-drop, getD-drop}
 use Rattle.image.specs.Parse.{Parsed, ok, no, bind, pick, part, littleEndian, byteAt, codeAt, numberAt}
 use Rattle.image.specs.Names.{nameAt}
 use Rattle.image.specs.Fields.{marksOf, marksAt}
@@ -82,34 +81,3 @@ module _ (s : List ℕ) (at : ℕ) where
   pub name-part : NameHere s at → take (at + 1 + getD s at 0 - (at + 1)) (drop (at + 1) s) ≡ nameIn s at
   unfolding part
   name-part g = rw (add-sub-cancel-left (at + 1) (getD s at 0)) (sym (name-stands g .value))
-
--- numbers, byte by byte
-module _ (s : List ℕ) (at : ℕ) where
-  next-byte : (w : ℕ) → littleEndian (suc w) (drop at s) ≡ getD s at 0 + 256 * littleEndian w (drop (at + 1) s)
-  unfolding littleEndian
-  next-byte w =
-      let z : at + 0 ≡ at = omega arith in
-      rw (drop-drop 1 at s, getD-drop at s 0 0, z)
-
-no-bytes : (s : List ℕ) → littleEndian 0 s ≡ 0
-unfolding littleEndian
-no-bytes s = refl
-
-module _ (s : List ℕ) (at : ℕ) {a b : ℕ} (p : a ≡ getD s at 0) (q : b ≡ getD s (at + 1) 0) where
-  pub two-bytes : a + 256 * b ≡ littleEndian 2 (drop at s)
-  two-bytes =
-      let x = next-byte s at 1 in
-      let y = next-byte s (at + 1) 0 in
-      let z = no-bytes (drop (at + 1 + 1) s) in
-      omega arith
-
-  pub four-bytes : {c d : ℕ} → c ≡ getD s (at + 2) 0 → d ≡ getD s (at + 3) 0 → a + 256 * (b + 256 * (c + 256 * d)) ≡ littleEndian 4 (drop at s)
-  four-bytes {c} {d} r t =
-      let u : at + 1 + 1 ≡ at + 2 = omega arith in
-      let v : at + 2 + 1 ≡ at + 3 = omega arith in
-      let w = next-byte s at 3 in
-      let x = rw u at (next-byte s (at + 1) 2) in
-      let y = rw v at (next-byte s (at + 2) 1) in
-      let z = next-byte s (at + 3) 0 in
-      let o = no-bytes (drop (at + 3 + 1) s) in
-      omega arith

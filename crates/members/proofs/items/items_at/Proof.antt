@@ -12,7 +12,7 @@ u16-at-requires c κs = search needs
 
 returns : tie.Need-returns
 unfolding itemsAt
-returns c = rw (c .u16-at .ensures)
+returns c = rw (c .u16-at .ensures .0)
 
 pub items-at-spec : {M : Type 1} → statement M
 items-at-spec = tie.close (tie.spec add-t3 u16-at-requires returns)

@@ -1,8 +1,8 @@
--- `parts::numbers::u32_at` meets its contract. Assumes nothing.
+-- `image::numbers::u32_at` meets its contract. Assumes nothing.
 use borrow.Author.Needs.{needs}
-use Rattle.parts.proofs.Laws.Steps.{four-bytes}
-use Rattle.parts.proofs.numbers.u32_at.Statement.{statement}
-use Rattle.parts.proofs.numbers.u32_at.Tie as tie
+use Rattle.image.proofs.Laws.Numbers.{four-bytes}
+use Rattle.image.proofs.numbers.u32_at.Statement.{statement}
+use Rattle.image.proofs.numbers.u32_at.Tie as tie
 
 byte-requires : tie.Need-byte-requires
 byte-requires c κs = search needs
@@ -44,7 +44,7 @@ add-result-3 : tie.Need-add-result-3
 add-result-3 c = search needs
 
 returns : tie.Need-returns
-returns c = four-bytes (c .before .before .before .before .before .args .image .now) (c .before .before .before .before .before .args .at) (c .before .before .before .byte .ensures .0) (c .before .before .byte2 .ensures .0) (c .before .byte3 .ensures .0) (c .byte4 .ensures .0)
+returns c = four-bytes (c .before .before .before .before .before .args .s .now) (c .before .before .before .before .before .args .at) (c .before .before .before .byte .ensures .0) (c .before .before .byte2 .ensures .0) (c .before .byte3 .ensures .0) (c .byte4 .ensures .0)
 
 pub u32-at-spec : {M : Type 1} → statement M
 u32-at-spec = tie.close (tie.spec byte-requires add-byte byte-requires-2 add-byte-2 byte-requires-3 add-byte-3 byte-requires-4 mul-result add-result mul-result-2 add-result-2 mul-result-3 add-result-3 returns)

@@ -1,9 +1,9 @@
--- `parts::numbers::byte` meets its contract. Assumes nothing.
+-- `image::numbers::byte` meets its contract. Assumes nothing.
 use mathlib.Core.Path.{refl}
 use native.Mathlib.Omega.{arith}
 use borrow.Author.Needs.{needs}
-use Rattle.parts.proofs.numbers.byte.Statement.{statement}
-use Rattle.parts.proofs.numbers.byte.Tie as tie
+use Rattle.image.proofs.numbers.byte.Statement.{statement}
+use Rattle.image.proofs.numbers.byte.Tie as tie
 
 shared-slice-read-result : tie.Need-shared-slice-read-result
 shared-slice-read-result c = search needs
