@@ -12,6 +12,8 @@ UNFIT = re.compile(r"has no `Need-|\.Lts\.[^`]*` has no field|expected type `tie
 FUNCTION = re.compile(r'^(\s*)(?:pub(?:\(crate\))? )?(?:extern "C" )?fn (\w+)')
 IMPL = re.compile(r"^impl (\w+)")
 CLAUSE = re.compile(r"\b(?:requires|ensures) \{")
+# Texts, arrows and operators. A proof may fail for one operation more although the answer is right, so a wrong answer has as many as the code.
+TOKEN = re.compile(r'"(?:[^"\\]|\\.)*"|\'(?:\\.|[^\'])\'|=>|->|[-+*/%]=?|[<>=!]=|[<>]|&&|\|\|')
 
 
 class Function(NamedTuple):
@@ -22,10 +24,12 @@ class Function(NamedTuple):
 
 
 class Answer(NamedTuple):
-    """A wrong answer, and the functions that it changes; None for a change of anything else, also of a contract, which others rest on."""
+    """A wrong answer, and the functions that it changes; None for a change of anything else, also of a contract, which others rest on. With
+    its lines of code that have more or fewer operations than before."""
 
     label: str
     functions: set[Function | None]
+    reshaped: list[str]
 
 
 def names_at(source: str, text: str) -> list[str]:
@@ -53,18 +57,26 @@ def function_at(crate: Path, file: str, text: str) -> Function | None:
     return Function("::".join([crate.name, *names]), str(folders[0].relative_to(crate)) if folders else None)
 
 
+def operations(text: str) -> int:
+    """How many operators stand in a text of code."""
+    return sum(token[0] not in "\"\'" and token not in ("=>", "->") for token in TOKEN.findall(text))
+
+
 def answers(crate: Path, edit: Path) -> list[Answer]:
     """The wrong answers of an edit file."""
     found: list[Answer] = []
-    file = ""
+    file = old = ""
     for line in edit.read_text().splitlines():
         if line.startswith("#"):
-            found.append(Answer(line.lstrip("# "), set()))
+            found.append(Answer(line.lstrip("# "), set(), []))
         elif line.startswith("file: "):
             file = line.removeprefix("file: ")
         elif line.startswith("old: "):
-            found = found or [Answer("", set())]
-            found[-1].functions.add(function_at(crate, file, line.removeprefix("old: ")))
+            found = found or [Answer("", set(), [])]
+            old = line.removeprefix("old: ")
+            found[-1].functions.add(function_at(crate, file, old))
+        elif line.startswith("new:") and found and file.startswith("src/") and operations(line[4:]) != operations(old):
+            found[-1].reshaped.append(line)
     return found
 
 
@@ -80,6 +92,8 @@ def faults_of(answer: Answer, alone: bool, log: str) -> list[str]:
     """Whether a wrong answer was refused in a function that it changes because a fact fails, as the first error there says."""
     if None in answer.functions and not alone:
         return [f"{answer.label}: it changes more than functions, so it needs a file of its own"]
+    if answer.reshaped:
+        return [f"{answer.label}: it has other operations than the code: {answer.reshaped[0]}"]
     found = [line for function in answer.functions for line in refusals(function, log)]
     if not found:
         return [f"{answer.label}: no error in its log"]

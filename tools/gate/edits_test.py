@@ -98,6 +98,17 @@ class Edits(unittest.TestCase):
         log.write_text("fn maps::pairs::searched: no proof: expected `searched-spec`; `search` does not close `returns`\n")
         self.assertEqual(edits.edits(self.root), (1, []))
 
+    def test_a_wrong_answer_with_one_operation_more_fails(self):
+        for text in ("a + 0", "a % 2", "a == a"):
+            passed, faults = self.found(FIRST.replace("new:     0", f"new:     {text}"), ("proofs/pairs/first/Proof.antt", FACT))
+            self.assertEqual((passed, len(faults)), (0, 1))
+        third = "# three\nfile: src/pairs.rt\nold: c + SIDE\nnew: c - SIDE\n"
+        self.assertEqual(self.found(third, ("proofs/pairs/+third/Proof.antt", FACT)), (1, []))
+
+    def test_operations_are_counted_outside_of_texts(self):
+        for text, count in (('b"a + b" => b\'-\',', 0), ("if a <= b && c != 1 {", 3), ("x -> y; z += 1", 1)):
+            self.assertEqual(edits.operations(text), count)
+
     def test_two_wrong_answers_in_one_function_fail(self):
         passed, faults = self.found(FIRST + FIRST.replace("one", "same"), ("proofs/pairs/first/Proof.antt", FACT))
         self.assertEqual(faults, ["must-fail maps/1: proofs/pairs/first has two wrong answers in one file"])
