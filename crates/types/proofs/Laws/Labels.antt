@@ -89,7 +89,8 @@ module _ (l m : Label) (D : Regular l) (E : Regular m) (t : l .tag ≡ m .tag) w
   unfolding sameNames sameList
   first-only h n =
       let k : m .tag ≡ 1 → ⊥ = λ e. n (t ∙ e) in
-      rw (parts l m t, low (l .tag) h, D .second n, E .second k, D .names (λ e. absurd (omega arith)), E .names (λ e. absurd (omega arith))) (and-true (eqb (l .first) (m .first)))
+      rw (parts l m t, low (l .tag) h, D .second n, E .second k, D .names (λ e. absurd (omega arith)), E .names (λ e. absurd (omega arith)))
+      (and-true (eqb (l .first) (m .first)))
 
   both-numbers : l .tag ≡ 1 → equalLabel l m ≡ (eqb (l .first) (m .first) && eqb (l .second) (m .second))
   unfolding sameNames sameList
@@ -100,12 +101,27 @@ module _ (l m : Label) (D : Regular l) (E : Regular m) (t : l .tag ≡ m .tag) w
   unfolding vector
   names-only h =
       let k : m .tag ≡ 16 = sym t ∙ h in
-      rw (parts l m t, h, D .first (omega arith) (λ e. absurd (omega arith)), E .first (omega arith) (λ e. absurd (omega arith)), D .second (λ e. absurd (omega arith)), E .second (λ e. absurd (omega arith)))
+      rw (
+        parts l m t,
+        h,
+        D .first (omega arith) (λ e. absurd (omega arith)),
+        E .first (omega arith) (λ e. absurd (omega arith)),
+        D .second (λ e. absurd (omega arith)),
+        E .second (λ e. absurd (omega arith)),
+      )
 
   tag-only : 3 < l .tag → (l .tag ≡ 6 → ⊥) → (l .tag ≡ 16 → ⊥) → equalLabel l m ≡ ltb (l .tag) 10
   unfolding vector sameNames sameList
   tag-only h n k =
-      rw (parts l m t, D .first h n, E .first (omega arith) (λ e. n (t ∙ e)), D .second (λ e. absurd (omega arith)), E .second (λ e. absurd (omega arith)), D .names k, E .names (λ e. k (t ∙ e)))
+      rw (
+        parts l m t,
+        D .first h n,
+        E .first (omega arith) (λ e. n (t ∙ e)),
+        D .second (λ e. absurd (omega arith)),
+        E .second (λ e. absurd (omega arith)),
+        D .names k,
+        E .names (λ e. k (t ∙ e)),
+      )
       (go (leb 10 (l .tag)) refl)
     where
       go : (q : Bool) → leb 10 (l .tag) ≡ q → (not (leb 10 (l .tag) && leb (l .tag) 15) && true) ≡ ltb (l .tag) 10
@@ -136,7 +152,8 @@ module _ (s : List ℕ) (i : ℕ) (t : List ℕ) (j : ℕ) {x y : ℕ} (p : x �
     pub by-name : x ≡ 3 → {u v : ℕ} → u ≡ labelIn s i .first → v ≡ labelIn t j .first → {r : Bool} → r ≡ sameNames (namedBy s u) (namedBy t v) → r ≡ equalLabel (nodeIn s i) (nodeIn t j)
     unfolding vector
     by-name h k m c =
-        rw (named _ (labelIn s i) (sym p ∙ h), named _ (labelIn t j) (sym q ∙ sym e ∙ h)) (c ∙ rw (k, m) (sym (parts (label 3 0 0 (namedBy s (labelIn s i .first))) (label 3 0 0 (namedBy t (labelIn t j .first))) refl)))
+        rw (named _ (labelIn s i) (sym p ∙ h), named _ (labelIn t j) (sym q ∙ sym e ∙ h))
+        (c ∙ rw (k, m) (sym (parts (label 3 0 0 (namedBy s (labelIn s i .first))) (label 3 0 0 (namedBy t (labelIn t j .first))) refl)))
 
     module _ (g : LabelHere s i) (h : LabelHere t j) where
       -- neither has an id
@@ -154,7 +171,8 @@ module _ (s : List ℕ) (i : ℕ) (t : List ℕ) (j : ℕ) {x y : ℕ} (p : x �
         unfolding namesIn
         by-names l k m c =
             c
-            ∙ rw (k, m, ← (bits-listed s i g (sym p ∙ l) .are), ← (bits-listed t j h (sym q ∙ sym e ∙ l) .are)) (sym (as-they-are ∙ names-only _ _ (label-regular s i g) (label-regular t j h) tags (sym p ∙ l)))
+            ∙ rw (k, m, ← (bits-listed s i g (sym p ∙ l) .are), ← (bits-listed t j h (sym q ∙ sym e ∙ l) .are))
+            (sym (as-they-are ∙ names-only _ _ (label-regular s i g) (label-regular t j h) tags (sym p ∙ l)))
 
         pub by-tag : 3 < x → (x ≡ 6 → ⊥) → (x ≡ 16 → ⊥) → ltb x 10 ≡ equalLabel (nodeIn s i) (nodeIn t j)
         by-tag l m k = rw p (sym (as-they-are ∙ tag-only _ _ (label-regular s i g) (label-regular t j h) tags (omega arith) (λ z. m (p ∙ z)) (λ z. k (p ∙ z))))

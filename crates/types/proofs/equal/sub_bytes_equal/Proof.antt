@@ -20,7 +20,10 @@ type-bits-requires-2 : tie.Need-type-bits-requires-2
 type-bits-requires-2 c κs = search needs
 
 returns-2 : tie.Need-returns-2
-returns-2 c = rw (← c .before .before .before .before .type-code .ensures, ← c .before .before .before .type-code2 .ensures, eq-eqb _ _ (c .before .before .if1 .left), ← c .before .type-bits .ensures, ← c .type-bits2 .ensures)
+returns-2 c =
+    let e = c .before .before in
+    let k = e .before in
+    rw (← k .before .type-code .ensures, ← k .type-code2 .ensures, eq-eqb _ _ (e .if1 .left), ← c .before .type-bits .ensures, ← c .type-bits2 .ensures)
 
 pub sub-bytes-equal-spec : {M : Type 1} → statement M
 sub-bytes-equal-spec =

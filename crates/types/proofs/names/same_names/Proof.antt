@@ -22,7 +22,9 @@ returns : tie.Need-returns Inv-loop μ-loop
 returns c = sym (counts-differ _ _ _ _ (c .if1 .taken))
 
 loop-holds : tie.Need-loop-holds Inv-loop μ-loop
-loop-holds c = (c .before .before .before .before .before .pre .0, (rw (← c .if1 .left) at (c .before .before .before .before .before .pre .1)), refl)
+loop-holds c =
+    let p = c .before .before .before .before .before .pre in
+    (p .0, (rw (← c .if1 .left) at (p .1)), refl)
 
 name-at-requires : tie.Need-name-at-requires Inv-loop μ-loop
 name-at-requires c κs = name-here _ _ _ (omega arith) (c .before .loop .inv .0)
@@ -35,8 +37,12 @@ same-name-requires c κs = search needs
 
 returns-2 : tie.Need-returns-2 Inv-loop μ-loop
 returns-2 c =
-    let v = c .before .before .before .before .before .loop .inv in
-    same-count _ _ _ _ (c .before .before .before .before .before .before .if1 .left) (v .2 ∙ first-differs _ _ _ _ _ (c .before .before .before .before .loop-test .taken) (c .before .before .before .name-at .ensures) (c .before .before .name-at2 .ensures) (c .before .same-name .ensures) (not-true _ (c .if2 .taken)))
+    let n = c .before .before in
+    let i = n .before .before in
+    same-count _ _ _ _ (i .before .before .if1 .left)
+    (i .before .loop .inv .2
+    ∙ first-differs _ _ _ _ _ (i .loop-test .taken) (n .before .name-at .ensures) (n .name-at2 .ensures) (c .before .same-name .ensures)
+    (not-true _ (c .if2 .taken)))
 
 name-end-requires : tie.Need-name-end-requires Inv-loop μ-loop
 name-end-requires c κs = name-here _ _ _ (omega arith) (c .before .before .before .before .before .loop .inv .0)
@@ -52,9 +58,16 @@ loop-less c = omega arith
 
 loop-again : tie.Need-loop-again Inv-loop μ-loop
 loop-again c =
-    let v = c .before .before .before .before .before .before .before .loop .inv in
-    let l = c .before .before .before .before .before .before .loop-test .taken in
-    (names-after _ _ _ l (v .0) (c .before .name-end .ensures), names-after _ _ _ l (v .1) (c .name-end2 .ensures), v .2 ∙ first-same _ _ _ _ _ l (c .before .before .before .before .before .name-at .ensures) (c .before .before .before .before .name-at2 .ensures) (c .before .before .before .same-name .ensures) (not-false _ (c .before .before .if2 .left)) (c .before .name-end .ensures) (c .name-end2 .ensures))
+    let e = c .before .before in
+    let n = e .before .before in
+    let l = n .before .before .loop-test .taken in
+    let v = n .before .before .before .loop .inv in (
+      names-after _ _ _ l (v .0) (c .before .name-end .ensures),
+      names-after _ _ _ l (v .1) (c .name-end2 .ensures),
+      v .2
+          ∙ first-same _ _ _ _ _ l (n .before .name-at .ensures) (n .name-at2 .ensures) (e .before .same-name .ensures) (not-false _ (e .if2 .left))
+          (c .before .name-end .ensures) (c .name-end2 .ensures),
+    )
 
 returns-3 : tie.Need-returns-3 Inv-loop μ-loop
 returns-3 c = same-count _ _ _ _ (c .before .before .if1 .left) (c .before .loop .inv .2 ∙ both-none _ _ _ _ _ (omega arith))

@@ -12,10 +12,16 @@ segments-requires-2 : tie.Need-segments-requires-2
 segments-requires-2 c κs = search needs
 
 same-names-requires : tie.Need-same-names-requires
-same-names-requires c κs = (segments-in _ (c .before .before .before .before .pre .0) (c .before .segments .ensures), segments-in _ (c .before .before .before .before .pre .1) (c .segments2 .ensures))
+same-names-requires c κs =
+    let p = c .before .before .before .before .pre in
+    (segments-in _ (p .0) (c .before .segments .ensures), segments-in _ (p .1) (c .segments2 .ensures))
 
 returns : tie.Need-returns
-returns c = c .same-names .ensures ∙ rw (segment-names _ (c .before .before .before .before .before .pre .0) (c .before .before .segments .ensures), segment-names _ (c .before .before .before .before .before .pre .1) (c .before .segments2 .ensures))
+returns c =
+    c .same-names .ensures
+    ∙ (
+    let p = c .before .before .before .before .before .pre in
+    rw (segment-names _ (p .0) (c .before .before .segments .ensures), segment-names _ (p .1) (c .before .segments2 .ensures)))
 
 pub namespaces-equal-spec : {M : Type 1} → statement M
 namespaces-equal-spec =
