@@ -96,7 +96,8 @@ module _ (s : List ℕ) (t : ℕ) where
       → showLeaf (nodeIn s t) ≡ together (bytes "bits { " ∷ joined (bytes ", ") names ∷ bytes " }" ∷ [])
   unfolding showLeaf together
   leaf-bits l n =
-      rw (unnamed (λ z. absurd (omega arith)), ne-eqb (labelIn s t .tag) 0 (λ z. absurd (omega arith)), ne-eqb (labelIn s t .tag) 1 (λ z. absurd (omega arith)), ne-eqb (labelIn s t .tag) 2 (λ z. absurd (omega arith)), ne-eqb (labelIn s t .tag) 3 (λ z. absurd (omega arith)), n)
+      let past : (k : ℕ) → k < 4 → eqb (labelIn s t .tag) k ≡ false = (λ k h. ne-eqb _ k (λ z. absurd (omega arith))) in
+      rw (unnamed (λ z. absurd (omega arith)), past 0 (omega arith), past 1 (omega arith), past 2 (omega arith), past 3 (omega arith), n)
 
   pub size-none : (labelIn s t .tag ≡ 6 → ⊥) → showSize (nodeIn s t) ≡ []
   unfolding showSize
@@ -157,7 +158,8 @@ deltas-around (suc n) text =
     let d = bytes "delta(" in
     let c = bytes ")" in
     ap (λ (l : List ℕ). d ++ (l ++ c)) (deltas-around n text)
-    ∙ ap (λ (l : List ℕ). d ++ l) (append-assoc (repeated n d) (text ++ repeated n c) c ∙ ap (λ (l : List ℕ). repeated n d ++ l) (append-assoc text (repeated n c) c ∙ ap (λ (l : List ℕ). text ++ l) (repeated-last n c)))
+    ∙ ap (λ (l : List ℕ). d ++ l) (append-assoc (repeated n d) (text ++ repeated n c) c)
+    ∙ ap (λ (l : List ℕ). d ++ (repeated n d ++ l)) (append-assoc text (repeated n c) c ∙ ap (λ (l : List ℕ). text ++ l) (repeated-last n c))
     ∙ sym (append-assoc d (repeated n d) (text ++ (c ++ repeated n c)))
 
 pub encoding-text : (e : Encoding) → showEncoding (codingOf e) ≡ together (repeated (e .deltas) (bytes "delta(") ∷ wordIn (bytes "default varint zigzag ") (e .base) ∷ repeated (e .deltas) (bytes ")") ∷ [])

@@ -14,7 +14,9 @@ bit-names-requires : tie.Need-bit-names-requires
 bit-names-requires c κs = search needs
 
 returns-2 : tie.Need-returns-2
-returns-2 c = bits-label-names _ _ (c .before .before .before .before .pre) (c .before .before .type-tag .ensures) (c .before .if1 .left) (c .bit-names .ensures)
+returns-2 c =
+    let e = c .before in
+    bits-label-names _ _ (e .before .before .before .pre) (e .before .type-tag .ensures) (e .if1 .left) (c .bit-names .ensures)
 
 pub label-names-spec : {M : Type 1} → statement M
 label-names-spec = tie.close (tie.spec type-tag-requires returns bit-names-requires returns-2)

@@ -29,13 +29,15 @@ loop-less : tie.Need-loop-less Inv-loop μ-loop
 loop-less c = omega arith
 
 loop-again : tie.Need-loop-again Inv-loop μ-loop
-loop-again c = owes-next (owes-cut (repeated-more _ _ (c .before .before .before .before .loop-test .taken)) (c .before .before .before .before .before .loop .inv)) (c .before .before .put-text .ensures)
-
-same-length : tie.Need-same-length Inv-loop μ-loop
-same-length c = puts-length _ (c .before .before .before .before .pre) (owes-end (owes-cut (repeated-none _ _ (omega arith)) (c .before .loop .inv)))
+loop-again c =
+    let x = c .before .before in
+    owes-next (owes-cut (repeated-more _ _ (x .before .before .loop-test .taken)) (x .before .before .before .loop .inv)) (x .put-text .ensures)
 
 returns : tie.Need-returns Inv-loop μ-loop
 returns c = owes-end (owes-cut (repeated-none _ _ (omega arith)) (c .before .loop .inv))
+
+same-length : tie.Need-same-length Inv-loop μ-loop
+same-length c = puts-length _ (c .before .before .before .before .pre) (returns c)
 
 pub put-times-spec : {M : Type 1} → statement M
 put-times-spec =

@@ -14,10 +14,25 @@ use Rattle.display.proofs.names.names_display.Tie as tie
 
 abbrev Inv-loop : tie.InvT-loop
 Inv-loop mode image out₀ at between done₀ next₀ left₀ out done next left =
-    NamesIn image (run next left) × Owes mode out₀ at (joined between (namesIn image (run next₀ left₀))) done out (joined between (namesIn image (run next left)) ∷ [])
+    NamesIn image (run next left)
+    × Owes mode out₀ at (joined between (namesIn image (run next₀ left₀))) done out (joined between (namesIn image (run next left)) ∷ [])
 
 abbrev μ-loop : tie.MeasureT-loop
 μ-loop mode image out₀ at between done₀ next₀ left₀ out done next left = left
+
+-- a place, with the invariant and the measure
+abbrev here : (tie.InvT-loop → tie.MeasureT-loop → Type 0) → Type 0
+here place = place Inv-loop μ-loop
+
+-- the way back: from the name's end to the name, from there to the loop, and from there to the start
+abbrev start : here tie.At-loop → here tie.Start
+start c = c .before .before .before .before
+
+abbrev loop : here tie.After-name-at → here tie.At-loop
+loop c = c .before .before .before
+
+abbrev name : here tie.After-name-end → here tie.After-name-at
+name c = c .before .before .before .before .before .before .before .before
 
 loop-holds : tie.Need-loop-holds Inv-loop μ-loop
 loop-holds c = (c .before .before .before .pre .0, owes-whole (c .before .before .before .pre .1))
@@ -26,13 +41,20 @@ name-at-requires : tie.Need-name-at-requires Inv-loop μ-loop
 name-at-requires c κs = name-here _ _ _ (omega arith) (c .before .before .loop .inv .0)
 
 put-text-requires : tie.Need-put-text-requires Inv-loop μ-loop
-put-text-requires c κs = owes-room (owes-cut (joined-more _ _ _ _ (c .before .before .loop-test .taken) (c .name-at .ensures) refl) (c .before .before .before .loop .inv .1))
+put-text-requires c κs =
+    owes-room (owes-cut (joined-more _ _ _ _ (c .before .before .loop-test .taken) (c .name-at .ensures) refl) (loop c .loop .inv .1))
 
 put-text-requires-2 : tie.Need-put-text-requires-2 Inv-loop μ-loop
-put-text-requires-2 c κs = owes-room (owes-next (owes-cut (joined-more _ _ _ _ (c .before .before .before .before .before .before .loop-test .taken) (c .before .before .before .before .name-at .ensures) refl) (c .before .before .before .before .before .before .before .loop .inv .1)) (c .before .before .before .put-text .ensures))
+put-text-requires-2 c κs =
+    let x = c .before .before .before in
+    let n = x .before in
+    owes-room
+    (owes-next
+    (owes-cut (joined-more _ _ _ _ (n .before .before .loop-test .taken) (n .name-at .ensures) refl) (loop n .loop .inv .1))
+    (x .put-text .ensures))
 
 name-end-requires : tie.Need-name-end-requires Inv-loop μ-loop
-name-end-requires c κs = name-here _ _ _ (omega arith) (c .before .before .before .before .before .before .before .before .before .before .loop .inv .0)
+name-end-requires c κs = name-here _ _ _ (omega arith) (loop (c .before .before .before .before .before .before .before) .loop .inv .0)
 
 sub-left : tie.Need-sub-left Inv-loop μ-loop
 sub-left c = omega arith
@@ -41,13 +63,22 @@ loop-less : tie.Need-loop-less Inv-loop μ-loop
 loop-less c = omega arith
 
 loop-again : tie.Need-loop-again Inv-loop μ-loop
-loop-again c = (names-after _ _ _ (omega arith) (c .before .before .before .before .before .before .before .before .before .before .before .loop .inv .0) (c .name-end .ensures), owes-next (owes-next (owes-cut (joined-more _ _ _ _ (c .before .before .before .before .before .before .before .before .before .before .loop-test .taken) (c .before .before .before .before .before .before .before .before .name-at .ensures) (c .name-end .ensures)) (c .before .before .before .before .before .before .before .before .before .before .before .loop .inv .1)) (c .before .before .before .before .before .before .before .put-text .ensures)) (c .before .before .before .put-text2 .ensures))
-
-same-length : tie.Need-same-length Inv-loop μ-loop
-same-length c = puts-length _ (c .before .before .before .before .before .before .pre .1) (owes-end (owes-cut (joined-none _ _ _ _ (c .if1 .taken)) (c .before .before .loop .inv .1)))
+loop-again c =
+    let n = name c in
+    let y = c .before .before .before in (
+      names-after _ _ _ (omega arith) (loop n .loop .inv .0) (c .name-end .ensures),
+      owes-next
+          (owes-next
+          (owes-cut (joined-more _ _ _ _ (n .before .before .loop-test .taken) (n .name-at .ensures) (c .name-end .ensures)) (loop n .loop .inv .1))
+          (y .before .before .before .before .put-text .ensures))
+          (y .put-text2 .ensures),
+    )
 
 returns : tie.Need-returns Inv-loop μ-loop
 returns c = owes-end (owes-cut (joined-none _ _ _ _ (c .if1 .taken)) (c .before .before .loop .inv .1))
+
+same-length : tie.Need-same-length Inv-loop μ-loop
+same-length c = puts-length _ (start (c .before .before) .pre .1) (returns c)
 
 name-at-requires-2 : tie.Need-name-at-requires-2 Inv-loop μ-loop
 name-at-requires-2 c κs = name-here _ _ _ (omega arith) (c .before .before .before .loop .inv .0)
@@ -55,11 +86,16 @@ name-at-requires-2 c κs = name-here _ _ _ (omega arith) (c .before .before .bef
 put-text-requires-3 : tie.Need-put-text-requires-3 Inv-loop μ-loop
 put-text-requires-3 c κs = owes-room (owes-cut (joined-one _ _ _ _ (omega arith) (c .name-at2 .ensures)) (c .before .before .before .before .loop .inv .1))
 
-same-length-2 : tie.Need-same-length-2 Inv-loop μ-loop
-same-length-2 c = puts-length _ (c .before .before .before .before .before .before .before .before .before .before .before .pre .1) (owes-end (owes-next (owes-cut (joined-one _ _ _ _ (omega arith) (c .before .before .before .name-at2 .ensures)) (c .before .before .before .before .before .before .before .loop .inv .1)) (c .before .before .put-text3 .ensures)))
-
 returns-2 : tie.Need-returns-2 Inv-loop μ-loop
-returns-2 c = owes-end (owes-next (owes-cut (joined-one _ _ _ _ (omega arith) (c .before .before .before .name-at2 .ensures)) (c .before .before .before .before .before .before .before .loop .inv .1)) (c .before .before .put-text3 .ensures))
+returns-2 c =
+    let x = c .before .before in
+    owes-end
+    (owes-next
+    (owes-cut (joined-one _ _ _ _ (omega arith) (x .before .name-at2 .ensures)) (x .before .before .before .before .before .loop .inv .1))
+    (x .put-text3 .ensures))
+
+same-length-2 : tie.Need-same-length-2 Inv-loop μ-loop
+same-length-2 c = puts-length _ (start (c .before .before .before .before .before .before .before) .pre .1) (returns-2 c)
 
 pub names-display-spec : {M : Type 1} → statement M
 names-display-spec =

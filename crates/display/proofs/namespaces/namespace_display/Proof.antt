@@ -16,14 +16,20 @@ slice-aggregate-names-display c = search needs
 
 names-display-requires : tie.Need-names-display-requires
 unfolding bytes
-names-display-requires c κs = (segments-in _ (c .before .before .before .before .before .pre .0) (c .before .segments .ensures), space-for (ap (joined (bytes ".")) (segment-names _ (c .before .before .before .before .before .pre .0) (c .before .segments .ensures))) (c .before .before .before .before .before .pre .1))
+names-display-requires c κs =
+    let p = c .before .before .before .before .before .pre in
+    let s = c .before .segments .ensures in
+    (segments-in _ (p .0) s, space-for (ap (joined (bytes ".")) (segment-names _ (p .0) s)) (p .1))
 
 same-length : tie.Need-same-length
 same-length c = search needs
 
 returns : tie.Need-returns
 unfolding bytes
-returns c = puts-for (ap (joined (bytes ".")) (segment-names _ (c .before .before .before .before .before .before .before .before .pre .0) (c .before .before .before .before .segments .ensures))) (c .before .before .names-display .ensures)
+returns c =
+    let s = c .before .before .before .before in
+    puts-for (ap (joined (bytes ".")) (segment-names _ (s .before .before .before .before .pre .0) (s .segments .ensures)))
+    (c .before .before .names-display .ensures)
 
 pub namespace-display-spec : {M : Type 1} → statement M
 namespace-display-spec =

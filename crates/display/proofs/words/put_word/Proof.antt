@@ -20,13 +20,17 @@ part-put-text-end : tie.Need-part-put-text-end
 part-put-text-end c = search needs
 
 put-text-requires : tie.Need-put-text-requires
-put-text-requires c κs = rw (word-part _ _ _ _ (c .before .before .before .word-start .ensures) (c .before .before .word-end .ensures)) (c .before .before .before .before .before .before .pre)
+put-text-requires c κs =
+    let e = c .before .before in
+    rw (word-part _ _ _ _ (e .before .word-start .ensures) (e .word-end .ensures)) (e .before .before .before .before .pre)
 
 same-length : tie.Need-same-length
 same-length c = search needs
 
 returns : tie.Need-returns
-returns c = rw (word-part _ _ _ _ (c .before .before .before .before .before .before .word-start .ensures) (c .before .before .before .before .before .word-end .ensures)) at (c .before .before .put-text .ensures)
+returns c =
+    let e = c .before .before .before .before .before in
+    rw (word-part _ _ _ _ (e .before .word-start .ensures) (e .word-end .ensures)) at (c .before .before .put-text .ensures)
 
 pub put-word-spec : {M : Type 1} → statement M
 put-word-spec =
