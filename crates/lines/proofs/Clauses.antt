@@ -119,7 +119,8 @@ module _ (old new : List ℕ) (a : Accepted old) (b : Accepted new) where
   -- ---- 1. the namespace
 
   pub namespace-changed :
-      Reports old new namespaceChanged (not (sameNames (schemaOf old .namespace) (schemaOf new .namespace))) (compareNamespaces (schemaOf old .namespace) (schemaOf new .namespace))
+      Reports old new namespaceChanged (not (sameNames (schemaOf old .namespace) (schemaOf new .namespace)))
+      (compareNamespaces (schemaOf old .namespace) (schemaOf new .namespace))
   unfolding changeOf bumpAt declarationOf itemOf detailText subjectText verbText valuesText valueText bytes ScopeHere ItemOfHere SubjectHere ValuesHere ValueHere compareNamespaces
   namespace-changed = record { here = places namespaceChanged (omega arith) (omega arith) tt tt tt (tt, tt); are = refl }
 
@@ -148,7 +149,8 @@ module _ (old new : List ℕ) (a : Accepted old) (b : Accepted new) where
 
   module _ (c : Scope) (m : ScopeHere old new c) where
     module _ (r : Reader) where
-      pub field-removed : (i : ℕ) → ItemHere Shape.Field old i → Reports old new (fieldRemoved c i) true (fieldRules r (declarationOf old new c) .gone (fieldIn old i))
+      pub field-removed : (i : ℕ) → ItemHere Shape.Field old i
+          → Reports old new (fieldRemoved c i) true (fieldRules r (declarationOf old new c) .gone (fieldIn old i))
       unfolding changeOf bumpAt declarationOf itemOf detailText subjectText verbText valuesText valueText bytes ScopeHere ItemOfHere SubjectHere ValuesHere ValueHere fieldRules fieldText wordText
       field-removed i h =
           let n = field-named h in
@@ -157,7 +159,8 @@ module _ (old new : List ℕ) (a : Accepted old) (b : Accepted new) where
             are = always (same-change (ap some (n .called)) (item-said n Word.Field (bytes " was removed")));
           }
 
-      pub field-added : (j : ℕ) → ItemHere Shape.Field new j → Reports old new (fieldAdded c j) true (fieldRules r (declarationOf old new c) .came (fieldIn new j))
+      pub field-added : (j : ℕ) → ItemHere Shape.Field new j
+          → Reports old new (fieldAdded c j) true (fieldRules r (declarationOf old new c) .came (fieldIn new j))
       unfolding changeOf bumpAt declarationOf itemOf detailText subjectText verbText valuesText valueText bytes ScopeHere ItemOfHere SubjectHere ValuesHere ValueHere fieldRules fieldText wordText
       field-added j h =
           let n = field-named h in
@@ -167,7 +170,8 @@ module _ (old new : List ℕ) (a : Accepted old) (b : Accepted new) where
           }
 
     module _ (i j : ℕ) (g : ItemHere Shape.Field old i) (h : ItemHere Shape.Field new j) where
-      pub field-renamed : Reports old new (fieldRenamed c i j) (not (sameName (itemName old i) (itemName new j))) (compareFieldNames (declarationOf old new c) (fieldIn old i) (fieldIn new j))
+      pub field-renamed : Reports old new (fieldRenamed c i j) (not (sameName (itemName old i) (itemName new j)))
+          (compareFieldNames (declarationOf old new c) (fieldIn old i) (fieldIn new j))
       unfolding changeOf bumpAt declarationOf itemOf detailText subjectText verbText valuesText valueText bytes ScopeHere ItemOfHere SubjectHere ValuesHere ValueHere fieldOrdinalText compareFieldNames
       field-renamed =
           let n = field-named h in
@@ -180,7 +184,8 @@ module _ (old new : List ℕ) (a : Accepted old) (b : Accepted new) where
 
       pub field-type-changed : (same : Reading) → Reports old new (fieldTypeChanged c j (typePlace old i) (typePlace new j))
           (not (same (resolve (schemaOf old .registry) (treeIn old (typePlace old i))) (resolve (schemaOf new .registry) (treeIn new (typePlace new j)))))
-          (compareTypes (reader same (schemaOf old .registry) (schemaOf new .registry)) (declarationOf old new c) (some (fieldIn new j .name)) (fieldText (fieldIn new j)) (fieldIn old i .type) (fieldIn new j .type))
+          (compareTypes (reader same (schemaOf old .registry) (schemaOf new .registry)) (declarationOf old new c) (some (fieldIn new j .name))
+          (fieldText (fieldIn new j)) (fieldIn old i .type) (fieldIn new j .type))
       unfolding changeOf bumpAt declarationOf itemOf detailText subjectText verbText valuesText valueText bytes ScopeHere ItemOfHere SubjectHere ValuesHere ValueHere compareTypes fieldText wordText itemText
       field-type-changed same =
           let n = field-named h in
@@ -202,7 +207,8 @@ module _ (old new : List ℕ) (a : Accepted old) (b : Accepted new) where
 
       pub field-deprecated : Reports old new (fieldDeprecated c j)
           (not (fieldIn old i .marks .deprecated) && fieldIn new j .marks .deprecated)
-          (compareDeprecated (declarationOf old new c) (some (fieldIn new j .name)) (bytes "field " ++ quoted (fieldIn new j .name)) (fieldIn old i .marks) (fieldIn new j .marks))
+          (compareDeprecated (declarationOf old new c) (some (fieldIn new j .name)) (bytes "field " ++ quoted (fieldIn new j .name))
+          (fieldIn old i .marks) (fieldIn new j .marks))
       unfolding changeOf bumpAt declarationOf itemOf detailText subjectText verbText valuesText valueText bytes ScopeHere ItemOfHere SubjectHere ValuesHere ValueHere fieldNameText compareDeprecated
       field-deprecated =
           let n = field-named h in
@@ -235,7 +241,8 @@ module _ (old new : List ℕ) (a : Accepted old) (b : Accepted new) where
         are = always (same-change (ap some (n .called)) (item-said n Word.Variant (bytes " was removed")));
       }
 
-      pub variant-added : (b : Bump) (j : ℕ) → Named new j (v .name) (v .ordinal) → Reports old new (variantAdded (level b) d j) true (variantCame b (declIn old d .name) v)
+      pub variant-added : (b : Bump) (j : ℕ) → Named new j (v .name) (v .ordinal)
+          → Reports old new (variantAdded (level b) d j) true (variantCame b (declIn old d .name) v)
       unfolding changeOf declarationOf itemOf detailText subjectText verbText valuesText valueText bytes ScopeHere ItemOfHere SubjectHere ValuesHere ValueHere variantCame variantText wordText
       variant-added b j n = record {
         here = places (variantAdded (level b) d j) (omega arith) (bump-bound b) g (n .here) (n .here) tt;

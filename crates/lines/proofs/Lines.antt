@@ -27,9 +27,14 @@ level-bump (suc (suc (suc l))) h = absurd (omega arith)
 pub site-line :
     (old new : List ℕ) (s : Site)
     → s .bump .level ≤ 2
-    → changeLine (changeOf old new s) ≡ together (linePieces (changeWord (s .kind) ∷ bumpWord (s .bump .level) ∷ declarationOf old new (s .scope) ∷ fieldPart (itemOf old new (s .item)) ∷ detailText old new (s .detail) ∷ []))
+    → changeLine (changeOf old new s)
+    ≡ together (linePieces (changeWord (s .kind) ∷ bumpWord (s .bump .level) ∷ declarationOf old new (s .scope)
+    ∷ fieldPart (itemOf old new (s .item)) ∷ detailText old new (s .detail) ∷ []))
 unfolding changeLine changeOf
-site-line old new s h = rw (level-bump (s .bump .level) h) (line-pieces (changeWord (s .kind) ∷ bumpWord (s .bump .level) ∷ declarationOf old new (s .scope) ∷ fieldPart (itemOf old new (s .item)) ∷ detailText old new (s .detail) ∷ []))
+site-line old new s h =
+    rw (level-bump (s .bump .level) h)
+    (line-pieces (changeWord (s .kind) ∷ bumpWord (s .bump .level) ∷ declarationOf old new (s .scope)
+    ∷ fieldPart (itemOf old new (s .item)) ∷ detailText old new (s .detail) ∷ []))
 
 pub result-most : (l : ℕ) → resultAt l < 2
 result-most l = go (eqb l 2)
