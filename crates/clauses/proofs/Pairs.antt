@@ -40,9 +40,11 @@ module _ (old new : List ℕ) (c : Scope) (i j : ℕ) where
   abbrev pub fieldParts : List (List Change)
   fieldParts =
       compareFieldNames (declarationOf old new c) (fieldIn old i) (fieldIn new j)
-      ∷ compareTypes (reading old new) (declarationOf old new c) (some (fieldIn new j .name)) (fieldText (fieldIn new j)) (fieldIn old i .type) (fieldIn new j .type)
+      ∷ compareTypes (reading old new) (declarationOf old new c) (some (fieldIn new j .name)) (fieldText (fieldIn new j))
+      (fieldIn old i .type) (fieldIn new j .type)
       ∷ compareEncodings (declarationOf old new c) (fieldIn old i) (fieldIn new j)
-      ∷ compareDeprecated (declarationOf old new c) (some (fieldIn new j .name)) (bytes "field " ++ quoted (fieldIn new j .name)) (fieldIn old i .marks) (fieldIn new j .marks)
+      ∷ compareDeprecated (declarationOf old new c) (some (fieldIn new j .name)) (bytes "field " ++ quoted (fieldIn new j .name))
+      (fieldIn old i .marks) (fieldIn new j .marks)
       ∷ []
 
   pub field-parts : compareFields (reading old new) (declarationOf old new c) (fieldIn old i) (fieldIn new j) ≡ together fieldParts
@@ -60,7 +62,8 @@ module _ {old new : List ℕ} {c : Scope} {i j : ℕ} (p : FieldPair old new c i
 
   pub type-changed : Reports old new (fieldTypeChanged c j (typePlace old i) (typePlace new j))
       (typesDiffer old new (typePlace old i) (typePlace new j))
-      (compareTypes (reading old new) (declarationOf old new c) (some (fieldIn new j .name)) (fieldText (fieldIn new j)) (fieldIn old i .type) (fieldIn new j .type))
+      (compareTypes (reading old new) (declarationOf old new c) (some (fieldIn new j .name)) (fieldText (fieldIn new j))
+      (fieldIn old i .type) (fieldIn new j .type))
   type-changed = field-type-changed old new (p .accepted .0) (p .accepted .1) c (p .scope) i j (p .here .0) (p .here .1) sameType
 
   pub encoding-changed : Reports old new (fieldEncodingChanged c i j)
@@ -70,7 +73,8 @@ module _ {old new : List ℕ} {c : Scope} {i j : ℕ} (p : FieldPair old new c i
 
   pub deprecated : Reports old new (fieldDeprecated c j)
       (not (fieldIn old i .marks .deprecated) && fieldIn new j .marks .deprecated)
-      (compareDeprecated (declarationOf old new c) (some (fieldIn new j .name)) (bytes "field " ++ quoted (fieldIn new j .name)) (fieldIn old i .marks) (fieldIn new j .marks))
+      (compareDeprecated (declarationOf old new c) (some (fieldIn new j .name)) (bytes "field " ++ quoted (fieldIn new j .name))
+      (fieldIn old i .marks) (fieldIn new j .marks))
   deprecated = field-deprecated old new (p .accepted .0) (p .accepted .1) c (p .scope) i j (p .here .0) (p .here .1)
 
   pub types-here : TypeHere 32 old (typePlace old i) × TypeHere 32 new (typePlace new j)
@@ -116,7 +120,8 @@ module _ {old new : List ℕ} {a b : Run} {k i j : ℕ} where
       → Over old new (fieldItems (Scope.Variant d i) m n) (keptAt old new (unionItems d a b) k)
   unfolding OwnerHere ScopeHere declarationOf compareFieldSets unionRules
   variant-kept {d} {m} {n} p q r =
-      let w = over (fieldItems (Scope.Variant d i) m n) {xs = variantIn old i .fields} {ys = variantIn new j .fields} (p .inside .accepted) (p .inside .owner, p .here .0)
+      let w = over (fieldItems (Scope.Variant d i) m n) {xs = variantIn old i .fields} {ys = variantIn new j .fields}
+      (p .inside .accepted) (p .inside .owner, p .here .0)
       (rw q (variant-listed old i (p .here .0))) (rw r (variant-listed new j (p .here .1))) in
       record { inside = w .inside; are = p .are ∙ w .are }
 
@@ -156,10 +161,12 @@ enumItems i j a b = record { of = Owner.Enum i j; old = a; new = b }
 -- what is reported of an enum's variants
 abbrev pub enumChanges : List ℕ → List ℕ → ℕ → ℕ → List Change
 enumChanges old new i j =
-    compare variantOrdinal ltb (enumRules (declIn old i .name) (declIn new j .marks)) (variantMap (declIn old i .variants)) (variantMap (declIn new j .variants))
+    compare variantOrdinal ltb (enumRules (declIn old i .name) (declIn new j .marks))
+    (variantMap (declIn old i .variants)) (variantMap (declIn new j .variants))
 
 pub enum-parts : (old new : List ℕ) (i j : ℕ)
-    → ofPair (λ r. compareEnums) old new i j ≡ together (compareNonExhaustive (declIn old i .name) (declIn old i .marks) (declIn new j .marks) ∷ enumChanges old new i j ∷ [])
+    → ofPair (λ r. compareEnums) old new i j
+    ≡ together (compareNonExhaustive (declIn old i .name) (declIn old i .marks) (declIn new j .marks) ∷ enumChanges old new i j ∷ [])
 unfolding compareEnums together
 enum-parts old new i j = refl
 

@@ -59,7 +59,8 @@ abbrev pub leftKept : List ℕ → List ℕ → Items → Ordinal → ℕ
 leftKept old new x after = walkLeft old new x Side.Old after
 
 module _ {old new : List ℕ} {x : Items} (p : ItemsIn old new x) where
-  pub kept-less : (after : Ordinal) {r : Ordinal} → NextOn old new x Side.Old after r → {k : ℕ} → r ≡ Is k → leftKept old new x (Is k) < leftKept old new x after
+  pub kept-less : (after : Ordinal) {r : Ordinal} → NextOn old new x Side.Old after r → {k : ℕ} → r ≡ Is k
+      → leftKept old new x (Is k) < leftKept old new x after
   kept-less after a e = walk-less p Side.Old after a e
 
   module _ {m : Mode} {d : List ℕ} {t : Tally} where

@@ -19,21 +19,27 @@ use Rattle.clauses.proofs.enums.compare_enums.Tie as tie
 
 abbrev Left : (s : tie.Start) (r : Tally) (d : List ℕ) (ps : List (List Change)) → Type 0
 Left s r d ps =
-    Owed (s .args .mode) (s .args .out .now) (s .args .t) (ofPair (λ r. compareEnums) (s .args .old .now) (s .args .new .now) (s .args .i) (s .args .j)) r d ps
+    Owed (s .args .mode) (s .args .out .now) (s .args .t)
+    (ofPair (λ r. compareEnums) (s .args .old .now) (s .args .new .now) (s .args .i) (s .args .j))
+    r d ps
 
 abbrev variants : tie.Start → List Change
 variants s = enumChanges (s .args .old .now) (s .args .new .now) (s .args .i) (s .args .j)
 
-told : (c : tie.After-emit-if) → Left (c .before .before .before .before .before .before .before .before) (c .emit-if .result) (c .emit-if .last .1 .1 .1 .0) (variants (c .before .before .before .before .before .before .before .before) ∷ [])
+abbrev s₀ : tie.After-emit-if → tie.Start
+s₀ c = c .before .before .before .before .before .before .before .before
+
+told : (c : tie.After-emit-if) → Left (s₀ c) (c .emit-if .result) (c .emit-if .last .1 .1 .1 .0) (variants (s₀ c) ∷ [])
 told c =
-    owed-next (owed-start (enum-parts _ _ _ _) (c .before .before .before .before .before .before .before .before .pre .1))
-    (test-ran (openness-changed (c .before .before .before .before .before .before .before .before .pre .0 .pair)) (c .before .non-exhaustive-changed .ensures)
+    let s = s₀ c in
+    owed-next (owed-start (enum-parts _ _ _ _) (s .pre .1))
+    (test-ran (openness-changed (s .pre .0 .pair)) (c .before .non-exhaustive-changed .ensures)
     (marks-differ (c .before .before .before .before .non-exhaustive .ensures) (c .before .before .before .non-exhaustive2 .ensures))
     (c .emit-if .ensures))
 
 -- the variants, once their places are known
 abbrev st : tie.After-decl-items2 → tie.Start
-st c = c .before .before .before .before .before .before .before .before .before .before .before .before
+st c = s₀ (c .before .before .before .before)
 
 abbrev items : tie.After-decl-items2 → Items
 items c = enumItems (st c .args .i) (st c .args .j) (c .before .decl-items .result) (c .decl-items2 .result)
@@ -45,7 +51,8 @@ inside c = enum-variants (c .before .decl-items .ensures) (c .decl-items2 .ensur
 abbrev Rest : (k : ℕ) (c : tie.After-decl-items2) (r : Tally) (d : List ℕ) → Type 0
 Rest k c r d = Left (st c) r d (drop k (loneParts (st c .args .old .now) (st c .args .new .now) (items c)))
 
-o₀ : (c : tie.After-decl-items2) → Rest 0 c (c .before .before .before .before .emit-if .result) (c .before .before .before .before .emit-if .last .1 .1 .1 .0)
+o₀ : (c : tie.After-decl-items2)
+    → Rest 0 c (c .before .before .before .before .emit-if .result) (c .before .before .before .before .emit-if .last .1 .1 .1 .0)
 o₀ c = owed-cut (enum-rest (c .before .decl-items .ensures) (c .decl-items2 .ensures) (st c .pre .0)) (told (c .before .before .before .before))
 
 o₁ : (c : tie.After-unmatched-items) → Rest 1 (c .before .before) (c .unmatched-items .result) (c .unmatched-items .last .1 .1 .1 .0)
@@ -62,21 +69,28 @@ non-exhaustive-changed-requires c κs = search needs
 
 emit-if-requires : tie.Need-emit-if-requires
 emit-if-requires c κs =
-    test-asks (openness-changed (c .before .before .before .before .before .before .before .pre .0 .pair)) (c .non-exhaustive-changed .ensures)
+    let s = c .before .before .before .before .before .before .before in
+    test-asks (openness-changed (s .pre .0 .pair)) (c .non-exhaustive-changed .ensures)
     (marks-differ (c .before .before .before .non-exhaustive .ensures) (c .before .before .non-exhaustive2 .ensures))
-    (owed-room (owed-start (enum-parts _ _ _ _) (c .before .before .before .before .before .before .before .pre .1)))
+    (owed-room (owed-start (enum-parts _ _ _ _) (s .pre .1)))
 
 decl-items-requires : tie.Need-decl-items-requires
-decl-items-requires c κs = (c .before .before .before .before .before .before .before .before .before .before .pre .0 .pair .here .0, omega (arith, c .before .before .before .before .before .before .before .before .before .before .pre .0 .kinds .0))
+decl-items-requires c κs =
+    let p = s₀ (c .before .before) .pre .0 in
+    (p .pair .here .0, omega (arith, p .kinds .0))
 
 decl-items-requires-2 : tie.Need-decl-items-requires-2
-decl-items-requires-2 c κs = (c .before .before .before .before .before .before .before .before .before .before .before .pre .0 .pair .here .1, omega (arith, c .before .before .before .before .before .before .before .before .before .before .before .pre .0 .kinds .1))
+decl-items-requires-2 c κs =
+    let p = s₀ (c .before .before .before) .pre .0 in
+    (p .pair .here .1, omega (arith, p .kinds .1))
 
 unmatched-items-requires : tie.Need-unmatched-items-requires
 unmatched-items-requires c κs = (inside (c .before), owed-room (o₀ (c .before)))
 
 unmatched-items-requires-2 : tie.Need-unmatched-items-requires-2
-unmatched-items-requires-2 c κs = (inside (c .before .before .before .before .before), owed-room (o₁ (c .before .before .before)))
+unmatched-items-requires-2 c κs =
+    let l = c .before .before .before in
+    (inside (l .before .before), owed-room (o₁ l))
 
 same-length : tie.Need-same-length
 same-length c = search needs

@@ -20,23 +20,36 @@ Left k s r d =
     Owed (s .args .mode) (s .args .out .now) (s .args .t) (itemChanges (s .args .old .now) (s .args .new .now) (items s)) r d
     (drop k (allParts (s .args .old .now) (s .args .new .now) (items s)))
 
+-- the start, from each part
+abbrev s₁ : tie.After-unmatched-items → tie.Start
+s₁ c = c .before .before .before .before .before
+
+abbrev s₂ : tie.After-unmatched-items2 → tie.Start
+s₂ c = s₁ (c .before .before .before .before)
+
 o₀ : (s : tie.Start) → Left 0 s (s .args .t) (s .args .out .now)
 o₀ s = owed-start (all-parts _ _ (items s)) (s .pre .1)
 
-o₁ : (c : tie.After-unmatched-items) → Left 1 (c .before .before .before .before .before) (c .unmatched-items .result) (c .unmatched-items .last .1 .1 .1 .0)
-o₁ c = owed-next (o₀ (c .before .before .before .before .before)) (c .unmatched-items .ensures)
+o₁ : (c : tie.After-unmatched-items) → Left 1 (s₁ c) (c .unmatched-items .result) (c .unmatched-items .last .1 .1 .1 .0)
+o₁ c = owed-next (o₀ (s₁ c)) (c .unmatched-items .ensures)
 
-o₂ : (c : tie.After-unmatched-items2) → Left 2 (c .before .before .before .before .before .before .before .before .before) (c .unmatched-items2 .result) (c .unmatched-items2 .last .1 .1 .1 .0)
+o₂ : (c : tie.After-unmatched-items2) → Left 2 (s₂ c) (c .unmatched-items2 .result) (c .unmatched-items2 .last .1 .1 .1 .0)
 o₂ c = owed-next (o₁ (c .before .before .before .before)) (c .unmatched-items2 .ensures)
 
 unmatched-items-requires : tie.Need-unmatched-items-requires
-unmatched-items-requires c κs = (c .before .before .before .before .pre .0, owed-room (o₀ (c .before .before .before .before)))
+unmatched-items-requires c κs =
+    let s = c .before .before .before .before in
+    (s .pre .0, owed-room (o₀ s))
 
 unmatched-items-requires-2 : tie.Need-unmatched-items-requires-2
-unmatched-items-requires-2 c κs = (c .before .before .before .before .before .before .before .before .pre .0, owed-room (o₁ (c .before .before .before)))
+unmatched-items-requires-2 c κs =
+    let l = c .before .before .before in
+    (s₁ l .pre .0, owed-room (o₁ l))
 
 kept-fields-requires : tie.Need-kept-fields-requires
-kept-fields-requires c κs = (c .before .before .before .before .before .before .before .before .before .before .before .before .pre .0, owed-room (o₂ (c .before .before .before)))
+kept-fields-requires c κs =
+    let l = c .before .before .before in
+    (s₂ l .pre .0, owed-room (o₂ l))
 
 same-length : tie.Need-same-length
 same-length c = search needs

@@ -11,10 +11,15 @@ field-encoding-requires-2 : tie.Need-field-encoding-requires-2
 field-encoding-requires-2 c κs = search needs
 
 returns : tie.Need-returns
-returns c = other-deltas _ _ (c .before .before .before .before .field-encoding .ensures) (c .before .before .before .field-encoding2 .ensures) (c .if1 .taken) _
+returns c =
+    let e = c .before .before .before in
+    other-deltas _ _ (e .before .field-encoding .ensures) (e .field-encoding2 .ensures) (c .if1 .taken) _
 
 returns-2 : tie.Need-returns-2
-returns-2 c = other-base _ _ (c .before .before .before .before .before .before .before .field-encoding .ensures) (c .before .before .before .before .before .before .field-encoding2 .ensures) (c .before .before .before .if1 .left) (c .if2 .taken) _
+returns-2 c =
+    let d = c .before .before .before in
+    let e = d .before .before .before in
+    other-base _ _ (e .before .field-encoding .ensures) (e .field-encoding2 .ensures) (d .if1 .left) (c .if2 .taken) _
 
 field-limit-requires : tie.Need-field-limit-requires
 field-limit-requires c κs = search needs
@@ -27,7 +32,10 @@ limits-equal-requires c κs = search needs
 
 returns-3 : tie.Need-returns-3
 returns-3 c =
-    same-base _ _ (c .before .before .before .before .before .before .before .before .before .before .field-encoding .ensures) (c .before .before .before .before .before .before .before .before .before .field-encoding2 .ensures) (c .before .before .before .before .before .before .if1 .left) (c .before .before .before .if2 .left)
+    let b = c .before .before .before in
+    let d = b .before .before .before in
+    let e = d .before .before .before in
+    same-base _ _ (e .before .field-encoding .ensures) (e .field-encoding2 .ensures) (d .if1 .left) (b .if2 .left)
     (c .before .before .field-limit .ensures) (c .before .field-limit2 .ensures) (c .limits-equal .ensures)
 
 pub encodings-equal-spec : {M : Type 1} → statement M

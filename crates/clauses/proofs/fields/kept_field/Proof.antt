@@ -7,12 +7,22 @@ use borrow.Author.Needs.{needs}
 use Rattle.clauses.proofs.fields.kept_field.Statement.{statement}
 use Rattle.clauses.proofs.fields.kept_field.Tie as tie
 
--- both fields are found
-abbrev st : tie.After-j → tie.Start
-st c = c .before .before .before .before .before .before .before .before .before .before
+-- the start, from each item that is looked for, and from where both are found
+abbrev s₁ : tie.After-survivor-item → tie.Start
+s₁ c = c .before .before .before .before
 
-kept : (c : tie.After-j) → Kept (st c .args .old .now) (st c .args .new .now) (fieldItems (st c .args .scope) (st c .args .a) (st c .args .b)) (st c .args .ordinal) (c .before .before .before .before .i .given .0 .0) (c .j .given .0 .0)
-kept c = both-found (st c .pre .0) (c .before .before .before .before .before .before .survivor-item .ensures) (c .before .before .before .before .i .given .1) (c .before .before .survivor-item2 .ensures) (c .j .given .1)
+abbrev s₂ : tie.After-survivor-item2 → tie.Start
+s₂ c = s₁ (c .before .before .before .before)
+
+abbrev st : tie.After-j → tie.Start
+st c = s₂ (c .before .before)
+
+kept : (c : tie.After-j) → Kept (st c .args .old .now) (st c .args .new .now) (fieldItems (st c .args .scope) (st c .args .a) (st c .args .b))
+    (st c .args .ordinal) (c .before .before .before .before .i .given .0 .0) (c .j .given .0 .0)
+kept c =
+    let l = c .before .before in
+    both-found (st c .pre .0) (l .before .before .before .before .survivor-item .ensures) (l .before .before .i .given .1)
+    (l .survivor-item2 .ensures) (c .j .given .1)
 
 survivor-item-requires : tie.Need-survivor-item-requires
 survivor-item-requires c κs = search needs
@@ -24,7 +34,9 @@ enum-told : tie.Need-enum-told
 enum-told c = search needs
 
 returns : tie.Need-returns
-returns c = ran-none (kept-none-old (c .before .before .before .before .before .before .pre .0) _ (c .before .before .survivor-item .ensures) (c .enum-told .given .1)) (c .before .before .before .before .before .before .pre .1)
+returns c =
+    let l = c .before .before in
+    ran-none (kept-none-old (s₁ l .pre .0) _ (l .survivor-item .ensures) (c .enum-told .given .1)) (s₁ l .pre .1)
 
 survivor-item-requires-2 : tie.Need-survivor-item-requires-2
 survivor-item-requires-2 c κs = search needs
@@ -36,10 +48,14 @@ enum-told-2 : tie.Need-enum-told-2
 enum-told-2 c = search needs
 
 returns-2 : tie.Need-returns-2
-returns-2 c = ran-none (kept-none-new (c .before .before .before .before .before .before .before .before .before .before .pre .0) _ (c .before .before .survivor-item2 .ensures) (c .enum-told2 .given .1)) (c .before .before .before .before .before .before .before .before .before .before .pre .1)
+returns-2 c =
+    let l = c .before .before in
+    ran-none (kept-none-new (s₂ l .pre .0) _ (l .survivor-item2 .ensures) (c .enum-told2 .given .1)) (s₂ l .pre .1)
 
 compare-fields-requires : tie.Need-compare-fields-requires
-compare-fields-requires c κs = (field-pair (kept (c .before .before)), rw (field-kept (kept (c .before .before))) at (c .before .before .before .before .before .before .before .before .before .before .before .before .pre .1))
+compare-fields-requires c κs =
+    let j = c .before .before in
+    (field-pair (kept j), rw (field-kept (kept j)) at (st j .pre .1))
 
 same-length : tie.Need-same-length
 same-length c = search needs

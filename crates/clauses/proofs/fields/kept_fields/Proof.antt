@@ -15,6 +15,10 @@ Inv-loop mode old new out₀ scope a b tally₀ after₀ out tally after =
 abbrev μ-loop : tie.MeasureT-loop
 μ-loop mode old new out₀ scope a b tally₀ after₀ out tally after = leftKept old new (fieldItems scope a b) after
 
+-- the start, from the next ordinal
+abbrev st : tie.After-next-item Inv-loop μ-loop → tie.Start Inv-loop μ-loop
+st c = c .before .before .before .before .before
+
 loop-holds : tie.Need-loop-holds Inv-loop μ-loop
 loop-holds c = kept-start (c .before .before .before .pre .0) (c .before .before .before .pre .1)
 
@@ -28,21 +32,29 @@ enum-told : tie.Need-enum-told Inv-loop μ-loop
 enum-told c = search needs
 
 returns : tie.Need-returns Inv-loop μ-loop
-returns c = kept-done (c .before .before .before .before .before .before .before .pre .0) _ (c .before .before .before .loop .inv) (c .before .before .next-item .ensures) (c .enum-told .given .1)
+returns c =
+    let n = c .before .before in
+    kept-done (st n .pre .0) _ (n .before .loop .inv) (n .next-item .ensures) (c .enum-told .given .1)
 
 same-length : tie.Need-same-length Inv-loop μ-loop
-same-length c = ran-length (returns c) (c .before .before .before .before .before .before .before .pre .1)
+same-length c = ran-length (returns c) (st (c .before .before) .pre .1)
 
 kept-field-requires : tie.Need-kept-field-requires Inv-loop μ-loop
 kept-field-requires c κs =
-    (c .before .before .before .before .before .before .before .before .before .pre .0, owed-room (kept-turn (c .before .before .before .before .before .before .before .before .before .pre .0) _ (c .before .before .before .before .before .loop .inv) (c .before .before .before .before .next-item .ensures) (c .before .before .ordinal .given .1)))
+    let n = c .before .before .before .before in
+    let p = st n .pre .0 in
+    (p, owed-room (kept-turn p _ (n .before .loop .inv) (n .next-item .ensures) (c .before .before .ordinal .given .1)))
 
 loop-less : tie.Need-loop-less Inv-loop μ-loop
-loop-less c = kept-less (c .before .before .before .before .before .before .before .before .before .before .before .before .pre .0) _ (c .before .before .before .before .before .before .before .next-item .ensures) (c .before .before .before .before .before .ordinal .given .1)
+loop-less c =
+    let n = c .before .before .before .before .before .before .before in
+    kept-less (st n .pre .0) _ (n .next-item .ensures) (c .before .before .before .before .before .ordinal .given .1)
 
 loop-again : tie.Need-loop-again Inv-loop μ-loop
 loop-again c =
-    owed-next (kept-turn (c .before .before .before .before .before .before .before .before .before .before .before .before .pre .0) _ (c .before .before .before .before .before .before .before .before .loop .inv) (c .before .before .before .before .before .before .before .next-item .ensures) (c .before .before .before .before .before .ordinal .given .1)) (c .before .before .kept-field .ensures)
+    let n = c .before .before .before .before .before .before .before in
+    owed-next (kept-turn (st n .pre .0) _ (n .before .loop .inv) (n .next-item .ensures) (c .before .before .before .before .before .ordinal .given .1))
+    (c .before .before .kept-field .ensures)
 
 pub kept-fields-spec : {M : Type 1} → statement M
 kept-fields-spec =

@@ -21,6 +21,9 @@ st c = c .before .before .before .before .before
 abbrev items : tie.After-decl-items2 → Items
 items c = fieldItems (Scope.Old (st c .args .i)) (c .before .decl-items .result) (c .decl-items2 .result)
 
+abbrev s₁ : tie.After-compare-field-sets → tie.Start
+s₁ c = st (c .before .before)
+
 -- after the first k parts
 abbrev Left : (k : ℕ) (c : tie.After-decl-items2) (r : Tally) (d : List ℕ) → Type 0
 Left k c r d =
@@ -43,32 +46,36 @@ decl-items-requires-2 c κs = search needs
 
 compare-field-sets-requires : tie.Need-compare-field-sets-requires
 compare-field-sets-requires c κs =
-    (message-fields (c .before .before .decl-items .ensures) (c .before .decl-items2 .ensures) (c .before .before .before .before .before .before .pre .0) .inside, owed-room (o₀ (c .before)))
+    let l = c .before in
+    (message-fields (l .before .decl-items .ensures) (l .decl-items2 .ensures) (st l .pre .0) .inside, owed-room (o₀ l))
 
 deprecated-requires : tie.Need-deprecated-requires
 deprecated-requires c κs = search needs
 
 deprecated-requires-2 : tie.Need-deprecated-requires-2
-deprecated-requires-2 c κs = c .before .before .before .before .before .before .before .before .before .before .pre .0 .pair .here .1
+deprecated-requires-2 c κs = s₁ (c .before .before .before) .pre .0 .pair .here .1
 
 decl-deprecated-requires : tie.Need-decl-deprecated-requires
 decl-deprecated-requires c κs = search needs
 
 compare-deprecated-requires : tie.Need-compare-deprecated-requires
 compare-deprecated-requires c κs =
-    test-asks (decl-marked (c .before .before .before .before .before .before .before .before .before .before .before .before .before .pre .0 .pair)) (c .decl-deprecated .ensures)
+    let l = c .before .before .before .before .before .before in
+    test-asks (decl-marked (s₁ l .pre .0 .pair)) (c .decl-deprecated .ensures)
     (same-marks (c .before .before .before .deprecated .ensures) (c .before .before .deprecated2 .ensures))
-    (owed-room (o₁ (c .before .before .before .before .before .before)))
+    (owed-room (o₁ l))
 
 same-length : tie.Need-same-length
 same-length c = search needs
 
 returns : tie.Need-returns
 returns c =
+    let d = c .before .before .before in
+    let l = d .before .before .before .before .before .before in
     owed-end
-    (owed-next (o₁ (c .before .before .before .before .before .before .before .before .before))
-    (test-ran (decl-marked (c .before .before .before .before .before .before .before .before .before .before .before .before .before .before .before .before .pre .0 .pair)) (c .before .before .before .decl-deprecated .ensures)
-    (same-marks (c .before .before .before .before .before .before .deprecated .ensures) (c .before .before .before .before .before .deprecated2 .ensures))
+    (owed-next (o₁ l)
+    (test-ran (decl-marked (s₁ l .pre .0 .pair)) (d .decl-deprecated .ensures)
+    (same-marks (d .before .before .before .deprecated .ensures) (d .before .before .deprecated2 .ensures))
     (c .before .before .compare-deprecated .ensures)))
 
 pub compare-messages-spec : {M : Type 1} → statement M

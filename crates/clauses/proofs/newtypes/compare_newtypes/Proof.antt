@@ -17,16 +17,20 @@ newtype-changed-requires c κs = search needs
 
 compare-types-requires : tie.Need-compare-types-requires
 compare-types-requires c κs =
-    let p = c .before .before .before .before .before .before .before .pre .0 in
-    types-ask (newtypeChanged _) (inner-changed p) (c .before .before .before .inner-type .ensures) (c .before .before .inner-type2 .ensures) (c .newtype-changed .ensures)
-    (p .pair .accepted) (inners-here p .0) (inners-here p .1) (c .before .before .before .before .before .before .before .pre .1)
+    let s = c .before .before .before .before .before .before .before in
+    let p = s .pre .0 in
+    types-ask (newtypeChanged _) (inner-changed p)
+    (c .before .before .before .inner-type .ensures) (c .before .before .inner-type2 .ensures) (c .newtype-changed .ensures)
+    (p .pair .accepted) (inners-here p .0) (inners-here p .1) (s .pre .1)
 
 same-length : tie.Need-same-length
 same-length c = search needs
 
 returns : tie.Need-returns
 returns c =
-    types-ran (newtypeChanged _) (inner-changed (c .before .before .before .before .before .before .before .before .before .before .pre .0)) (c .before .before .before .before .before .before .inner-type .ensures) (c .before .before .before .before .before .inner-type2 .ensures) (c .before .before .before .newtype-changed .ensures)
+    let n = c .before .before .before in
+    types-ran (newtypeChanged _) (inner-changed (n .before .before .before .before .before .before .before .pre .0))
+    (n .before .before .before .inner-type .ensures) (n .before .before .inner-type2 .ensures) (n .newtype-changed .ensures)
     (c .before .before .compare-types .ensures)
 
 pub compare-newtypes-spec : {M : Type 1} → statement M

@@ -10,13 +10,17 @@ types-equal-requires : tie.Need-types-equal-requires
 types-equal-requires c κs = search needs
 
 emit-if-requires : tie.Need-emit-if-requires
-emit-if-requires c κs = test-asks (alone (c .before .before .before .before .before .pre .3) _) refl (ap not (c .before .types-equal .ensures)) (c .before .before .before .before .before .pre .4)
+emit-if-requires c κs =
+    let s = c .before .before .before .before .before in
+    test-asks (alone (s .pre .3) _) refl (ap not (c .before .types-equal .ensures)) (s .pre .4)
 
 same-length : tie.Need-same-length
 same-length c = search needs
 
 returns : tie.Need-returns
-returns c = test-ran (alone (c .before .before .before .before .before .before .before .before .pre .3) _) refl (ap not (c .before .before .before .before .types-equal .ensures)) (c .before .before .emit-if .ensures)
+returns c =
+    let e = c .before .before .before .before in
+    test-ran (alone (e .before .before .before .before .pre .3) _) refl (ap not (e .types-equal .ensures)) (c .before .before .emit-if .ensures)
 
 pub compare-types-spec : {M : Type 1} → statement M
 compare-types-spec = tie.close (tie.spec types-equal-requires emit-if-requires same-length returns)

@@ -39,7 +39,8 @@ o₀ c = owed-start (over c .are ∙ all-parts _ _ (items c)) (st c .pre .1)
 o₁ : (c : tie.After-unmatched-items) → Left 1 (c .before .before) (c .unmatched-items .result) (c .unmatched-items .last .1 .1 .1 .0)
 o₁ c = owed-next (o₀ (c .before .before)) (c .unmatched-items .ensures)
 
-o₂ : (c : tie.After-unmatched-items2) → Left 2 (c .before .before .before .before .before .before) (c .unmatched-items2 .result) (c .unmatched-items2 .last .1 .1 .1 .0)
+o₂ : (c : tie.After-unmatched-items2)
+    → Left 2 (c .before .before .before .before .before .before) (c .unmatched-items2 .result) (c .unmatched-items2 .last .1 .1 .1 .0)
 o₂ c = owed-next (o₁ (c .before .before .before .before)) (c .unmatched-items2 .ensures)
 
 decl-items-requires : tie.Need-decl-items-requires
@@ -52,10 +53,14 @@ unmatched-items-requires : tie.Need-unmatched-items-requires
 unmatched-items-requires c κs = (over (c .before) .inside, owed-room (o₀ (c .before)))
 
 unmatched-items-requires-2 : tie.Need-unmatched-items-requires-2
-unmatched-items-requires-2 c κs = (over (c .before .before .before .before .before) .inside, owed-room (o₁ (c .before .before .before)))
+unmatched-items-requires-2 c κs =
+    let l = c .before .before .before in
+    (over (l .before .before) .inside, owed-room (o₁ l))
 
 kept-variants-requires : tie.Need-kept-variants-requires
-kept-variants-requires c κs = (over (c .before .before .before .before .before .before .before .before .before) .inside, owed-room (o₂ (c .before .before .before)))
+kept-variants-requires c κs =
+    let l = c .before .before .before in
+    (over (l .before .before .before .before .before .before) .inside, owed-room (o₂ l))
 
 same-length : tie.Need-same-length
 same-length c = search needs

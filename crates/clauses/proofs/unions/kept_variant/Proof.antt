@@ -7,12 +7,22 @@ use borrow.Author.Needs.{needs}
 use Rattle.clauses.proofs.unions.kept_variant.Statement.{statement}
 use Rattle.clauses.proofs.unions.kept_variant.Tie as tie
 
--- both variants are found
-abbrev st : tie.After-j → tie.Start
-st c = c .before .before .before .before .before .before .before .before .before .before
+-- the start, from each item that is looked for, and from where both are found
+abbrev s₁ : tie.After-survivor-item → tie.Start
+s₁ c = c .before .before .before .before
 
-kept : (c : tie.After-j) → Kept (st c .args .old .now) (st c .args .new .now) (unionItems (st c .args .decl) (st c .args .a) (st c .args .b)) (st c .args .ordinal) (c .before .before .before .before .i .given .0 .0) (c .j .given .0 .0)
-kept c = both-found (st c .pre .0) (c .before .before .before .before .before .before .survivor-item .ensures) (c .before .before .before .before .i .given .1) (c .before .before .survivor-item2 .ensures) (c .j .given .1)
+abbrev s₂ : tie.After-survivor-item2 → tie.Start
+s₂ c = s₁ (c .before .before .before .before)
+
+abbrev st : tie.After-j → tie.Start
+st c = s₂ (c .before .before)
+
+kept : (c : tie.After-j) → Kept (st c .args .old .now) (st c .args .new .now) (unionItems (st c .args .decl) (st c .args .a) (st c .args .b))
+    (st c .args .ordinal) (c .before .before .before .before .i .given .0 .0) (c .j .given .0 .0)
+kept c =
+    let l = c .before .before in
+    both-found (st c .pre .0) (l .before .before .before .before .survivor-item .ensures) (l .before .before .i .given .1)
+    (l .survivor-item2 .ensures) (c .j .given .1)
 
 survivor-item-requires : tie.Need-survivor-item-requires
 survivor-item-requires c κs = search needs
@@ -24,7 +34,9 @@ enum-told : tie.Need-enum-told
 enum-told c = search needs
 
 returns : tie.Need-returns
-returns c = ran-none (kept-none-old (c .before .before .before .before .before .before .pre .0) _ (c .before .before .survivor-item .ensures) (c .enum-told .given .1)) (c .before .before .before .before .before .before .pre .1)
+returns c =
+    let l = c .before .before in
+    ran-none (kept-none-old (s₁ l .pre .0) _ (l .survivor-item .ensures) (c .enum-told .given .1)) (s₁ l .pre .1)
 
 survivor-item-requires-2 : tie.Need-survivor-item-requires-2
 survivor-item-requires-2 c κs = search needs
@@ -36,7 +48,9 @@ enum-told-2 : tie.Need-enum-told-2
 enum-told-2 c = search needs
 
 returns-2 : tie.Need-returns-2
-returns-2 c = ran-none (kept-none-new (c .before .before .before .before .before .before .before .before .before .before .pre .0) _ (c .before .before .survivor-item2 .ensures) (c .enum-told2 .given .1)) (c .before .before .before .before .before .before .before .before .before .before .pre .1)
+returns-2 c =
+    let l = c .before .before in
+    ran-none (kept-none-new (s₂ l .pre .0) _ (l .survivor-item2 .ensures) (c .enum-told2 .given .1)) (s₂ l .pre .1)
 
 variant-items-requires : tie.Need-variant-items-requires
 variant-items-requires c κs = kept (c .before) .here .0
@@ -46,14 +60,18 @@ variant-items-requires-2 c κs = kept (c .before .before) .here .1
 
 compare-field-sets-requires : tie.Need-compare-field-sets-requires
 compare-field-sets-requires c κs =
-    let w = variant-kept (kept (c .before .before .before .before)) (c .before .before .variant-items .ensures) (c .before .variant-items2 .ensures) in
-    (w .inside, rw (w .are) at (c .before .before .before .before .before .before .before .before .before .before .before .before .before .before .pre .1))
+    let j = c .before .before .before .before in
+    let w = variant-kept (kept j) (c .before .before .variant-items .ensures) (c .before .variant-items2 .ensures) in
+    (w .inside, rw (w .are) at (st j .pre .1))
 
 same-length : tie.Need-same-length
 same-length c = search needs
 
 returns-3 : tie.Need-returns-3
-returns-3 c = rw (variant-kept (kept (c .before .before .before .before .before .before .before)) (c .before .before .before .before .before .variant-items .ensures) (c .before .before .before .before .variant-items2 .ensures) .are) (c .before .before .compare-field-sets .ensures)
+returns-3 c =
+    let v = c .before .before .before .before in
+    let w = variant-kept (kept (v .before .before .before)) (v .before .variant-items .ensures) (v .variant-items2 .ensures) in
+    rw (w .are) (c .before .before .compare-field-sets .ensures)
 
 pub kept-variant-spec : {M : Type 1} → statement M
 kept-variant-spec =
