@@ -18,32 +18,51 @@ Left k s t d =
     let new = s .args .new .now in
     Owed (s .args .mode) (s .args .out .now) noChange (allChanges old new) t d (drop k (parts old new))
 
-o₀ : (c : tie.After-empty) → Left 0 (c .before .before .before .before .before) (c .empty .result) (c .before .before .before .before .before .args .out .now)
-o₀ c = parts-start _ _ (c .empty .ensures) (c .before .before .before .before .before .pre .1)
+-- the start, from each part
+abbrev s₀ : tie.After-empty → tie.Start
+s₀ c = c .before .before .before .before .before
 
-o₁ : (c : tie.After-compare-namespaces) → Left 1 (c .before .before .before .before .before .before) (c .compare-namespaces .result) (c .compare-namespaces .last .1 .1 .1 .0)
+abbrev s₁ : tie.After-compare-namespaces → tie.Start
+s₁ c = s₀ (c .before)
+
+abbrev s₂ : tie.After-unmatched-decls → tie.Start
+s₂ c = s₁ (c .before .before .before .before)
+
+abbrev s₃ : tie.After-unmatched-decls2 → tie.Start
+s₃ c = s₂ (c .before .before .before .before)
+
+o₀ : (c : tie.After-empty) → Left 0 (s₀ c) (c .empty .result) (s₀ c .args .out .now)
+o₀ c = parts-start _ _ (c .empty .ensures) (s₀ c .pre .1)
+
+o₁ : (c : tie.After-compare-namespaces) → Left 1 (s₁ c) (c .compare-namespaces .result) (c .compare-namespaces .last .1 .1 .1 .0)
 o₁ c = owed-next (o₀ (c .before)) (c .compare-namespaces .ensures)
 
-o₂ : (c : tie.After-unmatched-decls) → Left 2 (c .before .before .before .before .before .before .before .before .before .before) (c .unmatched-decls .result) (c .unmatched-decls .last .1 .1 .1 .0)
+o₂ : (c : tie.After-unmatched-decls) → Left 2 (s₂ c) (c .unmatched-decls .result) (c .unmatched-decls .last .1 .1 .1 .0)
 o₂ c = owed-next (o₁ (c .before .before .before .before)) (c .unmatched-decls .ensures)
 
-o₃ : (c : tie.After-unmatched-decls2) → Left 3 (c .before .before .before .before .before .before .before .before .before .before .before .before .before .before) (c .unmatched-decls2 .result) (c .unmatched-decls2 .last .1 .1 .1 .0)
+o₃ : (c : tie.After-unmatched-decls2) → Left 3 (s₃ c) (c .unmatched-decls2 .result) (c .unmatched-decls2 .last .1 .1 .1 .0)
 o₃ c = owed-next (o₂ (c .before .before .before .before)) (c .unmatched-decls2 .ensures)
 
 empty-requires : tie.Need-empty-requires
 empty-requires c κs = search needs
 
 compare-namespaces-requires : tie.Need-compare-namespaces-requires
-compare-namespaces-requires c κs = (c .before .before .before .before .before .pre .0, owed-room (o₀ c))
+compare-namespaces-requires c κs = (s₀ c .pre .0, owed-room (o₀ c))
 
 unmatched-decls-requires : tie.Need-unmatched-decls-requires
-unmatched-decls-requires c κs = (c .before .before .before .before .before .before .before .before .before .pre .0, owed-room (o₁ (c .before .before .before)))
+unmatched-decls-requires c κs =
+    let l = c .before .before .before in
+    (s₁ l .pre .0, owed-room (o₁ l))
 
 unmatched-decls-requires-2 : tie.Need-unmatched-decls-requires-2
-unmatched-decls-requires-2 c κs = (c .before .before .before .before .before .before .before .before .before .before .before .before .before .pre .0, owed-room (o₂ (c .before .before .before)))
+unmatched-decls-requires-2 c κs =
+    let l = c .before .before .before in
+    (s₂ l .pre .0, owed-room (o₂ l))
 
 kept-decls-requires : tie.Need-kept-decls-requires
-kept-decls-requires c κs = (c .before .before .before .before .before .before .before .before .before .before .before .before .before .before .before .before .before .pre .0, owed-room (o₃ (c .before .before .before)))
+kept-decls-requires c κs =
+    let l = c .before .before .before in
+    (s₃ l .pre .0, owed-room (o₃ l))
 
 same-length : tie.Need-same-length
 same-length c = search needs

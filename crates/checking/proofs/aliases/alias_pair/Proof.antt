@@ -31,12 +31,15 @@ returns : tie.Need-returns Inv-loop μ-loop
 returns c = aliases-done _ _ _ (c .before .before .next-decl .ensures) (c .enum-told .given .1) ∙ c .before .before .before .loop .inv .1
 
 aliases-at-requires : tie.Need-aliases-at-requires Inv-loop μ-loop
-aliases-at-requires c κs = (c .before .before .before .before .before .before .before .pre, follows-here _ _ (c .before .before .before .next-decl .ensures) (c .before .at .given .1))
+aliases-at-requires c κs =
+    let n = c .before .before .before in
+    (n .before .before .before .before .pre, follows-here _ _ (n .next-decl .ensures) (c .before .at .given .1))
 
 returns-2 : tie.Need-returns-2 Inv-loop μ-loop
 returns-2 c =
     let n = c .before .before .before .before .before in
-    aliases-found _ _ _ (n .next-decl .ensures) (c .before .before .before .at .given .1) (c .before .aliases-at .ensures) (c .if1 .taken) ∙ n .before .loop .inv .1
+    aliases-found _ _ _ (n .next-decl .ensures) (c .before .before .before .at .given .1) (c .before .aliases-at .ensures) (c .if1 .taken)
+    ∙ n .before .loop .inv .1
 
 loop-less : tie.Need-loop-less Inv-loop μ-loop
 loop-less c = decls-less _ _ (c .before .before .before .before .before .next-decl .ensures) (c .before .before .before .at .given .1)
@@ -46,7 +49,8 @@ unfolding EntryHere
 loop-again c =
     let n = c .before .before .before .before .before in (
       follows-here _ _ (n .next-decl .ensures) (c .before .before .before .at .given .1),
-      aliases-turn _ _ _ (n .next-decl .ensures) (c .before .before .before .at .given .1) (c .before .aliases-at .ensures) (c .if1 .left) ∙ n .before .loop .inv .1,
+      aliases-turn _ _ _ (n .next-decl .ensures) (c .before .before .before .at .given .1) (c .before .aliases-at .ensures) (c .if1 .left)
+          ∙ n .before .loop .inv .1,
     )
 
 pub alias-pair-spec : {M : Type 1} → statement M

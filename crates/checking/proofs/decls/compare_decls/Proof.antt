@@ -6,6 +6,10 @@ use borrow.Author.Needs.{needs}
 use Rattle.checking.proofs.decls.compare_decls.Statement.{statement}
 use Rattle.checking.proofs.decls.compare_decls.Tie as tie
 
+-- the start, from where both kinds are known
+abbrev st : tie.After-decl-kind2 → tie.Start
+st c = c .before .before .before .before .before
+
 decl-kind-requires : tie.Need-decl-kind-requires
 decl-kind-requires c κs = search needs
 
@@ -18,8 +22,8 @@ kind-changed-requires c κs = search needs
 emit-requires : tie.Need-emit-requires
 emit-requires c κs =
     let k = c .before .before .before in
-    emit-asks (kinds-differ (k .before .before .before .before .before .pre .0) (k .before .decl-kind .ensures) (k .decl-kind2 .ensures) (c .before .before .if1 .taken)) refl
-    (c .kind-changed .ensures) (k .before .before .before .before .before .pre .1)
+    emit-asks (kinds-differ (st k .pre .0) (k .before .decl-kind .ensures) (k .decl-kind2 .ensures) (c .before .before .if1 .taken)) refl
+    (c .kind-changed .ensures) (st k .pre .1)
 
 same-length : tie.Need-same-length
 same-length c = search needs
@@ -27,14 +31,14 @@ same-length c = search needs
 returns : tie.Need-returns
 returns c =
     let k = c .before .before .before .before .before .before in
-    emit-ran (kinds-differ (k .before .before .before .before .before .pre .0) (k .before .decl-kind .ensures) (k .decl-kind2 .ensures) (c .before .before .before .before .before .if1 .taken)) refl
+    emit-ran (kinds-differ (st k .pre .0) (k .before .decl-kind .ensures) (k .decl-kind2 .ensures) (c .before .before .before .before .before .if1 .taken)) refl
     (c .before .before .before .kind-changed .ensures) (c .before .before .emit .ensures)
 
 compare-kind-requires : tie.Need-compare-kind-requires
 compare-kind-requires c κs =
     let k = c .before .before in
-    agree-asks (k .before .before .before .before .before .pre .0) (k .before .decl-kind .ensures) (k .decl-kind2 .ensures) (c .before .if1 .left)
-    (k .before .before .before .before .before .pre .1)
+    agree-asks (st k .pre .0) (k .before .decl-kind .ensures) (k .decl-kind2 .ensures) (c .before .if1 .left)
+    (st k .pre .1)
 
 same-length-2 : tie.Need-same-length-2
 same-length-2 c = search needs
@@ -42,7 +46,8 @@ same-length-2 c = search needs
 returns-2 : tie.Need-returns-2
 returns-2 c =
     let k = c .before .before .before .before .before in
-    agree-ran (k .before .before .before .before .before .pre .0) (k .before .decl-kind .ensures) (k .decl-kind2 .ensures) (c .before .before .before .before .if1 .left)
+    agree-ran (st k .pre .0) (k .before .decl-kind .ensures) (k .decl-kind2 .ensures)
+    (c .before .before .before .before .if1 .left)
     (c .before .before .compare-kind .ensures)
 
 pub compare-decls-spec : {M : Type 1} → statement M

@@ -14,8 +14,11 @@ st c = c .before .before .before .before .before
 old-stands : (c : tie.After-survivor) → Survives (st c .args .old .now) (declIn (st c .args .old .now) (st c .args .at) .name) (c .survivor .result)
 old-stands c = under (c .before .decl-name .ensures) (c .survivor .ensures)
 
+abbrev st₂ : tie.After-survivor2 → tie.Start
+st₂ c = st (c .before .before .before .before)
+
 new-stands : (c : tie.After-survivor2)
-    → Survives (st (c .before .before .before .before) .args .new .now) (declIn (st (c .before .before .before .before) .args .old .now) (st (c .before .before .before .before) .args .at) .name) (c .survivor2 .result)
+    → Survives (st₂ c .args .new .now) (declIn (st₂ c .args .old .now) (st₂ c .args .at) .name) (c .survivor2 .result)
 new-stands c = under (c .before .before .before .before .before .decl-name .ensures) (c .survivor2 .ensures)
 
 decl-name-requires : tie.Need-decl-name-requires
@@ -45,13 +48,15 @@ enum-told-2 c = search needs
 returns-2 : tie.Need-returns-2
 returns-2 c =
     let o = c .before .before .before .before .before .before in
-    ran-none (new-none _ _ (old-stands o) (new-stands (c .before .before)) (c .before .before .before .before .i .given .1) (c .enum-told2 .given .1)) (st o .pre .2)
+    ran-none (new-none _ _ (old-stands o) (new-stands (c .before .before)) (c .before .before .before .before .i .given .1) (c .enum-told2 .given .1))
+    (st o .pre .2)
 
 compare-decls-requires : tie.Need-compare-decls-requires
 compare-decls-requires c κs =
     let j = c .before .before in
     let o = j .before .before .before .before .before .before in
-    both-asks _ _ (old-stands o) (new-stands (j .before .before)) (j .before .before .before .before .i .given .1) (j .j .given .1) (st o .pre .0) (st o .pre .2)
+    both-asks _ _ (old-stands o) (new-stands (j .before .before)) (j .before .before .before .before .i .given .1) (j .j .given .1)
+    (st o .pre .0) (st o .pre .2)
 
 same-length : tie.Need-same-length
 same-length c = search needs
@@ -59,7 +64,8 @@ same-length c = search needs
 returns-3 : tie.Need-returns-3
 returns-3 c =
     let j = c .before .before .before .before .before in
-    both-ran _ _ (old-stands (j .before .before .before .before .before .before)) (new-stands (j .before .before)) (j .before .before .before .before .i .given .1) (j .j .given .1)
+    both-ran _ _ (old-stands (j .before .before .before .before .before .before)) (new-stands (j .before .before))
+    (j .before .before .before .before .i .given .1) (j .j .given .1)
     (c .before .before .compare-decls .ensures)
 
 pub kept-decl-spec : {M : Type 1} → statement M

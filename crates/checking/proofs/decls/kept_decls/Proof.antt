@@ -48,13 +48,16 @@ kept-decl-requires c κs =
     )
 
 loop-less : tie.Need-loop-less Inv-loop μ-loop
-loop-less c = decls-less _ _ (c .before .before .before .before .before .before .before .next-decl .ensures) (c .before .before .before .before .before .at .given .1)
+loop-less c =
+    let a = c .before .before .before .before .before in
+    decls-less _ _ (a .before .before .next-decl .ensures) (a .at .given .1)
 
 loop-again : tie.Need-loop-again Inv-loop μ-loop
 unfolding keptDecl
 loop-again c =
-    let n = c .before .before .before .before .before .before .before in
-    walk-turn (n .before .loop .inv) (n .next-decl .ensures) (c .before .before .before .before .before .at .given .1) (c .before .before .kept-decl .ensures)
+    let a = c .before .before .before .before .before in
+    let n = a .before .before in
+    walk-turn (n .before .loop .inv) (n .next-decl .ensures) (a .at .given .1) (c .before .before .kept-decl .ensures)
 
 pub kept-decls-spec : {M : Type 1} → statement M
 kept-decls-spec =

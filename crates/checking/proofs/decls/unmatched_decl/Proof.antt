@@ -22,8 +22,15 @@ said s =
     unmatchedDecl (s .args .old .now) (s .args .new .now) (s .args .side)
     (declIn (on (s .args .side) (s .args .old .now) (s .args .new .now)) (s .args .at) .name)
 
+-- the start, from each side where it is looked for, and from where it is found
+abbrev s₁ : tie.After-namesake-off → tie.Start
+s₁ c = c .before .before .before .before
+
+abbrev s₂ : tie.After-namesake-on → tie.Start
+s₂ c = s₁ (c .before .before .before)
+
 abbrev st : tie.After-own → tie.Start
-st c = c .before .before .before .before .before .before .before .before .before
+st c = s₂ (c .before .before)
 
 -- where one stands on this side only, it is reported by the side
 removed-here : (c : tie.After-own) → st c .args .side ≡ Side.Old
@@ -48,7 +55,9 @@ enum-told-2 : tie.Need-enum-told-2
 enum-told-2 c = search needs
 
 returns : tie.Need-returns
-returns c = ran-none (stands-off _ _ _ (c .before .before .namesake-off .ensures) (c .enum-told2 .given .1)) (c .before .before .before .before .before .before .pre .2)
+returns c =
+    let n = c .before .before in
+    ran-none (stands-off _ _ _ (n .namesake-off .ensures) (c .enum-told2 .given .1)) (s₁ n .pre .2)
 
 namesake-on-requires : tie.Need-namesake-on-requires
 namesake-on-requires c κs = search needs
@@ -63,7 +72,7 @@ returns-2 : tie.Need-returns-2
 returns-2 c =
     let n = c .before .before in
     ran-none (stands-nowhere _ _ _ (n .before .before .before .namesake-off .ensures) (n .namesake-on .ensures) (c .enum-told3 .given .1))
-    (n .before .before .before .before .before .before .before .pre .2)
+    (s₂ n .pre .2)
 
 enum-told-4 : tie.Need-enum-told-4
 enum-told-4 c = search needs

@@ -46,13 +46,16 @@ unmatched-decl-requires c κs =
     )
 
 loop-less : tie.Need-loop-less Inv-loop μ-loop
-loop-less c = decls-less _ _ (c .before .before .before .before .before .before .before .next-on .ensures) (c .before .before .before .before .before .at .given .1)
+loop-less c =
+    let a = c .before .before .before .before .before in
+    decls-less _ _ (a .before .before .next-on .ensures) (a .at .given .1)
 
 loop-again : tie.Need-loop-again Inv-loop μ-loop
 unfolding unmatchedDecl
 loop-again c =
-    let n = c .before .before .before .before .before .before .before in
-    walk-turn (n .before .loop .inv) (n .next-on .ensures) (c .before .before .before .before .before .at .given .1) (c .before .before .unmatched-decl .ensures)
+    let a = c .before .before .before .before .before in
+    let n = a .before .before in
+    walk-turn (n .before .loop .inv) (n .next-on .ensures) (a .at .given .1) (c .before .before .unmatched-decl .ensures)
 
 pub unmatched-decls-spec : {M : Type 1} → statement M
 unmatched-decls-spec =
