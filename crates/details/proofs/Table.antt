@@ -42,7 +42,8 @@ part-cut text a b w t =
     let q = both (leb b (length text)) (sameName (take (b - a) (drop a text)) (bytes w)) (p .1) in
     record { forward = leb-true a b (p .0); within = leb-true b (length text) (q .0); is = names-sound .equal (take (b - a) (drop a text)) (bytes w) (q .1) }
 
-cut-from : (text starts : List ℕ) (ws : List String) → isCut text starts ws ≡ true → (k : ℕ) → k < length ws → Cut text (word ws k) (getD starts k 0) (getD starts (suc k) 0)
+cut-from : (text starts : List ℕ) (ws : List String) → isCut text starts ws ≡ true → (k : ℕ) → k < length ws
+    → Cut text (word ws k) (getD starts k 0) (getD starts (suc k) 0)
 unfolding isCut word
 cut-from text starts [] t k h = absurd (omega arith)
 cut-from text [] (w ∷ ws) t k h = absurd (let z : _≡_ {A = ℕ} 0 1 = cc in omega arith)
@@ -62,7 +63,9 @@ change-word k h = ap bytes (List·getD-append changeNames (bumpNames ++ (resultN
 
 pub bump-word : (l : ℕ) → l < 3 → wordAt (18 + l) ≡ bumpWord l
 unfolding wordAt names word bumpWord
-bump-word l h = ap bytes (getD-append-add changeNames (bumpNames ++ (resultNames ++ kindNames)) l "" ∙ List·getD-append bumpNames (resultNames ++ kindNames) "" l h)
+bump-word l h =
+    ap bytes
+    (getD-append-add changeNames (bumpNames ++ (resultNames ++ kindNames)) l "" ∙ List·getD-append bumpNames (resultNames ++ kindNames) "" l h)
 
 pub result-word : (r : ℕ) → r < 2 → wordAt (21 + r) ≡ resultWord r
 unfolding wordAt names word resultWord

@@ -17,6 +17,13 @@ text s = fieldPart (some (s .args .name .now))
 abbrev pieces : tie.Start → List (List ℕ)
 pieces s = bytes "+" ∷ s .args .name .now ∷ []
 
+-- the start, from after each piece
+abbrev s₁ : tie.After-put-byte → tie.Start
+s₁ c = c .before .before .before .before
+
+abbrev s₂ : tie.After-put-text → tie.Start
+s₂ c = s₁ (c .before .before .before .before)
+
 -- after the first k pieces
 abbrev Left : (k : ℕ) (s : tie.Start) (r : ℕ) (d : List ℕ) → Type 0
 Left k s r d = Owes (s .args .mode) (s .args .out .now) (s .args .at) (text s) r d (drop k (pieces s))
@@ -25,11 +32,11 @@ o₀ : (s : tie.Start) → Left 0 s (s .args .at) (s .args .out .now)
 unfolding together fieldPart
 o₀ s = owes-start refl (s .pre)
 
-o₁ : (c : tie.After-put-byte) → Left 1 (c .before .before .before .before) (c .put-byte .result) (c .put-byte .last .1 .0)
+o₁ : (c : tie.After-put-byte) → Left 1 (s₁ c) (c .put-byte .result) (c .put-byte .last .1 .0)
 unfolding bytes
-o₁ c = owes-next (o₀ (c .before .before .before .before)) (c .put-byte .ensures)
+o₁ c = owes-next (o₀ (s₁ c)) (c .put-byte .ensures)
 
-o₂ : (c : tie.After-put-text) → Left 2 (c .before .before .before .before .before .before .before .before) (c .put-text .result) (c .put-text .last .1 .0)
+o₂ : (c : tie.After-put-text) → Left 2 (s₂ c) (c .put-text .result) (c .put-text .last .1 .0)
 unfolding bytes
 o₂ c = owes-next (o₁ (c .before .before .before .before)) (c .put-text .ensures)
 
@@ -45,7 +52,7 @@ returns : tie.Need-returns
 returns c = owes-end (o₂ (c .before .before))
 
 same-length : tie.Need-same-length
-same-length c = puts-length (text (c .before .before .before .before .before .before .before .before .before .before)) (c .before .before .before .before .before .before .before .before .before .before .pre) (returns c)
+same-length c = let s = s₂ (c .before .before) in puts-length (text s) (s .pre) (returns c)
 
 pub put-plus-spec : {M : Type 1} → statement M
 put-plus-spec =

@@ -18,6 +18,19 @@ text s = fromTo (valueText (s .args .old .now) (s .args .a)) (valueText (s .args
 abbrev pieces : tie.Start → List (List ℕ)
 pieces s = bytes " from " ∷ valueText (s .args .old .now) (s .args .a) ∷ bytes " to " ∷ valueText (s .args .new .now) (s .args .b) ∷ []
 
+-- the start, from after each piece
+abbrev s₁ : tie.After-put-text → tie.Start
+s₁ c = c .before .before .before .before .before .before
+
+abbrev s₂ : tie.After-put-value → tie.Start
+s₂ c = s₁ (c .before .before .before .before)
+
+abbrev s₃ : tie.After-put-text2 → tie.Start
+s₃ c = s₂ (c .before .before .before .before .before)
+
+abbrev s₄ : tie.After-put-value2 → tie.Start
+s₄ c = s₃ (c .before .before .before .before)
+
 -- after the first k pieces
 abbrev Left : (k : ℕ) (s : tie.Start) (r : ℕ) (d : List ℕ) → Type 0
 Left k s r d = Owes (s .args .mode) (s .args .out .now) (s .args .at) (text s) r d (drop k (pieces s))
@@ -26,19 +39,19 @@ o₀ : (s : tie.Start) → Left 0 s (s .args .at) (s .args .out .now)
 unfolding together fromTo
 o₀ s = owes-start refl (s .pre .4)
 
-o₁ : (c : tie.After-put-text) → Left 1 (c .before .before .before .before .before .before) (c .put-text .result) (c .put-text .last .1 .0)
+o₁ : (c : tie.After-put-text) → Left 1 (s₁ c) (c .put-text .result) (c .put-text .last .1 .0)
 unfolding bytes
-o₁ c = owes-next (o₀ (c .before .before .before .before .before .before)) (c .put-text .ensures)
+o₁ c = owes-next (o₀ (s₁ c)) (c .put-text .ensures)
 
-o₂ : (c : tie.After-put-value) → Left 2 (c .before .before .before .before .before .before .before .before .before .before) (c .put-value .result) (c .put-value .last .1 .1 .0)
+o₂ : (c : tie.After-put-value) → Left 2 (s₂ c) (c .put-value .result) (c .put-value .last .1 .1 .0)
 unfolding bytes
 o₂ c = owes-next (o₁ (c .before .before .before .before)) (c .put-value .ensures)
 
-o₃ : (c : tie.After-put-text2) → Left 3 (c .before .before .before .before .before .before .before .before .before .before .before .before .before .before .before) (c .put-text2 .result) (c .put-text2 .last .1 .0)
+o₃ : (c : tie.After-put-text2) → Left 3 (s₃ c) (c .put-text2 .result) (c .put-text2 .last .1 .0)
 unfolding bytes
 o₃ c = owes-next (o₂ (c .before .before .before .before .before)) (c .put-text2 .ensures)
 
-o₄ : (c : tie.After-put-value2) → Left 4 (c .before .before .before .before .before .before .before .before .before .before .before .before .before .before .before .before .before .before .before) (c .put-value2 .result) (c .put-value2 .last .1 .1 .0)
+o₄ : (c : tie.After-put-value2) → Left 4 (s₄ c) (c .put-value2 .result) (c .put-value2 .last .1 .1 .0)
 unfolding bytes
 o₄ c = owes-next (o₃ (c .before .before .before .before)) (c .put-value2 .ensures)
 
@@ -48,7 +61,7 @@ put-text-requires c κs = owes-room (o₀ (c .before .before .before .before .be
 
 put-value-requires : tie.Need-put-value-requires
 unfolding bytes
-put-value-requires c κs = (c .before .before .before .before .before .before .before .before .before .pre .0, c .before .before .before .before .before .before .before .before .before .pre .2, owes-room (o₁ (c .before .before .before)))
+put-value-requires c κs = let p = c .before .before .before in (s₁ p .pre .0, s₁ p .pre .2, owes-room (o₁ p))
 
 put-text-requires-2 : tie.Need-put-text-requires-2
 unfolding bytes
@@ -56,7 +69,7 @@ put-text-requires-2 c κs = owes-room (o₂ (c .before .before .before .before))
 
 put-value-requires-2 : tie.Need-put-value-requires-2
 unfolding bytes
-put-value-requires-2 c κs = (c .before .before .before .before .before .before .before .before .before .before .before .before .before .before .before .before .before .before .pre .1, c .before .before .before .before .before .before .before .before .before .before .before .before .before .before .before .before .before .before .pre .3, owes-room (o₃ (c .before .before .before)))
+put-value-requires-2 c κs = let p = c .before .before .before in (s₃ p .pre .1, s₃ p .pre .3, owes-room (o₃ p))
 
 slice-aggregate-put-text : tie.Need-slice-aggregate-put-text
 slice-aggregate-put-text c = search needs
@@ -68,7 +81,7 @@ returns : tie.Need-returns
 returns c = owes-end (o₄ (c .before .before))
 
 same-length : tie.Need-same-length
-same-length c = puts-length (text (c .before .before .before .before .before .before .before .before .before .before .before .before .before .before .before .before .before .before .before .before .before)) (c .before .before .before .before .before .before .before .before .before .before .before .before .before .before .before .before .before .before .before .before .before .pre .4) (returns c)
+same-length c = let s = s₄ (c .before .before) in puts-length (text s) (s .pre .4) (returns c)
 
 pub put-from-to-spec : {M : Type 1} → statement M
 put-from-to-spec =

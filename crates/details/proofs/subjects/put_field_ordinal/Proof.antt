@@ -20,6 +20,13 @@ text s = fieldOrdinalText (s .args .image .now) (s .args .field)
 abbrev pieces : tie.Start → List (List ℕ)
 pieces s = bytes "field @" ∷ decimal (ordinalIn (s .args .image .now) (s .args .field)) ∷ []
 
+-- the start, from after each piece
+abbrev s₁ : tie.After-put-text → tie.Start
+s₁ c = c .before .before .before .before .before
+
+abbrev s₂ : tie.After-put-number → tie.Start
+s₂ c = s₁ (c .before .before .before .before .before)
+
 -- after the first k pieces
 abbrev Left : (k : ℕ) (s : tie.Start) (r : ℕ) (d : List ℕ) → Type 0
 Left k s r d = Owes (s .args .mode) (s .args .out .now) (s .args .at) (text s) r d (drop k (pieces s))
@@ -28,11 +35,11 @@ o₀ : (s : tie.Start) → Left 0 s (s .args .at) (s .args .out .now)
 unfolding together fieldOrdinalText
 o₀ s = owes-start refl (s .pre .1)
 
-o₁ : (c : tie.After-put-text) → Left 1 (c .before .before .before .before .before) (c .put-text .result) (c .put-text .last .1 .0)
+o₁ : (c : tie.After-put-text) → Left 1 (s₁ c) (c .put-text .result) (c .put-text .last .1 .0)
 unfolding bytes
-o₁ c = owes-next (o₀ (c .before .before .before .before .before)) (c .put-text .ensures)
+o₁ c = owes-next (o₀ (s₁ c)) (c .put-text .ensures)
 
-o₂ : (c : tie.After-put-number) → Left 2 (c .before .before .before .before .before .before .before .before .before .before) (c .put-number .result) (c .put-number .last .1 .0)
+o₂ : (c : tie.After-put-number) → Left 2 (s₂ c) (c .put-number .result) (c .put-number .last .1 .0)
 unfolding bytes
 o₂ c = owes-next (o₁ (c .before .before .before .before .before)) (puts-as (ap decimal (c .before .ordinal-at .ensures)) (c .put-number .ensures))
 
@@ -48,7 +55,7 @@ slice-aggregate-put-text : tie.Need-slice-aggregate-put-text
 slice-aggregate-put-text c = search needs
 
 ordinal-at-requires : tie.Need-ordinal-at-requires
-ordinal-at-requires c κs = c .before .before .before .before .before .before .before .before .pre .0
+ordinal-at-requires c κs = s₁ (c .before .before .before) .pre .0
 
 cast-put-number : tie.Need-cast-put-number
 cast-put-number c = search needs
@@ -57,7 +64,7 @@ returns : tie.Need-returns
 returns c = owes-end (o₂ (c .before .before))
 
 same-length : tie.Need-same-length
-same-length c = puts-length (text (c .before .before .before .before .before .before .before .before .before .before .before .before)) (c .before .before .before .before .before .before .before .before .before .before .before .before .pre .1) (returns c)
+same-length c = let s = s₂ (c .before .before) in puts-length (text s) (s .pre .1) (returns c)
 
 pub put-field-ordinal-spec : {M : Type 1} → statement M
 put-field-ordinal-spec =

@@ -1,5 +1,9 @@
 -- `details::subjects::put_item_word` meets its contract: in each arm the word is known. Assumes nothing.
 use mathlib.Core.Path.{_≡_, sym, ap}
+use mathlib.Core.List.{List}
+use Prim.Native.Nat.{ℕ}
+use lib.ListN.{length}
+use Rattle.text.specs.Text.{Space}
 use borrow.Author.Needs.{needs}
 use Rattle.image.specs.Words.{bytes}
 use Rattle.details.specs.Details.{wordText}
@@ -8,9 +12,20 @@ use Rattle.details.proofs.Writers.{space-as, puts-as}
 use Rattle.details.proofs.subjects.put_item_word.Statement.{statement}
 use Rattle.details.proofs.subjects.put_item_word.Tie as tie
 
--- the text, where the word is another
-abbrev same : (s : tie.Start) {p : Word} → s .args .word ≡ p → wordText (s .args .word) ≡ wordText p
-same s e = ap (λ x. wordText x) e
+abbrev text : tie.Start → Word → List ℕ
+text s p = wordText p
+
+-- in an arm of the match m, where the word is known to be p; below, a is the place that tells it
+module _ (m : tie.After-slice-known) where
+  abbrev start : tie.Start
+  start = m .before
+
+  module _ {p : Word} (e : start .args .word ≡ p) where
+    same : text start p ≡ text start (start .args .word)
+    same = sym (ap (text start) e)
+
+    room : Space (start .args .mode) (start .args .out .now) (start .args .at) (length (text start p))
+    room = space-as same (start .pre)
 
 enum-told : tie.Need-enum-told
 enum-told c = search needs
@@ -20,7 +35,7 @@ slice-aggregate-put-text c = search needs
 
 put-text-requires : tie.Need-put-text-requires
 unfolding wordText bytes
-put-text-requires c κs = space-as (sym (same (c .before .before .before .before .before) (c .before .before .enum-told .given .1))) (c .before .before .before .before .before .pre)
+put-text-requires c κs = let a = c .before .before in room (a .before .before) (a .enum-told .given .1)
 
 enum-told-2 : tie.Need-enum-told-2
 enum-told-2 c = search needs
@@ -30,7 +45,7 @@ slice-aggregate-put-text-2 c = search needs
 
 put-text-requires-2 : tie.Need-put-text-requires-2
 unfolding wordText bytes
-put-text-requires-2 c κs = space-as (sym (same (c .before .before .before .before .before) (c .before .before .enum-told2 .given .1))) (c .before .before .before .before .before .pre)
+put-text-requires-2 c κs = let a = c .before .before in room (a .before .before) (a .enum-told2 .given .1)
 
 enum-told-3 : tie.Need-enum-told-3
 enum-told-3 c = search needs
@@ -40,28 +55,34 @@ slice-aggregate-put-text-3 c = search needs
 
 put-text-requires-3 : tie.Need-put-text-requires-3
 unfolding wordText bytes
-put-text-requires-3 c κs = space-as (sym (same (c .before .before .before .before .before) (c .before .before .enum-told3 .given .1))) (c .before .before .before .before .before .pre)
+put-text-requires-3 c κs = let a = c .before .before in room (a .before .before) (a .enum-told3 .given .1)
 
 same-length : tie.Need-same-length
 same-length c = search needs
 
 returns : tie.Need-returns
 unfolding wordText bytes
-returns c = puts-as (sym (same (c .before .before .before .before .before .before .before .before) (c .before .before .before .before .before .enum-told .given .1))) (c .before .before .put-text .ensures)
+returns c =
+    let a = c .before .before .before .before .before in
+    puts-as (same (a .before .before) (a .enum-told .given .1)) (c .before .before .put-text .ensures)
 
 same-length-2 : tie.Need-same-length-2
 same-length-2 c = search needs
 
 returns-2 : tie.Need-returns-2
 unfolding wordText bytes
-returns-2 c = puts-as (sym (same (c .before .before .before .before .before .before .before .before) (c .before .before .before .before .before .enum-told2 .given .1))) (c .before .before .put-text2 .ensures)
+returns-2 c =
+    let a = c .before .before .before .before .before in
+    puts-as (same (a .before .before) (a .enum-told2 .given .1)) (c .before .before .put-text2 .ensures)
 
 same-length-3 : tie.Need-same-length-3
 same-length-3 c = search needs
 
 returns-3 : tie.Need-returns-3
 unfolding wordText bytes
-returns-3 c = puts-as (sym (same (c .before .before .before .before .before .before .before .before) (c .before .before .before .before .before .enum-told3 .given .1))) (c .before .before .put-text3 .ensures)
+returns-3 c =
+    let a = c .before .before .before .before .before in
+    puts-as (same (a .before .before) (a .enum-told3 .given .1)) (c .before .before .put-text3 .ensures)
 
 pub put-item-word-spec : {M : Type 1} → statement M
 put-item-word-spec =

@@ -18,7 +18,12 @@ names : List ℕ
 names = bytes "FieldAddedFieldRemovedFieldTypeChangedFieldOrdinalChangedFieldRenamedFieldDeprecatedFieldEncodingChangedVariantAddedVariantRemovedVariantOrdinalChangedDeclarationAddedDeclarationRemovedDeclarationKindChangedNamespaceChangedNonExhaustiveChangedFlagsBitAddedFlagsBitRemovedFlagsBitOrdinalChangedPatchMinorMajorCompatibleBreakingmessageenumflagsunionnewtypeconfiggeneric_aliastraitimpl"
 
 starts : List ℕ
-starts = 0 ∷ 10 ∷ 22 ∷ 38 ∷ 57 ∷ 69 ∷ 84 ∷ 104 ∷ 116 ∷ 130 ∷ 151 ∷ 167 ∷ 185 ∷ 207 ∷ 223 ∷ 243 ∷ 256 ∷ 271 ∷ 293 ∷ 298 ∷ 303 ∷ 308 ∷ 318 ∷ 326 ∷ 333 ∷ 337 ∷ 342 ∷ 347 ∷ 354 ∷ 360 ∷ 373 ∷ 378 ∷ 382 ∷ []
+starts =
+    0 ∷ 10 ∷ 22 ∷ 38 ∷ 57 ∷ 69 ∷ 84 ∷ 104 ∷ 116 ∷ 130 ∷ 151 ∷ 167 ∷ 185 ∷ 207 ∷ 223 ∷ 243 ∷ 256 ∷ 271
+    ∷ 293 ∷ 298 ∷ 303 ∷ 308 ∷ 318 ∷ 326 ∷ 333 ∷ 337 ∷ 342 ∷ 347 ∷ 354 ∷ 360 ∷ 373 ∷ 378 ∷ 382 ∷ []
+
+abbrev start : tie.After-put-text-arg2 → tie.Start
+start c = c .before .before .before .before .before .before
 
 cut : (s : tie.Start) → Cut names (wordAt (s .args .word)) (getD starts (s .args .word) 0) (getD starts (s .args .word + 1) 0)
 unfolding names starts bytes isCut sameName sameList words
@@ -53,14 +58,14 @@ part-put-text-end c = cut (c .before .before .before .before .before) .within
 
 put-text-requires : tie.Need-put-text-requires
 unfolding names bytes starts
-put-text-requires c κs = space-as (cut (c .before .before .before .before .before .before) .is) (c .before .before .before .before .before .before .pre .1)
+put-text-requires c κs = space-as (cut (start c) .is) (start c .pre .1)
 
 same-length : tie.Need-same-length
 same-length c = search needs
 
 returns : tie.Need-returns
 unfolding names bytes starts
-returns c = puts-as (cut (c .before .before .before .before .before .before .before .before .before) .is) (c .before .before .put-text .ensures)
+returns c = puts-as (cut (start (c .before .before .before)) .is) (c .before .before .put-text .ensures)
 
 pub put-word-spec : {M : Type 1} → statement M
 put-word-spec =
