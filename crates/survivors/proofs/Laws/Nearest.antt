@@ -55,13 +55,22 @@ module _ (s : List ℕ) (after best found : Entry) (hb : EntryHere s best) (hf :
     module _ (q : t ≡ true) where
       pub nearer-first : best ≡ Unresolvable → Nearer s after best found (Body at)
       unfolding nearest
-      nearer-first f = record { name = rw (named-body s e, named-body s {r = Body at} refl) (better-first before _ _ _ p q (named-none s f)); here = rw e at hf }
+      nearer-first f = record {
+        name = rw (named-body s e, named-body s {r = Body at} refl) (better-first before _ _ _ p q (named-none s f));
+        here = rw e at hf;
+      }
 
       module _ {least : ℕ} (f : best ≡ Body least) {u : Bool} (v : u ≡ before (declIn s at .name) (declIn s least .name)) where
         pub nearer-less : u ≡ true → Nearer s after best found (Body at)
         unfolding nearest
-        nearer-less w = record { name = rw (named-body s e, named-body s {r = Body at} refl) (better-less before _ _ _ p q (named-body s f) v w); here = rw e at hf }
+        nearer-less w = record {
+          name = rw (named-body s e, named-body s {r = Body at} refl) (better-less before _ _ _ p q (named-body s f) v w);
+          here = rw e at hf;
+        }
 
         pub nearer-more : u ≡ false → Nearer s after best found (Body least)
         unfolding nearest
-        nearer-more w = record { name = rw (named-body s e, named-body s {r = Body least} refl) (better-more before _ _ _ p q (named-body s f) v w); here = rw f at hb }
+        nearer-more w = record {
+          name = rw (named-body s e, named-body s {r = Body least} refl) (better-more before _ _ _ p q (named-body s f) v w);
+          here = rw f at hb;
+        }

@@ -23,13 +23,19 @@ enum-told-3 : tie.Need-enum-told-3
 enum-told-3 c = search needs
 
 returns : tie.Need-returns
-returns c = told (c .before .before .compared .ensures) (c .before .before .before .before .decl-name .ensures) (c .before .before .before .decl-name2 .ensures) (c .enum-told .given .1)
+returns c =
+    let p = c .before .before in
+    told (p .compared .ensures) (p .before .before .decl-name .ensures) (p .before .decl-name2 .ensures) (c .enum-told .given .1)
 
 returns-2 : tie.Need-returns-2
-returns-2 c = told (c .before .before .compared .ensures) (c .before .before .before .before .decl-name .ensures) (c .before .before .before .decl-name2 .ensures) (c .enum-told2 .given .1)
+returns-2 c =
+    let p = c .before .before in
+    told (p .compared .ensures) (p .before .before .decl-name .ensures) (p .before .decl-name2 .ensures) (c .enum-told2 .given .1)
 
 returns-3 : tie.Need-returns-3
-returns-3 c = told (c .before .before .compared .ensures) (c .before .before .before .before .decl-name .ensures) (c .before .before .before .decl-name2 .ensures) (c .enum-told3 .given .1)
+returns-3 c =
+    let p = c .before .before in
+    told (p .compared .ensures) (p .before .before .decl-name .ensures) (p .before .decl-name2 .ensures) (c .enum-told3 .given .1)
 
 pub is-before-spec : {M : Type 1} → statement M
 is-before-spec =

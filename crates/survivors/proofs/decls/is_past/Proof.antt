@@ -14,7 +14,7 @@ returns : tie.Need-returns
 returns c = past-none _ _ (c .enum-told .given .1)
 
 is-before-requires : tie.Need-is-before-requires
-is-before-requires c κs = (entry-here _ (c .before .after .given .1) (c .before .before .before .before .pre .0), c .before .before .before .before .pre .1)
+is-before-requires c κs = let s = c .before .before .before .before in (entry-here _ (c .before .after .given .1) (s .pre .0), s .pre .1)
 
 returns-2 : tie.Need-returns-2
 returns-2 c = past-body _ _ (c .before .before .after .given .1) (c .is-before .ensures)

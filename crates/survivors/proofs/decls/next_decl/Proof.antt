@@ -12,7 +12,9 @@ use Rattle.survivors.proofs.decls.next_decl.Statement.{statement}
 use Rattle.survivors.proofs.decls.next_decl.Tie as tie
 
 abbrev Inv-loop : tie.InvT-loop
-Inv-loop image after n best₀ i₀ best i = EntryHere image best × (ahead image (named image after) (named image best) i ≡ next nameOf before (named image after) (declarations (schemaOf image)))
+Inv-loop image after n best₀ i₀ best i =
+    EntryHere image best
+    × (ahead image (named image after) (named image best) i ≡ next nameOf before (named image after) (declarations (schemaOf image)))
 
 abbrev μ-loop : tie.MeasureT-loop
 μ-loop image after n best₀ i₀ best i = n - i
@@ -40,10 +42,20 @@ loop-less : tie.Need-loop-less Inv-loop μ-loop
 loop-less c = omega arith
 
 loop-again : tie.Need-loop-again Inv-loop μ-loop
-loop-again c = (c .nearer .ensures .here, ahead-turn _ _ _ _ _ (omega (arith, c .before .before .before .loop-test .taken, c .before .before .before .before .before .id-count .ensures)) (c .before .before .id-at .ensures) (c .before .entry .ensures) (c .nearer .ensures .name) (c .before .before .before .before .loop .inv .1))
+loop-again c =
+    let l = c .before .before .before .before in
+    let n = l .before .id-count .ensures in (
+      c .nearer .ensures .here,
+      ahead-turn _ _ _ _ _ (omega (arith, c .before .before .before .loop-test .taken, n)) (c .before .before .id-at .ensures) (c .before .entry .ensures)
+          (c .nearer .ensures .name)
+          (l .loop .inv .1),
+    )
 
 returns : tie.Need-returns Inv-loop μ-loop
-returns c = record { name = ahead-end _ _ _ _ (omega (arith, c .loop-test .left, c .before .before .id-count .ensures)) (c .before .loop .inv .1); here = c .before .loop .inv .0 }
+returns c = record {
+  name = ahead-end _ _ _ _ (omega (arith, c .loop-test .left, c .before .before .id-count .ensures)) (c .before .loop .inv .1);
+  here = c .before .loop .inv .0;
+}
 
 pub next-decl-spec : {M : Type 1} → statement M
 next-decl-spec =

@@ -24,18 +24,36 @@ abbrev μ-loop : tie.MeasureT-loop
 μ-loop image name i at own j₀ j = length name - j
 
 abbrev Inv-search : tie.InvT-search
-Inv-search image name i₀ i = (i ≤ length (schemaOf image .ids)) × (back image name i ≡ lookup nameOf before name (declarations (schemaOf image)))
+Inv-search image name i₀ i =
+    (i ≤ length (schemaOf image .ids)) × (back image name i ≡ lookup nameOf before name (declarations (schemaOf image)))
 
 abbrev μ-search : tie.MeasureT-search
 μ-search image name i₀ i = i
 
+-- from where the name of an entry is read: the entry, its turn of the search, the start
+abbrev entry : tie.After-decl-name Inv-loop μ-loop Inv-search μ-search → tie.After-entry Inv-loop μ-loop Inv-search μ-search
+entry c = c .before .before .before .before
+
+abbrev turn : tie.After-entry Inv-loop μ-loop Inv-search μ-search → tie.At-search Inv-loop μ-loop Inv-search μ-search
+turn t = t .before .before .before
+
+abbrev start : tie.At-search Inv-loop μ-loop Inv-search μ-search → tie.Start Inv-loop μ-loop Inv-search μ-search
+start l = l .before .before .before .before
+
 -- the name of the entry is another one
-goes-on : (c : tie.After-decl-name Inv-loop μ-loop Inv-search μ-search) → same before (c .before .before .before .before .before .before .before .before .before .before .before .args .name .now) (c .decl-name .result .now) ≡ false
-    → Inv-search (c .before .before .before .before .before .before .before .before .before .before .before .args .image .now) (c .before .before .before .before .before .before .before .before .before .before .before .args .name .now) (c .before .before .before .before .before .before .before .search .i) (c .before .before .before .before .before .before .before .search .i - 1)
-goes-on c n = (
-  omega (arith, c .before .before .before .before .before .before .before .search .inv .0),
-  back-other _ _ _ (omega (arith, c .before .before .before .before .before .before .if1 .left)) (c .before .before .before .before .before .before .before .search .inv .0) (c .before .before .before .before .before .id-at .ensures) (c .before .before .before .before .entry .ensures) (c .before .before .at .given .1) (c .decl-name .ensures) n ∙ c .before .before .before .before .before .before .before .search .inv .1,
-)
+goes-on : (c : tie.After-decl-name Inv-loop μ-loop Inv-search μ-search)
+    → (let s = start (turn (entry c)) in same before (s .args .name .now) (c .decl-name .result .now) ≡ false)
+    → (let l = turn (entry c) in Inv-search (start l .args .image .now) (start l .args .name .now) (l .search .i) (l .search .i - 1))
+goes-on c n =
+    let t = entry c in
+    let v = turn t .search .inv in (
+      omega (arith, v .0),
+      back-other _ _ _ (omega (arith, t .before .before .if1 .left)) (v .0) (t .before .id-at .ensures) (t .entry .ensures)
+          (c .before .before .at .given .1)
+          (c .decl-name .ensures)
+          n
+          ∙ v .1,
+    )
 
 id-count-requires : tie.Need-id-count-requires Inv-loop μ-loop Inv-search μ-search
 id-count-requires c κs = c .before .before .pre
@@ -47,10 +65,10 @@ sub-i : tie.Need-sub-i Inv-loop μ-loop Inv-search μ-search
 sub-i c = omega arith
 
 id-at-requires : tie.Need-id-at-requires Inv-loop μ-loop Inv-search μ-search
-id-at-requires c κs = (c .before .before .before .before .before .pre, omega (arith, c .before .search .inv .0))
+id-at-requires c κs = (start (c .before) .pre, omega (arith, c .before .search .inv .0))
 
 entry-requires : tie.Need-entry-requires Inv-loop μ-loop Inv-search μ-search
-entry-requires c κs = c .before .before .before .before .before .before .pre
+entry-requires c κs = start (c .before .before) .pre
 
 enum-known-at : tie.Need-enum-known-at Inv-loop μ-loop Inv-search μ-search
 enum-known-at c = search needs
@@ -62,7 +80,13 @@ search-less : tie.Need-search-less Inv-loop μ-loop Inv-search μ-search
 search-less c = omega (arith, c .before .before .before .before .if1 .left)
 
 search-again : tie.Need-search-again Inv-loop μ-loop Inv-search μ-search
-search-again c = (omega (arith, c .before .before .before .before .before .search .inv .0), back-skips _ _ _ (omega (arith, c .before .before .before .before .if1 .left)) (c .before .before .before .before .before .search .inv .0) (c .before .before .before .id-at .ensures) (c .before .before .entry .ensures) (c .enum-told .given .1) ∙ c .before .before .before .before .before .search .inv .1)
+search-again c =
+    let t = c .before .before in
+    let v = turn t .search .inv in (
+      omega (arith, v .0),
+      back-skips _ _ _ (omega (arith, t .before .before .if1 .left)) (v .0) (t .before .id-at .ensures) (t .entry .ensures) (c .enum-told .given .1)
+          ∙ v .1,
+    )
 
 decl-name-requires : tie.Need-decl-name-requires Inv-loop μ-loop Inv-search μ-search
 decl-name-requires c κs = resolved-here _ _ (c .before .before .before .entry .ensures) (c .before .at .given .1)
@@ -77,10 +101,15 @@ shared-slice-read-if4-2 : tie.Need-shared-slice-read-if4-2 Inv-loop μ-loop Inv-
 shared-slice-read-if4-2 c = omega (arith, c .before .before .before .loop .inv .0, c .before .before .before .before .if2 .taken)
 
 search-less-2 : tie.Need-search-less-2 Inv-loop μ-loop Inv-search μ-search
-search-less-2 c = omega (arith, c .before .before .before .before .before .before .before .before .before .before .before .before .if1 .left)
+search-less-2 c = omega (arith, entry (c .before .before .before .before .before .before) .before .before .if1 .left)
 
 search-again-2 : tie.Need-search-again-2 Inv-loop μ-loop Inv-search μ-search
-search-again-2 c = goes-on (c .before .before .before .before .before .before) (finds-other _ _ _ (c .before .before .before .before .loop .inv .1) (omega (arith, c .before .before .before .before .loop .inv .0, c .before .before .before .if3 .left)) (omega (arith, c .before .before .before .before .loop .inv .0, c .before .before .before .if3 .left, c .before .before .before .before .before .if2 .taken)) (c .if4 .taken))
+search-again-2 c =
+    let l = c .before .before .before .before .loop in
+    let p = c .before .before .before .if3 .left in
+    let q = c .before .before .before .before .before .if2 .taken in
+    goes-on (c .before .before .before .before .before .before)
+    (finds-other _ _ _ (l .inv .1) (omega (arith, l .inv .0, p)) (omega (arith, l .inv .0, p, q)) (c .if4 .taken))
 
 add-j : tie.Need-add-j Inv-loop μ-loop Inv-search μ-search
 add-j c = omega (arith, c .before .before .before .before .loop .inv .0)
@@ -89,10 +118,16 @@ loop-less : tie.Need-loop-less Inv-loop μ-loop Inv-search μ-search
 loop-less c = omega (arith, c .before .before .before .before .loop .inv .0, c .before .before .before .if3 .left)
 
 loop-again : tie.Need-loop-again Inv-loop μ-loop Inv-search μ-search
-loop-again c = (omega (arith, c .before .before .before .before .loop .inv .0, c .before .before .before .if3 .left), agrees _ _ _ (c .before .before .before .before .loop .inv .1) (omega (arith, c .before .before .before .before .loop .inv .0, c .before .before .before .if3 .left)) (omega (arith, c .before .before .before .before .loop .inv .0, c .before .before .before .if3 .left, c .before .before .before .before .before .if2 .taken)) (c .if4 .left))
+loop-again c =
+    let l = c .before .before .before .before .loop in
+    let p = c .before .before .before .if3 .left in
+    let q = c .before .before .before .before .before .if2 .taken in (
+      omega (arith, l .inv .0, p),
+      agrees _ _ _ (l .inv .1) (omega (arith, l .inv .0, p)) (omega (arith, l .inv .0, p, q)) (c .if4 .left),
+    )
 
 search-less-3 : tie.Need-search-less-3 Inv-loop μ-loop Inv-search μ-search
-search-less-3 c = omega (arith, c .before .before .before .before .before .before .before .if1 .left)
+search-less-3 c = omega (arith, entry (c .before) .before .before .if1 .left)
 
 search-again-3 : tie.Need-search-again-3 Inv-loop μ-loop Inv-search μ-search
 search-again-3 c = goes-on (c .before) (other-length _ _ (c .if2 .left))
@@ -101,7 +136,21 @@ returns : tie.Need-returns Inv-loop μ-loop Inv-search μ-search
 returns c = back-end _ _ _ (c .if1 .taken) (c .before .search .inv .1)
 
 returns-2 : tie.Need-returns-2 Inv-loop μ-loop Inv-search μ-search
-returns-2 c = back-found _ _ _ (omega (arith, c .before .before .before .before .before .before .before .before .before .if1 .left)) (c .before .before .before .before .before .before .before .before .before .before .search .inv .0) (c .before .before .before .before .before .before .before .before .id-at .ensures) (c .before .before .before .before .before .before .before .entry .ensures) (c .before .before .before .before .before .at .given .1) (c .before .before .before .decl-name .ensures) (same-told _ _ (sym (ends-same (c .before .before .before .before .before .before .before .before .before .before .before .before .before .before .args .name .now) (c .before .before .before .decl-name .result .now) (c .before .loop .j) (c .before .loop .inv .1) (omega (arith, c .if3 .taken)) (omega (arith, c .if3 .taken, c .before .before .if2 .taken))))) (c .before .before .before .before .before .before .before .before .before .before .search .inv .1)
+returns-2 c =
+    let n = c .before .before .before in
+    let t = entry n in
+    let v = turn t .search .inv in
+    let l = c .before .loop in
+    let p = c .if3 .taken in
+    back-found _ _ _ (omega (arith, t .before .before .if1 .left)) (v .0) (t .before .id-at .ensures) (t .entry .ensures)
+    (n .before .before .at .given .1)
+    (n .decl-name .ensures)
+    (same-told _ _
+    (sym
+    (ends-same (start (turn t) .args .name .now) (n .decl-name .result .now) (l .j) (l .inv .1)
+    (omega (arith, p))
+    (omega (arith, p, c .before .before .if2 .taken)))))
+    (v .1)
 
 pub survivor-spec : {M : Type 1} → statement M
 survivor-spec =

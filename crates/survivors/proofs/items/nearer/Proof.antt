@@ -22,15 +22,23 @@ enum-told c = search needs
 
 returns-2 : tie.Need-returns-2
 unfolding numberOf
-returns-2 c = better-first ltb _ _ _ (c .before .before .before .is-past .ensures) (not-false _ (c .before .before .if1 .left)) (ap numberOf (c .enum-told .given .1))
+returns-2 c =
+    let past = c .before .before .before .is-past .ensures in
+    better-first ltb _ _ _ past (not-false _ (c .before .before .if1 .left)) (ap numberOf (c .enum-told .given .1))
 
 returns-3 : tie.Need-returns-3
 unfolding numberOf
-returns-3 c = better-less ltb _ _ _ (c .before .before .before .before .before .is-past .ensures) (not-false _ (c .before .before .before .before .if1 .left)) (ap numberOf (c .before .before .best .given .1)) refl (lt-ltb _ _ (c .if2 .taken))
+returns-3 c =
+    let p = c .before .before .before .before in
+    let best = ap numberOf (c .before .before .best .given .1) in
+    better-less ltb _ _ _ (p .before .is-past .ensures) (not-false _ (p .if1 .left)) best refl (lt-ltb _ _ (c .if2 .taken))
 
 returns-4 : tie.Need-returns-4
 unfolding numberOf
-returns-4 c = better-more ltb _ _ _ (c .before .before .before .before .before .is-past .ensures) (not-false _ (c .before .before .before .before .if1 .left)) (ap numberOf (c .before .before .best .given .1)) refl (le-ltb _ _ (c .if2 .left))
+returns-4 c =
+    let p = c .before .before .before .before in
+    let best = ap numberOf (c .before .before .best .given .1) in
+    better-more ltb _ _ _ (p .before .is-past .ensures) (not-false _ (p .if1 .left)) best refl (le-ltb _ _ (c .if2 .left))
 
 pub nearer-spec : {M : Type 1} → statement M
 nearer-spec =

@@ -14,7 +14,8 @@ use Rattle.survivors.proofs.items.next_item.Tie as tie
 abbrev Inv-loop : tie.InvT-loop
 Inv-loop image shape after best₀ at₀ left₀ best at left =
     ItemsHere shape image left at
-    × (onward shape image (nextStep image (numberOf after)) (numberOf best) left at ≡ next (ordinalIn image) ltb (numberOf after) (placeMap shape image (record { start = at₀; count = left₀ })))
+    × (onward shape image (nextStep image (numberOf after)) (numberOf best) left at
+    ≡ next (ordinalIn image) ltb (numberOf after) (placeMap shape image (record { start = at₀; count = left₀ })))
 
 abbrev μ-loop : tie.MeasureT-loop
 μ-loop image shape after best₀ at₀ left₀ best at left = left
@@ -39,10 +40,13 @@ loop-less : tie.Need-loop-less Inv-loop μ-loop
 loop-less c = omega arith
 
 loop-again : tie.Need-loop-again Inv-loop μ-loop
-loop-again c = (
-  items-next _ _ _ _ _ (c .before .before .before .loop-test .taken) (c .item-end .ensures) (c .before .before .before .before .loop .inv .0),
-  onward-turn _ _ _ _ _ _ _ _ (c .before .before .before .loop-test .taken) (c .item-end .ensures) (c .before .nearer .ensures ∙ ap (better ltb _ _) (c .before .before .ordinal-at .ensures)) (c .before .before .before .before .loop .inv .1),
-)
+loop-again c =
+    let l = c .before .before .before .before .loop in
+    let p = c .before .before .before .loop-test .taken in (
+      items-next _ _ _ _ _ p (c .item-end .ensures) (l .inv .0),
+      onward-turn _ _ _ _ _ _ _ _ p (c .item-end .ensures) (c .before .nearer .ensures ∙ ap (better ltb _ _) (c .before .before .ordinal-at .ensures))
+          (l .inv .1),
+    )
 
 returns : tie.Need-returns Inv-loop μ-loop
 returns c = onward-end _ _ _ _ _ _ (c .loop-test .left) (c .before .loop .inv .1)

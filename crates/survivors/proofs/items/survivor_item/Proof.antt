@@ -17,18 +17,31 @@ abbrev Inv-loop : tie.InvT-loop
 Inv-loop image shape ordinal found₀ at₀ left₀ found at left =
     ItemsHere shape image left at
     × FoundHere shape image found
-    × (onward shape image (seen (ordinalIn image) ltb ordinal) (placeOf found) left at ≡ lookup (ordinalIn image) ltb ordinal (placeMap shape image (record { start = at₀; count = left₀ })))
+    × (onward shape image (seen (ordinalIn image) ltb ordinal) (placeOf found) left at
+    ≡ lookup (ordinalIn image) ltb ordinal (placeMap shape image (record { start = at₀; count = left₀ })))
 
 abbrev μ-loop : tie.MeasureT-loop
 μ-loop image shape ordinal found₀ at₀ left₀ found at left = left
 
+-- the turn of the loop, and the start
+abbrev turn : tie.Joined1 Inv-loop μ-loop → tie.At-loop Inv-loop μ-loop
+turn c = c .before .before .before
+
+abbrev start : tie.Joined1 Inv-loop μ-loop → tie.Start Inv-loop μ-loop
+start c = turn c .before .before
+
 -- where the arms meet: what was found so far
 met : (c : tie.Joined1 Inv-loop μ-loop)
-    → (placeOf (c .if1 .found) ≡ seen (ordinalIn (c .before .before .before .before .before .args .image .now)) ltb (c .before .before .before .before .before .args .ordinal) (placeOf (c .before .before .before .loop .found)) (c .before .before .before .loop .at)) × FoundHere (c .before .before .before .before .before .args .shape) (c .before .before .before .before .before .args .image .now) (c .if1 .found)
+    → (placeOf (c .if1 .found)
+    ≡ seen (ordinalIn (start c .args .image .now)) ltb (start c .args .ordinal) (placeOf (turn c .loop .found)) (turn c .loop .at))
+    × FoundHere (start c .args .shape) (start c .args .image .now) (c .if1 .found)
 met c =
+    let l = turn c .loop in
+    let o = c .before .ordinal-at .ensures in
+    let p = c .before .before .loop-test .taken in
     ⊎-elim
-    (λ w. item-same _ _ _ _ _ _ (c .before .ordinal-at .ensures) (w .0 .taken) (items-first _ _ _ _ (c .before .before .loop-test .taken) (c .before .before .before .loop .inv .0)) (w .1))
-    (λ w. item-other _ _ _ _ _ _ (c .before .ordinal-at .ensures) (w .0 .left) (c .before .before .before .loop .inv .1) (w .1))
+    (λ w. item-same _ _ _ _ _ _ o (w .0 .taken) (items-first _ _ _ _ p (l .inv .0)) (w .1))
+    (λ w. item-other _ _ _ _ _ _ o (w .0 .left) (l .inv .1) (w .1))
     (c .if1 .came)
 
 loop-holds : tie.Need-loop-holds Inv-loop μ-loop
@@ -48,11 +61,13 @@ loop-less : tie.Need-loop-less Inv-loop μ-loop
 loop-less c = omega arith
 
 loop-again : tie.Need-loop-again Inv-loop μ-loop
-loop-again c = (
-  items-next _ _ _ _ _ (c .before .before .before .loop-test .taken) (c .item-end .ensures) (c .before .before .before .before .loop .inv .0),
-  met (c .before) .1,
-  onward-turn _ _ _ _ _ _ _ _ (c .before .before .before .loop-test .taken) (c .item-end .ensures) (met (c .before) .0) (c .before .before .before .before .loop .inv .2),
-)
+loop-again c =
+    let l = turn (c .before) .loop in
+    let p = c .before .before .before .loop-test .taken in (
+      items-next _ _ _ _ _ p (c .item-end .ensures) (l .inv .0),
+      met (c .before) .1,
+      onward-turn _ _ _ _ _ _ _ _ p (c .item-end .ensures) (met (c .before) .0) (l .inv .2),
+    )
 
 returns : tie.Need-returns Inv-loop μ-loop
 returns c = record { place = onward-end _ _ _ _ _ _ (c .loop-test .left) (c .before .loop .inv .2); here = c .before .loop .inv .1 }
