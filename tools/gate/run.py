@@ -15,7 +15,7 @@ import edits
 ROOT = Path(__file__).resolve().parents[2]
 ORACLE = ROOT / "target" / "oracle" / "oracle"
 ANSWERS = ROOT / "crates" / "replay" / "data" / "answers.bin"
-HAMMER_SEED, HAMMER_PAIRS, HAMMER_SECONDS = 20_261_115, 20_000, 300
+HAMMER_SEED, HAMMER_PAIRS, HAMMER_SECONDS = 20_261_115, 10_000, 300
 SUMMARY = re.compile(r"^(\d+) passed, (\d+) failed$")
 
 
