@@ -4,6 +4,7 @@ Each comment line of an edit file starts one wrong answer. Those of one file sta
 crate: the facts of a function's proof rest on the contracts of what it calls, not on their proofs, so each is refused by itself."""
 
 import re
+from collections import Counter
 from pathlib import Path
 from typing import NamedTuple
 
@@ -12,8 +13,9 @@ UNFIT = re.compile(r"has no `Need-|\.Lts\.[^`]*` has no field|expected type `tie
 FUNCTION = re.compile(r'^(\s*)(?:pub(?:\(crate\))? )?(?:extern "C" )?fn (\w+)')
 IMPL = re.compile(r"^impl (\w+)")
 CLAUSE = re.compile(r"\b(?:requires|ensures) \{")
-# Texts, arrows and operators. A proof may fail for one operation more although the answer is right, so a wrong answer has as many as the code.
+# Texts, arrows and operators. A proof may fail for one operation more although the answer is right, so a wrong answer has the code's.
 TOKEN = re.compile(r'"(?:[^"\\]|\\.)*"|\'(?:\\.|[^\'])\'|=>|->|[-+*/%]=?|[<>=!]=|[<>]|&&|\|\|')
+KINDS = {"==": "equality", "!=": "equality", "<": "order", "<=": "order", ">": "order", ">=": "order", "&&": "test", "||": "test"}
 
 
 class Function(NamedTuple):
@@ -25,7 +27,7 @@ class Function(NamedTuple):
 
 class Answer(NamedTuple):
     """A wrong answer, and the functions that it changes; None for a change of anything else, also of a contract, which others rest on. With
-    its lines of code that have more or fewer operations than before."""
+    its lines of code that have other operations than before."""
 
     label: str
     functions: set[Function | None]
@@ -57,9 +59,10 @@ def function_at(crate: Path, file: str, text: str) -> Function | None:
     return Function("::".join([crate.name, *names]), str(folders[0].relative_to(crate)) if folders else None)
 
 
-def operations(text: str) -> int:
-    """How many operators stand in a text of code."""
-    return sum(token[0] not in "\"\'" and token not in ("=>", "->") for token in TOKEN.findall(text))
+def operations(text: str) -> Counter[str]:
+    """How many operators of each kind stand in a text of code: an order in place of an equality gives a fact of another form."""
+    tokens = [token for token in TOKEN.findall(text) if token[0] not in "\"'" and token not in ("=>", "->")]
+    return Counter(KINDS.get(token, "arithmetic") for token in tokens)
 
 
 def answers(crate: Path, edit: Path) -> list[Answer]:

@@ -99,15 +99,20 @@ class Edits(unittest.TestCase):
         self.assertEqual(edits.edits(self.root), (1, []))
 
     def test_a_wrong_answer_with_one_operation_more_fails(self):
-        for text in ("a + 0", "a % 2", "a == a"):
+        for text in ("a + 0", "a % 2", "a == a", "a < 1"):
             passed, faults = self.found(FIRST.replace("new:     0", f"new:     {text}"), ("proofs/pairs/first/Proof.antt", FACT))
             self.assertEqual((passed, len(faults)), (0, 1))
         third = "# three\nfile: src/pairs.rt\nold: c + SIDE\nnew: c - SIDE\n"
         self.assertEqual(self.found(third, ("proofs/pairs/+third/Proof.antt", FACT)), (1, []))
 
     def test_operations_are_counted_outside_of_texts(self):
-        for text, count in (('b"a + b" => b\'-\',', 0), ("if a <= b && c != 1 {", 3), ("x -> y; z += 1", 1)):
-            self.assertEqual(edits.operations(text), count)
+        for text, found in (
+            ('b"a + b" => b\'-\',', {}),
+            ("if a <= b && c != 1 {", {"order": 1, "test": 1, "equality": 1}),
+            ("x -> y; z += 1", {"arithmetic": 1}),
+        ):
+            self.assertEqual(edits.operations(text), found)
+        self.assertNotEqual(edits.operations("a != b"), edits.operations("a < b"))
 
     def test_two_wrong_answers_in_one_function_fail(self):
         passed, faults = self.found(FIRST + FIRST.replace("one", "same"), ("proofs/pairs/first/Proof.antt", FACT))
