@@ -14,7 +14,8 @@ use lib.Seq.{drop-cons}
 use Rattle.maps.specs.Orders.{Strict, same, orderOf, isLess, before}
 use Rattle.maps.specs.declared.Order.{Order}
 use Rattle.maps.specs.declared.Order.the-variants.{Less, Same, Greater}
-use Rattle.maps.proofs.Orders.{no-both, ne-same}
+use Rattle.maps.proofs.Tests.{no-both}
+use Rattle.maps.proofs.Orders.{ne-same}
 
 irrefl : (a : List ℕ) → before a a ≡ false
 unfolding before orderOf

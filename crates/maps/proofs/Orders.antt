@@ -1,16 +1,14 @@
 -- Laws of strict orders, and the order of numbers.
 -- Assumes nothing.
-use mathlib.Core.Path.{_≡_, refl, sym, _∙_}
-use mathlib.Core.Bool.{Bool, true, false, not, _&&_, true≢false}
+use mathlib.Core.Path.{_≡_, refl, sym}
+use mathlib.Core.Bool.{Bool, true, false, not, _&&_}
 use Prim.Native.Nat.{ℕ}
 use native.Mathlib.Nat.{le-antisymm}
 use native.Mathlib.Omega.{arith}
 use borrow.Author.Tests.{lt-ltb, le-ltb, ltb-true, ltb-false}
 use lib.Dec.{ltb}
 use Rattle.maps.specs.Orders.{Strict, same}
-
-pub no-both : {A : Type 0} {b : Bool} → b ≡ true → b ≡ false → A
-no-both p q = absurd (true≢false (sym p ∙ q))
+use Rattle.maps.proofs.Tests.{no-both}
 
 module _ {K : Type 0} {lt : K → K → Bool} (S : Strict K lt) where
   pub asym : (a b : K) → lt a b ≡ true → lt b a ≡ false

@@ -9,7 +9,8 @@ use Rattle.maps.specs.Orders.{Strict, same}
 use Rattle.maps.specs.Keyed.{insert, survivors, lookup}
 use Rattle.maps.specs.Walk.{Rising, seen, lastSeen}
 use Rattle.maps.proofs.Lists.{all, all-map, pass-keeps, pass-view}
-use Rattle.maps.proofs.Orders.{no-both, same-self, same-eq, before-other, after-other}
+use Rattle.maps.proofs.Tests.{no-both}
+use Rattle.maps.proofs.Orders.{same-self, same-eq, before-other, after-other}
 
 -- ---- one entry more
 

@@ -13,7 +13,8 @@ use Rattle.maps.specs.Keyed.{insert, survivors, lookup}
 use Rattle.maps.specs.Compare.{between}
 use Rattle.maps.specs.Walk.{past, lesser, better, Rising, above, next, rest, least}
 use Rattle.maps.proofs.Lists.{pass-view}
-use Rattle.maps.proofs.Orders.{no-both, asym, same-self, after-other}
+use Rattle.maps.proofs.Tests.{no-both}
+use Rattle.maps.proofs.Orders.{asym, same-self, after-other}
 use Rattle.maps.proofs.Survivors.{After, insert-cases}
 
 module _ {K E : Type 0} {lt : K → K → Bool} (key : E → K) (S : Strict K lt) where

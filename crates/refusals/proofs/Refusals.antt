@@ -14,7 +14,7 @@ use Rattle.image.specs.Parse.{Parsed, ok, no, bind, pick}
 use Rattle.image.specs.Names.{namesAt}
 use Rattle.image.specs.Image.{format, entryCount, idCount, segmentCount, segmentsAt, headOf, tablesOf, laid, readImage}
 use Rattle.refusals.specs.Refusals.{Long, Eight, Format, Over, entries, ids, segments, Crowded, Head, segmentAt, Segment, ShortHead, head, tables, namespace, bodyAt, Misplaced, entry, after, Tables, Contents, ExactlyIf}
-use Rattle.maps.proofs.Tests.{apart, both}
+use Rattle.maps.proofs.Tests.{no-both, both}
 use Rattle.refusals.proofs.Told.{Told, told-ok, told-no, Any, told-bind, told-pick, told-then}
 use Rattle.refusals.proofs.Bodies.{Body, entries-told}
 use Rattle.refusals.proofs.Segments.{Wrong, past, bad, Fault, Named, segments-told, fault-none, fault-past}
@@ -108,7 +108,7 @@ unfolding bodyAt
 fits-told s t = laid-told s (entryCount s) 0 _ refl (names-inside s (segmentCount s) (t .inside) (t .segments)) (omega arith)
 
 misplaced-told : {s : List ℕ} {b : Bool} → Laid s 0 b → b ≡ false → Misplaced s
-misplaced-told (good h e) f = apart refl f
+misplaced-told (good h e) f = no-both refl f
 misplaced-told (wrong m) f = m
 
 told-misplaced : {s : List ℕ} {b : Bool} → Laid s 0 b → Misplaced s → b ≡ false

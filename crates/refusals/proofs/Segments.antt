@@ -13,7 +13,7 @@ use Rattle.image.specs.Parse.{part, byteAt, many}
 use Rattle.image.specs.Names.{nameByte, nameBytes, nameAt, namesAt}
 use Rattle.image.specs.Image.{segmentCount}
 use Rattle.refusals.specs.Refusals.{segmentAt, Segment}
-use Rattle.maps.proofs.Tests.{apart, both}
+use Rattle.maps.proofs.Tests.{no-both, both}
 use Rattle.refusals.proofs.Told.{Told, told-ok, told-no, told-bind, told-pick, told-then}
 
 -- the bytes of a part are allowed exactly if each byte is
@@ -43,7 +43,7 @@ record Bad (from count : ℕ) (s : List ℕ) : Type 0 where
 
 bytes-bad : (count from : ℕ) (s : List ℕ) → from + count ≤ length s → nameBytes (part from count s) ≡ false → Bad from count s
 unfolding nameBytes part
-bytes-bad zero from s l e = apart refl e
+bytes-bad zero from s l e = no-both refl e
 bytes-bad (suc count) from s l e =
     go (nameByte (getD s from 0)) refl (bytes-bad count (suc from) s (omega arith)) (rw (part-next from count s (omega arith)) at e)
   where
@@ -76,7 +76,7 @@ segment-told s i =
     right l a = record { inside = l; allowed = λ k low high. bytes-allowed (getD s at 0) (at + 1) s l a k (omega arith) high }
 
     wrong : Segment s i → Bad (at + 1) (getD s at 0) s → ⊥
-    wrong t r = apart (t .allowed (r .place) (let l = r .low in omega arith) (r .high)) (r .is)
+    wrong t r = no-both (t .allowed (r .place) (let l = r .low in omega arith) (r .high)) (r .is)
 
 -- the first segment that is no name
 pub record Fault (s : List ℕ) (k : ℕ) : Type 0 where

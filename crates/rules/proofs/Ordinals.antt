@@ -7,11 +7,11 @@ use Prim.Native.Nat.{ℕ, zero, suc, _+_, _<_}
 use native.Mathlib.Omega.{arith}
 use borrow.Author.Tests.{eqb-true}
 use lib.Dec.{eqb, ltb}
+use Rattle.maps.proofs.Tests.{no-both}
 use Rattle.maps.specs.Lists.{total, count, All}
 use Rattle.maps.specs.Orders.{before}
 use Rattle.maps.specs.Keyed.{lookup}
 use Rattle.maps.specs.Compare.{Rules, unmatched, matched, between, compare}
-use Rattle.maps.proofs.Orders.{no-both}
 use Rattle.image.specs.Schema.{Name, Marks, Ty, Field, Variant, Decl}
 use Rattle.rules.specs.Survivors.{nameOf, ordinalOf, fieldMap, variantOrdinal, variantMap, View, viewOf}
 use Rattle.rules.specs.Types.{Reading, sameType}

@@ -12,12 +12,11 @@ use Rattle.maps.specs.Lists.{All}
 use Rattle.maps.specs.Keyed.{lookup}
 use Rattle.maps.specs.Orders.{before}
 use Rattle.maps.proofs.Names.{byName}
-use Rattle.maps.proofs.Orders.{no-both}
 use Rattle.maps.proofs.Survivors.{all-lookup, lookup-key, lookup-own}
 use Rattle.image.specs.Schema.{Name, Decl, Schema}
 use Rattle.image.specs.Parse.{no}
 use Rattle.image.specs.Image.{readImage}
-use Rattle.maps.proofs.Tests.{both}
+use Rattle.maps.proofs.Tests.{no-both, both}
 use Rattle.rules.specs.Survivors.{nameOf, declarations, viewOf}
 use Rattle.rules.specs.Types.{sameType}
 use Rattle.rules.specs.Changes.{Change}

@@ -17,7 +17,7 @@ use Rattle.image.specs.Image.{u16At, format, entryCount, idCount, segmentCount,
 use Rattle.refusals.specs.Refusals.{Head, bodyAt, Placed}
 use Rattle.written.specs.Writer.{digits, writeEach, writeName, writeBody, writeEntry, writeContents, writeHead, bodiesAt, write}
 use Rattle.written.specs.Limits.{Each, end, also, Byte, U32, NameWithin, DeclWithin, EntryWithin, empty, full, Within}
-use Rattle.maps.proofs.Tests.{apart}
+use Rattle.maps.proofs.Tests.{no-both}
 use Rattle.refusals.proofs.Told.{Told, told-ok, told-no, told-bind, told-pick, told-then, told-both}
 use Rattle.refusals.proofs.Places.{Laid, good, wrong, placed-empty, placed-full}
 use Rattle.refusals.proofs.Refusals.{head-told, names-told, fits-told}
@@ -51,7 +51,7 @@ record Parts (s : List ℕ) (xs : List Name) (es : List (Option Decl)) : Type 0 
 all-placed : {s : List ℕ} {b : Bool} → Laid s 0 b → b ≡ true
     → ((j : ℕ) → 0 ≤ j → j < entryCount s → Placed s j) × (bodyAt s (entryCount s) ≡ length s)
 all-placed (good h e) t = (h, e)
-all-placed (wrong m) t = apart t refl
+all-placed (wrong m) t = no-both t refl
 
 module _ (s : List ℕ) (bytes : Each Byte s) where
   entry-keeps : (i : ℕ) → Placed s i → Told (λ e n. Entry s i e) Free (entryOf s i)

@@ -13,7 +13,7 @@ use Rattle.image.specs.Names.{nameByte, nameBytes}
 use Rattle.image.specs.Types.{followsTag}
 use Rattle.written.specs.Writer.{digits, writeEach, writeCounted, writeName, marksByte, writeEncoding, writeLimit, writeAfter, writeLabel, writeType, writeField, writeBare, writeVariant, writeDecl, writeBody, writeEntry, writeContents, writeHead, bodiesAt, write}
 use Rattle.written.specs.Limits.{Each, end, also, Byte, NameWithin, LabelWithin, primitive, subByte, semantic, named, bits, wrapping, fixedArray, map, result, Typed, bare, around, between, FieldWithin, BareWithin, VariantWithin, DeclWithin, message, enum, flags, union, newtype, config, alias, trait, impl, EntryWithin, empty, full, Within}
-use Rattle.maps.proofs.Tests.{apart, both}
+use Rattle.maps.proofs.Tests.{no-both, both}
 use Rattle.written.proofs.Items.{marks-most}
 use Rattle.written.proofs.Trees.{wraps-nothing, wraps-most}
 
@@ -48,7 +48,7 @@ allowed-byte b e = go (decLt b 256)
     go : Dec (b < 256) → b < 256
     go (yes h) = h
     go (no h) =
-        apart e (simp (lt-leb b 122 (omega arith), lt-leb b 90 (omega arith), lt-leb b 57 (omega arith), ne-eqb b 95 (omega arith), and-false))
+        no-both e (simp (lt-leb b 122 (omega arith), lt-leb b 90 (omega arith), lt-leb b 57 (omega arith), ne-eqb b 95 (omega arith), and-false))
 
 allowed-bytes : (x : Name) → nameBytes x ≡ true → Each Byte x
 unfolding nameBytes
