@@ -7,6 +7,8 @@ pub mod Survivors
 pub mod Searches
 pub mod Walking
 pub mod Places
+pub mod Reorderings
+pub mod Alike
 pub mod Levels
 pub mod Sums
 pub mod Examples

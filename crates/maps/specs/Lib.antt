@@ -3,4 +3,5 @@ pub mod Lists
 pub mod Orders
 pub mod Keyed
 pub mod Compare
+pub mod Reordered
 pub mod Walk
