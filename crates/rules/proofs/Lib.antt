@@ -1,5 +1,6 @@
 -- Equal, Types: the tests are sound. Chain, Self, Swap: the three claims of the distance rule, of the clauses over any views and any sound
 -- reading of types. Answer: the four cases of two images. Distance: the distance rule. Refusals: when each number is given.
+-- Calls: what both calls say together.
 -- Ordinals: the counts that are always 0. Sizes, Texts, Weights, Held, Bound: how long a report can be.
 -- Edges, Pinned: what is computed from the definitions alone.
 pub mod Equal
@@ -10,6 +11,7 @@ pub mod Swap
 pub mod Answer
 pub mod Distance
 pub mod Refusals
+pub mod Calls
 pub mod Ordinals
 pub mod Sizes
 pub mod Texts

@@ -1,7 +1,7 @@
--- The two entry points together. Their contracts say that the verdict call answers `verdictOf old new selector`, and that the report call
--- answers `reportLength` of `reported old new room` and leaves `written` of it, room being the buffer's length. So what rules proves of
--- these holds of the calls: the distance rule (Distance), when each refusal is given (Refusals). Here: what a caller who asks for the
--- length first may rest on. Assumes nothing.
+-- The two calls together. Their contracts say that the verdict call answers `verdictOf old new selector`, and that the report call answers
+-- `reportLength` of `reported old new room` and leaves `written` of it, room being the buffer's length. So what is proved of these holds of
+-- the calls: the distance rule (Distance), when each refusal is given (Refusals). Here: what a caller who asks for the length first may rest
+-- on. Assumes nothing.
 use mathlib.Core.Path.{_≡_, refl, sym, ap, _∙_}
 use mathlib.Core.Bool.{Bool, true, false, cond}
 use mathlib.Core.Logic.{_↔_}
