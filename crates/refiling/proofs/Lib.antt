@@ -1,0 +1,7 @@
+-- Clauses: of like declarations. Standing: of schemas. Repeats: what is needed, and what filing anew keeps. FilingOrder: the theorem.
+-- Relation: filing anew is an equivalence.
+pub mod Clauses
+pub mod Standing
+pub mod Repeats
+pub mod FilingOrder
+pub mod Relation

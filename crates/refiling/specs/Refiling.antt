@@ -1,0 +1,164 @@
+-- R-13 of document 02, "Filing order must not matter": when a schema has no repeats, when one is another filed anew, and what is claimed of
+-- the calls then. Assumes nothing.
+use mathlib.Core.Path.{_≡_}
+use mathlib.Core.Logic.{_⊎_}
+use mathlib.Core.Option.{none, some}
+use mathlib.Core.List.{List, [], _∷_}
+use Prim.Native.Nat.{ℕ, _≤_}
+use lib.ListN.{length, take}
+use Rattle.maps.specs.Lists.{All}
+use Rattle.maps.specs.Reordered.{Reordered, EachTwo, Once}
+use Rattle.image.specs.Schema.{Name, Label, label, Ty, leaf, one, two, Field, Variant, Decl, Schema}
+use Rattle.image.specs.Parse.{ok}
+use Rattle.image.specs.Image.{readImage}
+use Rattle.rules.specs.Survivors.{Registry, declOf, resolved, listed, ordinalOf, variantOrdinal, viewOf}
+use Rattle.rules.specs.Types.{Reading}
+use Rattle.rules.specs.Clauses.{changes}
+use Rattle.rules.specs.Answer.{checked, verdictOf, reported, reportLength, written}
+
+-- ---- "Take images in which no two resolvable declarations share a name, impls among themselves excepted, and no two numbers repeat within
+-- a body or variant."
+
+-- kind 8 is impl
+unfoldable pub Impls : Decl → Decl → Type 0
+Impls d e = (d .kind ≡ 8) × (e .kind ≡ 8)
+
+-- two that share a name are impls
+unfoldable pub NamesOnce : List Decl → Type 0
+NamesOnce ds = EachTwo (λ d e. d .name ≡ e .name → Impls d e) ds
+
+-- of fields, of variants or bits, and of the fields of each variant
+pub record NumbersOnce (d : Decl) : Type 0 where
+  pub fields : Once ordinalOf (d .fields)
+  pub variants : Once variantOrdinal (d .variants)
+  pub variantFields : All (λ v. Once ordinalOf (v .fields)) (d .variants)
+
+-- what the entries hold that are not empty, listed or not
+unfoldable pub entries : Registry → List Decl
+entries [] = []
+entries (e ∷ R) = resolved e (entries R)
+
+-- names in the declaration list, of which unresolvable ids are skipped, and numbers in every body
+pub record NoRepeats (s : Schema) : Type 0 where
+  pub names : NamesOnce (listed (s .registry) (s .ids))
+  pub numbers : All NumbersOnce (entries (s .registry))
+
+-- The same with names in the whole registry: there an id may be listed twice.
+pub record EntriesOnce (s : Schema) : Type 0 where
+  pub names : NamesOnce (entries (s .registry))
+  pub numbers : All NumbersOnce (entries (s .registry))
+
+-- What is needed is less than either: of the listed declarations alone, and of one name there may be the same one twice.
+pub record ListedOnce (s : Schema) : Type 0 where
+  pub names : EachTwo (λ d e. d .name ≡ e .name → (d ≡ e) ⊎ Impls d e) (listed (s .registry) (s .ids))
+  pub numbers : All NumbersOnce (listed (s .registry) (s .ids))
+
+-- ---- "Reordering declarations, fields, variants and flag bits, and renumbering the registry with every id following"
+
+-- "An id that is N or more, or whose entry is empty, is unresolvable"
+unfoldable pub Unresolvable : Registry → ℕ → Type 0
+Unresolvable R i = declOf R i ≡ none
+
+unfoldable pub Resolvable : Registry → ℕ → Type 0
+Resolvable R i = Unresolvable R i → ⊥
+
+-- R is the registry before, S the one after, and `to` gives an id its new number
+module _ (R S : Registry) (to : ℕ → ℕ) where
+  -- what an id becomes: its new number. "Unresolvable ids may become any other unresolvable ids.", each for itself.
+  pub data RefiledId : ℕ → ℕ → Type 0 where
+    renumbered : {i j : ℕ} → Resolvable R i → j ≡ to i → RefiledId i j
+    unresolvable : {i j : ℕ} → Unresolvable R i → Unresolvable S j → RefiledId i j
+
+  -- in a type every id follows (tag 3 is a named type), and nothing else changes: the names of inline `bits` keep their order
+  pub data RefiledLabel : Label → Label → Type 0 where
+    named : {i j second : ℕ} {names : List Name} → RefiledId i j → RefiledLabel (label 3 i second names) (label 3 j second names)
+    other : {tag first second : ℕ} {m n : List Name} → (tag ≡ 3 → ⊥) → m ≡ n → RefiledLabel (label tag first second m) (label tag first second n)
+
+  pub data RefiledType : Ty → Ty → Type 0 where
+    aLeaf : {l m : Label} → RefiledLabel l m → RefiledType (leaf l) (leaf m)
+    aOne : {l m : Label} {t u : Ty} → RefiledLabel l m → RefiledType t u → RefiledType (one l t) (one m u)
+    aTwo : {l m : Label} {t u v w : Ty} → RefiledLabel l m → RefiledType t u → RefiledType v w → RefiledType (two l t v) (two m u w)
+
+  pub record RefiledField (f g : Field) : Type 0 where
+    pub ordinal : f .ordinal ≡ g .ordinal
+    pub name : f .name ≡ g .name
+    pub marks : f .marks ≡ g .marks
+    pub encoding : f .encoding ≡ g .encoding
+    pub limit : f .limit ≡ g .limit
+    pub type : RefiledType (f .type) (g .type)
+
+  -- a variant of an enum or a union, or a bit of flags
+  pub record RefiledVariant (v w : Variant) : Type 0 where
+    pub ordinal : v .ordinal ≡ w .ordinal
+    pub name : v .name ≡ w .name
+    pub fields : Reordered RefiledField (v .fields) (w .fields)
+
+  pub record RefiledDecl (d e : Decl) : Type 0 where
+    pub kind : d .kind ≡ e .kind
+    pub name : d .name ≡ e .name
+    pub marks : d .marks ≡ e .marks
+    pub fields : Reordered RefiledField (d .fields) (e .fields)
+    pub variants : Reordered RefiledVariant (d .variants) (e .variants)
+    pub inner : RefiledType (d .inner) (e .inner)
+
+-- `to` and `from` take the resolvable ids of R and those of S into each other, each the other's inverse, and the entry of an id is refiled
+-- under its new number
+pub record Renumbered (R S : Registry) (to from : ℕ → ℕ) : Type 0 where
+  pub there : (i : ℕ) → Resolvable R i → Resolvable S (to i) × (from (to i) ≡ i)
+  pub back : (j : ℕ) → Resolvable S j → Resolvable R (from j) × (to (from j) ≡ j)
+  pub entry : (i : ℕ) (d e : Decl) → declOf R i ≡ some d → declOf S (to i) ≡ some e → RefiledDecl R S to d e
+
+-- t is s filed anew
+pub record Refiled (s t : Schema) : Type 0 where
+  pub to : ℕ → ℕ
+  pub from : ℕ → ℕ
+  pub registry : Renumbered (s .registry) (t .registry) to from
+  pub ids : Reordered (RefiledId (s .registry) (t .registry) to) (s .ids) (t .ids)
+  pub namespace : s .namespace ≡ t .namespace
+
+-- What filing anew is: an equivalence, under which what has no repeats has none.
+pub record Refilings : Type 0 where
+  pub itself : (s : Schema) → Refiled s s
+  pub back : (s t : Schema) → Refiled s t → Refiled t s
+  pub further : (s t u : Schema) → Refiled s t → Refiled t u → Refiled s u
+  pub noRepeats : (s t : Schema) → Refiled s t → NoRepeats s → NoRepeats t
+
+-- ---- "must leave the report of 01 the same byte for byte. .. Accepted images on both sides are the premise, and a buffer that holds the
+-- report."
+
+-- both images are accepted: P holds of the schema of a, and b holds that schema filed anew
+pub record RefiledImage (P : Schema → Type 0) (a b : List ℕ) : Type 0 where
+  pub before : Schema
+  pub after : Schema
+  pub beforeEnd : ℕ
+  pub afterEnd : ℕ
+  pub beforeRead : readImage a ≡ ok before beforeEnd
+  pub afterRead : readImage b ≡ ok after afterEnd
+  pub holds : P before
+  pub refiled : Refiled before after
+
+-- Two pairs of images get one answer from both calls.
+pub record SameAnswers (old new old′ new′ : List ℕ) : Type 0 where
+  -- the refusal, by number and side, or the changes: all that the calls answer is made of it
+  pub outcome : checked old new ≡ checked old′ new′
+  -- the verdict call, by selector
+  pub verdict : (selector : ℕ) → verdictOf old new selector ≡ verdictOf old′ new′ selector
+  -- the report call in one and the same buffer, large enough or not: what it returns, and the whole buffer after it
+  pub returned : (out : List ℕ) → reportLength (reported old new (length out)) ≡ reportLength (reported old′ new′ (length out))
+  pub buffer : (out : List ℕ) → written (reported old new (length out)) out ≡ written (reported old′ new′ (length out)) out
+  -- the report in any two buffers that hold it (selector 4 is its length)
+  pub report : (out out′ : List ℕ) → verdictOf old new 4 ≤ length out → verdictOf old new 4 ≤ length out′
+      → take (verdictOf old new 4) (written (reported old new (length out)) out)
+      ≡ take (verdictOf old new 4) (written (reported old′ new′ (length out′)) out′)
+
+-- Filing anew does not affect the answers on images with P. Of those filed anew nothing is asked but that they are accepted.
+abbrev pub Unaffected : (Schema → Type 0) → Type 0
+Unaffected P = (old new old′ new′ : List ℕ) → RefiledImage P old old′ → RefiledImage P new new′ → SameAnswers old new old′ new′
+
+-- With either reading of "resolvable declarations", and with less; and over schemas, in whatever way types are read.
+pub record FilingOrder : Type 0 where
+  pub noRepeats : Unaffected NoRepeats
+  pub entriesOnce : Unaffected EntriesOnce
+  pub listedOnce : Unaffected ListedOnce
+  pub changes : (same : Reading) (old new old′ new′ : Schema) → ListedOnce old → ListedOnce new → Refiled old old′ → Refiled new new′
+      → changes same (viewOf old) (viewOf new) ≡ changes same (viewOf old′) (viewOf new′)
