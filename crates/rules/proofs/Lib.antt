@@ -2,7 +2,7 @@
 -- reading of types. Answer: the four cases of two images. Distance: the distance rule. Refusals: when each number is given.
 -- Calls: what both calls say together.
 -- Ordinals: the counts that are always 0. Sizes, Texts, Weights, Held, Bound: how long a report can be.
--- Edges, Pinned: what is computed from the definitions alone.
+-- Computed: what is unfolded to compute. Edges, Pinned: what is computed from the definitions alone.
 pub mod Equal
 pub mod Types
 pub mod Chain
@@ -18,5 +18,6 @@ pub mod Texts
 pub mod Weights
 pub mod Held
 pub mod Bound
+pub mod Computed
 pub mod Edges
 pub mod Pinned

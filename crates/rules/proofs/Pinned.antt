@@ -1,32 +1,11 @@
 -- The recorded answers of the Rust are those of the definitions, by computation from these alone. Assumes nothing.
 use mathlib.Core.Path.{refl}
-use mathlib.Core.List.{flatMap}
-use Rattle.maps.specs.Lists.{pass, largest, total, count}
-use Rattle.maps.specs.Orders.{same, before, orderOf}
-use Rattle.maps.specs.Keyed.{insert, survivors, lookup}
-use Rattle.maps.specs.Compare.{unmatched, matched, between, compare}
-use Rattle.image.specs.Parse.{bind, pick, shift, within, part, byteAt, codeAt, littleEndian, numberAt, many, counted}
-use Rattle.image.specs.Names.{nameByte, nameBytes, nameAt, namesAt}
-use Rattle.image.specs.Types.{followsTag, innerTypes, afterTag, labelOf, innerAt, typeOf, typeAt}
-use Rattle.image.specs.Fields.{marksOf, marksAt, plain, delta, encodingOf, encodingAt, limitAt, fieldAt, bareAt, variantAt}
-use Rattle.image.specs.Bodies.{messageAt, enumAt, flagsAt, unionAt, newtypeAt, otherAt, implAt, declAt, bodyOf}
-use Rattle.image.specs.Image.{u16At, format, entryCount, idCount, segmentCount, entryOffset, entryLength, idsAt, segmentsAt, idsFrom, headOf, tablesOf, laid, entryOf, entriesOf, readImage}
-use Rattle.image.specs.Words.{bytes, kindWord}
-use Rattle.rules.specs.Equal.{sameList, sameOption, sameName, sameNames}
-use Rattle.rules.specs.Survivors.{declOf, resolved, listed, declarations, fieldMap, variantMap, viewOf}
-use Rattle.rules.specs.Types.{nameIn, resolveLabel, resolve, vector, sameLabel, equalLabel, sameType}
-use Rattle.text.specs.Decimal.{digits, decimal}
-use Rattle.rules.specs.Text.{joined, word, boolWord, primitiveWord, semanticWord, showName, showLeaf, opening, showSize, showType, deltasAround, showEncoding}
-use Rattle.rules.specs.Changes.{level, only, quoted, numbered, fromTo}
-use Rattle.rules.specs.Clauses.{showNamespace, compareNamespaces, compareTypes, fieldText, compareFieldNames, sameEncoding, compareEncodings, compareDeprecated, compareFields, fieldRules, compareFieldSets, compareMessages, variantText, variantGone, variantCame, enumBump, enumRules, compareNonExhaustive, compareEnums, bitText, flagsRules, compareFlags, variantDecl, unionRules, compareUnions, compareNewtypes, compareKind, kindChanged, compareDecls, declText, declRules, changes}
-use Rattle.rules.specs.Verdict.{bumpOf, resultOf, countOf, alias, isAlias, any, aliasPair}
-use Rattle.rules.specs.Report.{changeWord, bumpWord, resultWord, fieldPart, line, changeLine, lastLine, report}
-use Rattle.rules.specs.Answer.{comparePair, acceptNew, acceptOld, outcome, checked, counts, selected, select, verdictOf, written}
-use Rattle.rules.specs.Pinned.{digit, hex, image, lines, told, Pinned}
-use Rattle.rules.specs.Distance.{Verdict, distance, counted as countIn, Steps}
+use Rattle.rules.specs.Pinned.{Pinned}
+use Rattle.rules.specs.Distance.{Verdict, distance, counted, Steps}
+use Rattle.rules.proofs.Computed.{reports}
 
 pub pinned : Pinned
-unfolding flatMap pass largest total count same before orderOf insert survivors lookup unmatched matched between compare bind pick shift within part byteAt codeAt littleEndian numberAt many counted nameByte nameBytes nameAt namesAt followsTag innerTypes afterTag labelOf innerAt typeOf typeAt marksOf marksAt plain delta encodingOf encodingAt limitAt fieldAt bareAt variantAt messageAt enumAt flagsAt unionAt newtypeAt otherAt implAt declAt bodyOf u16At format entryCount idCount segmentCount entryOffset entryLength idsAt segmentsAt idsFrom headOf tablesOf laid entryOf entriesOf readImage bytes kindWord sameList sameOption sameName sameNames declOf resolved listed declarations fieldMap variantMap viewOf nameIn resolveLabel resolve vector sameLabel equalLabel sameType digits decimal joined word boolWord primitiveWord semanticWord showName showLeaf opening showSize showType deltasAround showEncoding level only quoted numbered fromTo showNamespace compareNamespaces compareTypes fieldText compareFieldNames sameEncoding compareEncodings compareDeprecated compareFields fieldRules compareFieldSets compareMessages variantText variantGone variantCame enumBump enumRules compareNonExhaustive compareEnums bitText flagsRules compareFlags variantDecl unionRules compareUnions compareNewtypes compareKind kindChanged compareDecls declText declRules changes bumpOf resultOf countOf alias isAlias any aliasPair changeWord bumpWord resultWord fieldPart line changeLine lastLine report comparePair acceptNew acceptOld outcome checked counts selected select verdictOf written digit hex image lines told Verdict distance countIn Steps
+unfolding reports Verdict distance counted Steps
 pinned = record {
   richReport = refl;
   richSelectors = refl;
