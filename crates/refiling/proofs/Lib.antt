@@ -1,7 +1,9 @@
 -- Clauses: of like declarations. Standing: of schemas. Repeats: what is needed, and what filing anew keeps. FilingOrder: the theorem.
--- Relation: filing anew is an equivalence.
+-- Relation: filing anew is an equivalence. Example, Needed: what is computed.
 pub mod Clauses
 pub mod Standing
 pub mod Repeats
 pub mod FilingOrder
 pub mod Relation
+pub mod Example
+pub mod Needed
