@@ -19,6 +19,7 @@ mod model;
 mod random;
 mod reader;
 mod record;
+mod refiling;
 mod refusal;
 mod rng;
 mod schema;

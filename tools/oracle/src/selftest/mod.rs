@@ -8,6 +8,7 @@ mod exporting;
 mod listing;
 mod reading;
 mod recording;
+mod refiling;
 mod samples;
 mod texts;
 
@@ -50,6 +51,7 @@ pub fn run() -> Outcome {
     listing::run(&mut tests);
     against_check::run(&mut tests);
     recording::run(&mut tests);
+    refiling::run(&mut tests);
     texts::run(&mut tests);
     samples::run(&mut tests);
     calls::run(&mut tests);
