@@ -7,6 +7,7 @@ use crate::limits::IMAGE_BYTES;
 use crate::listing::listing;
 use crate::random::random_schema;
 use crate::reader::read_image;
+use crate::refiling::{refiled, repeat};
 use crate::rng::Rng;
 use crate::text;
 use crate::writer::image;
@@ -61,6 +62,16 @@ pub fn make(text: &str, image: &str) -> Outcome {
     let read = std::fs::read_to_string(text).map_err(|error| of(text, &error))?;
     let bytes = text::make(&read).map_err(|fault| of(text, &fault))?;
     std::fs::write(image, bytes).map_err(|error| of(image, &error))
+}
+
+/// Writes a copy of an accepted image without repeats that is filed otherwise.
+pub fn refile(path: &str, seed: u64, out: &str) -> Outcome {
+    let schema = read_image(&read_file(path)?).map_err(|refusal| format!("{path}: {refusal}"))?;
+    if let Some(what) = repeat(&schema) {
+        return Err(format!("{path}: repeated: {what}"));
+    }
+    let copy = refiled(&mut Rng::new(seed), &schema);
+    std::fs::write(out, image(&copy)).map_err(|error| format!("{out}: {error}"))
 }
 
 /// The contents listing of one image, or its refusal, always of the old side.

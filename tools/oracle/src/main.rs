@@ -44,6 +44,7 @@ const USAGE: &str = "usage: oracle report OLD NEW
        oracle verdict OLD NEW [SELECTOR]
        oracle show IMAGE
        oracle make TEXT IMAGE
+       oracle refile IMAGE SEED OUT
        oracle list IMAGE
        oracle generate FILE [--seed N]
        oracle verify FILE
@@ -72,6 +73,7 @@ fn run(words: &[&str]) -> Outcome {
         ["verdict", old, new, selector] => commands::verdict(old, new, Some(selector)),
         ["show", image] => commands::show(image),
         ["make", text, image] => commands::make(text, image),
+        ["refile", image, seed, out] => commands::refile(image, number(seed)?, out),
         ["list", path] => commands::list(path),
         ["generate", path] => record::generate(path, record::SEED),
         ["generate", path, "--seed", seed] => record::generate(path, number(seed)?),

@@ -37,6 +37,8 @@ pub fn run(tests: &mut Tests) {
     show(tests);
     missing(tests, &folder);
     make(tests, &folder);
+    refile(tests, &folder);
+    refile_refuses(tests, &folder);
     let removed = std::fs::remove_dir_all(&folder);
     tests.holds("the folder is removed", removed.is_ok());
 }
@@ -96,4 +98,46 @@ fn make(tests: &mut Tests, folder: &Path) {
     );
     let missing = call(&["make", &path("missing.txt"), &other]);
     tests.equal("make of no text, status", missing.status, Some(1));
+}
+
+fn refile(tests: &mut Tests, folder: &Path) {
+    let path = |name: &str| folder.join(name).to_string_lossy().into_owned();
+    let (image, next) = (sample("drive-2.img"), sample("drive-3.img"));
+    let bytes = |seed: &str, name: &str| {
+        let copied = call(&["refile", &image, seed, &path(name)]);
+        (copied.status, std::fs::read(path(name)).ok())
+    };
+    let (status, copy) = bytes("7", "copy.img");
+    tests.equal("refile, status", status, Some(0));
+    tests.holds("refile files otherwise", copy != std::fs::read(&image).ok());
+    let again = bytes("7", "again.img").1;
+    tests.holds("refile, one seed, the same bytes", copy == again);
+    let other = bytes("8", "other-copy.img").1;
+    tests.holds("refile, another seed, other bytes", copy != other);
+    let report = |old: &str| call(&["report", old, &next]).printed;
+    let wanted = report(&image);
+    tests.equal("the copy's report", report(&path("copy.img")), wanted);
+}
+
+fn refile_refuses(tests: &mut Tests, folder: &Path) {
+    let path = |name: &str| folder.join(name).to_string_lossy().into_owned();
+    let (text, twice, out) = (path("twice.txt"), path("twice.img"), path("none.img"));
+    let lines = "namespace\ndeclares A#1 A#0\n#0 config A\n#1 trait A\n";
+    tests.holds("a text with repeats", std::fs::write(&text, lines).is_ok());
+    tests.equal("its image", call(&["make", &text, &twice]).status, Some(0));
+    let damaged = sample("damaged.img");
+    let faults = [
+        (&twice, "repeated: declarations 0 and 1: both are 'A'"),
+        (&damaged, "refused 9: code: entry 3, message: bits 71"),
+    ];
+    for (image, why) in faults {
+        let refused = call(&["refile", image, "7", &out]);
+        tests.equal("refile refuses, status", refused.status, Some(1));
+        let told = refused
+            .complaint
+            .ends_with(&format!("oracle: {image}: {why}\n"));
+        tests.holds("refile says why", told);
+        let written = Path::new(&out).exists();
+        tests.holds("refile writes nothing then", !written);
+    }
 }
