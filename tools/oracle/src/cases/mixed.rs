@@ -24,7 +24,7 @@ pub fn add(cases: &mut Cases) {
     cases.both_ways("every kind of change twice", &twice(&old), &twice(&new));
 }
 
-fn before() -> Schema {
+pub fn before() -> Schema {
     let fields = vec![
         field(0, "gone", primitive(1)),
         field(1, "typed", primitive(1)),
@@ -43,7 +43,7 @@ fn before() -> Schema {
     ])
 }
 
-fn after() -> Schema {
+pub fn after() -> Schema {
     let fields = vec![
         field(1, "typed", primitive(2)),
         field(2, "anew", primitive(1)),

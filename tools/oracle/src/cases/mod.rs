@@ -14,6 +14,7 @@ mod marks;
 mod mixed;
 mod names;
 mod randoms;
+mod refiled;
 mod repeats;
 pub mod rich;
 pub mod sizes;
@@ -60,6 +61,7 @@ pub fn all(seed: u64) -> Vec<Case> {
     sizes::add(&mut cases);
     damage::add(&mut cases, &mut rng);
     randoms::add(&mut cases, &mut rng);
+    refiled::add(&mut cases, seed);
     cases.list
 }
 

@@ -10,6 +10,7 @@ mod compared;
 mod damaged;
 mod edges;
 mod held;
+mod refiled;
 mod refused;
 mod typed;
 
@@ -80,6 +81,7 @@ pub struct Coverage {
     seen: BTreeMap<String, usize>,
     pairs: BTreeSet<(Vec<u8>, Vec<u8>)>,
     last: Vec<u8>,
+    filed: refiled::Filed,
 }
 
 impl Coverage {
@@ -96,6 +98,7 @@ impl Coverage {
             compared::facts(&mut facts, old, new);
         }
         self.neighbours(&mut facts, case, pair);
+        self.filed.facts(&mut facts, pair);
         for fact in facts.0 {
             *self.seen.entry(fact).or_default() += 1;
         }
@@ -124,6 +127,7 @@ impl Coverage {
         held::rows(&mut rows);
         compared::rows(&mut rows);
         typed::rows(&mut rows);
+        refiled::rows(&mut rows);
         for fact in ["verdicts both ways", "verdicts along a chain"] {
             rows.one(fact);
         }

@@ -8,6 +8,6 @@ mod releases;
 mod repeats;
 
 pub use copy::refiled;
-pub use form::form;
+pub use form::{form, Form};
 pub use releases::{filed_pair, unrepeated_releases};
 pub use repeats::repeat;

@@ -6,7 +6,8 @@ mod repeats;
 mod spoiled;
 
 use super::Tests;
-use crate::answer::judge;
+use crate::answer::{judge, Answer};
+use crate::cases;
 use crate::edits::edited;
 use crate::reader::read_image;
 use crate::record::SEED;
@@ -14,6 +15,7 @@ use crate::refiling::{filed_pair, form, refiled, repeat, unrepeated_releases};
 use crate::rng::Rng;
 use crate::schema::Schema;
 use crate::writer::image;
+use std::collections::BTreeMap;
 
 pub fn run(tests: &mut Tests) {
     repeats::run(tests);
@@ -21,6 +23,7 @@ pub fn run(tests: &mut Tests) {
     spoiled::run(tests);
     answers(tests);
     one_form(tests);
+    recorded(tests);
     controls::run(tests);
 }
 
@@ -88,4 +91,31 @@ fn one_form(tests: &mut Tests) {
     }
     tests.equal("one form and two answers", differing, 0);
     tests.holds("200 edits or more that keep the form", alike >= 200);
+}
+
+/// Every recorded copy beside the pair that it is a copy of.
+fn recorded(tests: &mut Tests) {
+    let mut first: BTreeMap<String, ([Vec<u8>; 2], Answer)> = BTreeMap::new();
+    let (mut copies, mut moved) = (0, 0);
+    let cases = cases::all(SEED).into_iter();
+    for case in cases.filter(|case| case.name.starts_with("refiled ")) {
+        let answer = judge(&case.old, &case.new).answer;
+        let images = [case.old, case.new];
+        let Some((name, _)) = case.name.split_once(", copy") else {
+            first.insert(case.name, (images, answer));
+            continue;
+        };
+        let Some((originals, wanted)) = first.get(name) else {
+            tests.holds(&format!("{name} before its copies"), false);
+            continue;
+        };
+        let forms =
+            |images: &[Vec<u8>; 2]| images.each_ref().map(|i| read_image(i).map(|s| form(&s)));
+        tests.holds(&case.name, forms(&images) == forms(originals));
+        tests.equal(&case.name, &answer, wanted);
+        copies += 1;
+        moved += usize::from(images != *originals);
+    }
+    tests.equal("three copies of each", copies, 3 * first.len());
+    tests.holds("200 copies of other bytes or more", moved >= 200);
 }

@@ -1,0 +1,200 @@
+//! Facts about a pair without repeats that differs from an earlier one only in how
+//! its images are filed.
+
+use super::held::unresolvable;
+use super::{Facts, Rows};
+use crate::answer::{Answer, Pair};
+use crate::limits::NODES;
+use crate::model::{kept, surviving_declarations, survivors};
+use crate::refiling::{form, repeat, Form};
+use crate::schema::*;
+use std::collections::BTreeMap;
+
+const SAME: &str = "filed otherwise, the same answer";
+const ANOTHER: &str = "filed otherwise, another answer";
+
+/// Of pairs with the same forms the first, and its answer.
+#[derive(Default)]
+pub struct Filed(BTreeMap<[Form; 2], ([Schema; 2], Answer)>);
+
+impl Filed {
+    pub fn facts(&mut self, facts: &mut Facts, pair: &Pair) {
+        let (Ok(old), Ok(new)) = (&pair.old, &pair.new) else {
+            return;
+        };
+        if repeat(old).is_some() || repeat(new).is_some() {
+            return;
+        }
+        let first = || ([old.clone(), new.clone()], pair.answer.clone());
+        let forms = [form(old), form(new)];
+        let (first, answer) = self.0.entry(forms).or_insert_with(first);
+        let moved = [first[0] != *old, first[1] != *new];
+        let sides = match moved {
+            [false, false] => return,
+            [true, false] => "old",
+            [false, true] => "new",
+            [true, true] => "both",
+        };
+        facts.add(format!("filed otherwise: {sides}"));
+        facts.add(if pair.answer == *answer {
+            SAME
+        } else {
+            ANOTHER
+        });
+        facts.add(match answer.number {
+            0 => format!("filed otherwise, bump {:?}", answer.bump),
+            number => format!("filed otherwise, refused {number}"),
+        });
+        for (place, (side, schema)) in [("old", old), ("new", new)].into_iter().enumerate() {
+            let fact = |text: &str| facts.add(format!("{side} filed otherwise: {text}"));
+            Side(fact, &first[place], schema).facts();
+        }
+    }
+}
+
+/// A side as it was filed first and as it is filed here; takes facts.
+struct Side<'a, F: FnMut(&str)>(F, &'a Schema, &'a Schema);
+
+impl<F: FnMut(&str)> Side<'_, F> {
+    fn add_if(&mut self, condition: bool, fact: &str) {
+        if condition {
+            self.0(fact);
+        }
+    }
+
+    fn facts(&mut self) {
+        let Side(_, first, here) = *self;
+        let both = [first, here];
+        let [names, names_here] = both.map(listed_names);
+        self.add_if(names != names_here, "declarations reordered");
+        let impls = names.iter().filter(|(_, kind)| *kind == IMPL).count();
+        self.add_if(names != names_here && impls > 1, "several impls");
+        let [ids, ids_here] = both.map(unresolvable_ids);
+        self.add_if(ids != ids_here, "other unresolvable ids listed");
+        let [entries, entries_here] = both.map(|schema| schema.registry.len());
+        self.add_if(entries < entries_here, "more entries");
+        self.add_if(entries > entries_here, "fewer entries");
+        let [filed, filed_here] = both.map(entry_names);
+        self.add_if(filed != filed_here, "registry renumbered");
+        let [standing, standing_here] = both.map(surviving_declarations);
+        for (_, one, other) in kept(&standing, &standing_here) {
+            self.of_bodies(&one.body, &other.body);
+        }
+    }
+
+    fn of_bodies(&mut self, one: &Body, other: &Body) {
+        match (one, other) {
+            (Body::Message(_, o), Body::Message(_, n)) => self.of_fields("fields", o, n),
+            (Body::Enum(_, o), Body::Enum(_, n)) => self.of_order("enum variants", o, n),
+            (Body::Flags(o), Body::Flags(n)) => self.of_order("bits", o, n),
+            (Body::Union(o), Body::Union(n)) => {
+                self.of_order("union variants", o, n);
+                for (_, o, n) in kept(&survivors(o), &survivors(n)) {
+                    self.of_fields("variant's fields", &o.fields, &n.fields);
+                }
+            }
+            (Body::Newtype(o), Body::Newtype(n)) => self.of_types(o, n, "a root", 1),
+            _ => {}
+        }
+    }
+
+    fn of_order<T: Numbered>(&mut self, place: &str, one: &[T], other: &[T]) {
+        let ordinals = |list: &[T]| list.iter().map(T::ordinal).collect::<Vec<_>>();
+        self.add_if(
+            ordinals(one) != ordinals(other),
+            &format!("{place} reordered"),
+        );
+    }
+
+    fn of_fields(&mut self, place: &str, one: &[Field], other: &[Field]) {
+        self.of_order(place, one, other);
+        for (_, o, n) in kept(&survivors(one), &survivors(other)) {
+            self.of_types(&o.ty, &n.ty, "a root", 1);
+        }
+    }
+
+    fn of_types(&mut self, one: &Type, other: &Type, place: &str, node: usize) {
+        if let (Label::Named(o), Label::Named(n)) = (&one.label, &other.label) {
+            if o != n {
+                self.of_ids(*o, *n, place, node);
+            }
+        }
+        let inner = one.inner.iter().zip(&other.inner).enumerate();
+        for (n, (o, other)) in inner {
+            let place = format!("inner type {n} of tag {}", one.tag());
+            self.of_types(o, other, &place, node + 1);
+        }
+    }
+
+    fn of_ids(&mut self, one: u32, other: u32, place: &str, node: usize) {
+        match (unresolvable(self.1, one), unresolvable(self.2, other)) {
+            (Some(EMPTY), Some(to)) => self.add_if(to != EMPTY, FROM_EMPTY),
+            (Some(_), Some(EMPTY)) => self.0(TO_EMPTY),
+            (Some(_), _) => self.0("other unresolvable id in a type"),
+            _ => {
+                self.0(&format!("id in {place} renumbered"));
+                self.add_if(node == NODES, DEEPEST);
+            }
+        }
+    }
+}
+
+const EMPTY: &str = "of an empty entry";
+const FROM_EMPTY: &str = "id of an empty entry in a type, then N or more";
+const TO_EMPTY: &str = "id of N or more in a type, then of an empty entry";
+const DEEPEST: &str = "id in a 32nd node renumbered";
+
+fn listed_names(schema: &Schema) -> Vec<(&str, u8)> {
+    let listed = schema.declarations.iter().filter_map(|id| schema.get(*id));
+    listed.map(|d| (d.name.as_str(), d.kind())).collect()
+}
+
+fn unresolvable_ids(schema: &Schema) -> Vec<u32> {
+    let listed = schema.declarations.iter().copied();
+    let mut ids: Vec<u32> = listed.filter(|id| schema.get(*id).is_none()).collect();
+    ids.sort();
+    ids
+}
+
+fn entry_names(schema: &Schema) -> Vec<(&str, u8)> {
+    let full = schema.registry.iter().flatten();
+    full.map(|d| (d.name.as_str(), d.kind())).collect()
+}
+
+const MOVED: [&str; 15] = [
+    "declarations reordered",
+    "several impls",
+    "fields reordered",
+    "enum variants reordered",
+    "bits reordered",
+    "union variants reordered",
+    "variant's fields reordered",
+    "registry renumbered",
+    "more entries",
+    "fewer entries",
+    "other unresolvable ids listed",
+    "other unresolvable id in a type",
+    FROM_EMPTY,
+    TO_EMPTY,
+    DEEPEST,
+];
+
+pub fn rows(rows: &mut Rows) {
+    rows.one(SAME);
+    rows.never(ANOTHER);
+    for sides in ["old", "new", "both"] {
+        rows.one(format!("filed otherwise: {sides}"));
+    }
+    for bump in ["Patch", "Minor", "Major"] {
+        rows.one(format!("filed otherwise, bump {bump}"));
+    }
+    rows.one("filed otherwise, refused 11");
+    let mut each = |text: &str| rows.sides(|side| format!("{side} filed otherwise: {text}"));
+    MOVED.iter().for_each(|text| each(text));
+    each("id in a root renumbered");
+    for tag in 4..=9 {
+        for place in 0..inner_types(tag) {
+            each(&format!("id in inner type {place} of tag {tag} renumbered"));
+        }
+    }
+}
