@@ -52,7 +52,8 @@ const USAGE: &str = "usage: oracle report OLD NEW
        oracle selftest
 built with the library also:
        oracle-library bench FILE
-       oracle-library hammer FILE SEED COUNT SECONDS FOLDER";
+       oracle-library hammer FILE SEED COUNT SECONDS FOLDER
+       oracle-library hammer --refiled SEED COUNT SECONDS FOLDER";
 
 fn main() {
     let words: Vec<String> = std::env::args().skip(1).collect();
@@ -83,8 +84,8 @@ fn run(words: &[&str]) -> Outcome {
         #[cfg(all(library, vexil))]
         ["bench", path] => library::bench::run(path),
         #[cfg(library)]
-        ["hammer", path, seed, count, seconds, folder] => library::hammer::run(
-            path,
+        ["hammer", what, seed, count, seconds, folder] => library::hammer::run(
+            (what != "--refiled").then_some(what),
             number(seed)?,
             number(count)?,
             number(seconds)?,

@@ -1,10 +1,12 @@
 //! Many pairs through the library against the oracle: every selector, and the
-//! report in buffers of several lengths, all against guard pages.
+//! report in buffers of several lengths, all against guard pages. Of pairs without
+//! repeats also copies that are filed otherwise, which must get the same answer.
 
 use super::guarded::Guarded;
 use crate::answer::{judge, Answer, SELECTORS};
 use crate::answers;
 use crate::commands::{random_pair, Outcome};
+use crate::refiling::filed_pair;
 use crate::rng::Rng;
 use std::fs::File;
 use std::hint::black_box;
@@ -18,23 +20,31 @@ const REPORT_ROOM: usize = 1 << 20;
 const UNTOUCHED: u8 = 0xa5;
 /// So many bytes before a report buffer are watched.
 const BEFORE: usize = 64;
+/// Of so many random pairs one more comes with its copies.
+const REFILED_ONCE_IN: u64 = 4;
 
-/// The pair in hand, in files: there it is also after a fault or a call without
-/// end.
+/// The images that stand for each side of a pair: one, or one and its copies.
+type Sides = [Vec<Vec<u8>>; 2];
+
+/// The pair in hand, in files, and that of which it is a copy, or itself: there
+/// they are also after a fault or a call without end.
 struct InHand {
-    paths: [PathBuf; 2],
-    files: [File; 2],
+    paths: [PathBuf; 4],
+    files: [File; 4],
 }
+
+const FILES: [&str; 4] = ["old.img", "new.img", "original-old.img", "original-new.img"];
 
 impl InHand {
     fn new(folder: &Path) -> std::io::Result<InHand> {
         std::fs::create_dir_all(folder)?;
-        let paths = ["old.img", "new.img"].map(|name| folder.join(name));
-        let files = [File::create(&paths[0])?, File::create(&paths[1])?];
+        let paths = FILES.map(|name| folder.join(name));
+        let [old, new, original_old, original_new] = paths.each_ref().map(File::create);
+        let files = [old?, new?, original_old?, original_new?];
         Ok(InHand { paths, files })
     }
 
-    fn keep(&self, images: [&[u8]; 2]) -> std::io::Result<()> {
+    fn keep(&self, images: [&[u8]; 4]) -> std::io::Result<()> {
         for (file, image) in self.files.iter().zip(images) {
             file.write_all_at(image, 0)?;
             file.set_len(image.len() as u64)?;
@@ -53,30 +63,44 @@ struct Hammer {
 }
 
 impl Hammer {
-    /// Runs one pair; an error says in what the library differs.
-    fn pair(&mut self, old: &[u8], new: &[u8]) -> Outcome {
-        let kept = self.in_hand.keep([old, new]);
-        kept.map_err(|error| error.to_string())?;
-        let answer = judge(old, new).answer;
+    /// Judges the first image of each side and holds the library against that
+    /// answer on all pairs; an error says in what it differs.
+    fn pairs(&mut self, [olds, news]: &Sides) -> Outcome {
+        let mut answer = None;
+        for (old, new) in olds
+            .iter()
+            .flat_map(|old| news.iter().map(move |new| (old, new)))
+        {
+            let kept = self.in_hand.keep([old, new, &olds[0], &news[0]]);
+            kept.map_err(|error| error.to_string())?;
+            let place = if answer.is_some() { "of a copy, " } else { "" };
+            let answer = answer.get_or_insert_with(|| judge(old, new).answer);
+            let held = self.pair(old, new, answer);
+            held.map_err(|difference| format!("{place}{difference}"))?;
+        }
+        Ok(())
+    }
+
+    fn pair(&mut self, old: &[u8], new: &[u8], answer: &Answer) -> Outcome {
         let (old, new) = (self.old.lend(old), self.new.lend(new));
-        verdicts(old, new, &answer)?;
+        verdicts(old, new, answer)?;
         let length = answer.report.len();
         let less = length.saturating_sub(1);
         for room in [length, less, length + 1, length + 300, 0] {
-            report(old, new, &mut self.out, room, &answer)?;
+            report(old, new, &mut self.out, room, answer)?;
         }
         self.passed += 1;
         Ok(())
     }
 
     /// Runs pairs until one differs or the time is over.
-    fn pairs(&mut self, pairs: impl Iterator<Item = (Vec<u8>, Vec<u8>)>) -> Outcome {
-        for (old, new) in pairs {
+    fn all(&mut self, list: impl Iterator<Item = Sides>) -> Outcome {
+        for sides in list {
             if Instant::now() >= self.stop {
                 println!("the time is over after {} pairs", self.passed);
                 break;
             }
-            self.pair(&old, &new)?;
+            self.pairs(&sides)?;
         }
         Ok(())
     }
@@ -117,10 +141,47 @@ fn report(old: &[u8], new: &[u8], out: &mut Guarded, room: usize, answer: &Answe
     }
 }
 
-/// The recorded pairs of a file, then random ones, for so many seconds at most.
-pub fn run(recorded: &str, seed: u64, count: u64, seconds: u64, folder: &str) -> Outcome {
-    let bytes = std::fs::read(recorded).map_err(|error| format!("{recorded}: {error}"))?;
+fn alone((old, new): (Vec<u8>, Vec<u8>)) -> Sides {
+    [vec![old], vec![new]]
+}
+
+fn with_copies(rng: &mut Rng) -> Sides {
+    filed_pair(rng).map(Vec::from)
+}
+
+/// Random pairs, among them some with copies, from numbers of their own: the
+/// others are those of the seed alone.
+fn random(seed: u64, count: u64) -> impl Iterator<Item = Sides> {
+    let (mut rng, mut filing) = (Rng::new(seed), Rng::new(!seed));
+    (0..count).flat_map(move |n| {
+        let more = n % REFILED_ONCE_IN == 0;
+        let pair = alone(random_pair(&mut rng));
+        [pair]
+            .into_iter()
+            .chain(more.then(|| with_copies(&mut filing)))
+    })
+}
+
+/// The recorded pairs of a file, then random ones; without a file pairs with
+/// copies only.
+fn list(
+    recorded: Option<&str>,
+    seed: u64,
+    count: u64,
+) -> Result<Box<dyn Iterator<Item = Sides>>, String> {
+    let Some(path) = recorded else {
+        let mut rng = Rng::new(seed);
+        return Ok(Box::new((0..count).map(move |_| with_copies(&mut rng))));
+    };
+    let bytes = std::fs::read(path).map_err(|error| format!("{path}: {error}"))?;
     let recorded = answers::read(&bytes)?.into_iter();
+    let recorded = recorded.map(|pair| alone((pair.old, pair.new)));
+    Ok(Box::new(recorded.chain(random(seed, count))))
+}
+
+/// Runs them for so many seconds at most.
+pub fn run(recorded: Option<&str>, seed: u64, count: u64, seconds: u64, folder: &str) -> Outcome {
+    let list = list(recorded, seed, count)?;
     let in_hand = InHand::new(Path::new(folder)).map_err(|error| format!("{folder}: {error}"))?;
     let mut hammer = Hammer {
         in_hand,
@@ -130,12 +191,10 @@ pub fn run(recorded: &str, seed: u64, count: u64, seconds: u64, folder: &str) ->
         stop: Instant::now() + Duration::from_secs(seconds),
         passed: 0,
     };
-    let mut rng = Rng::new(seed);
-    let random = (0..count).map(|_| random_pair(&mut rng));
-    let outcome = hammer.pairs(recorded.map(|pair| (pair.old, pair.new)).chain(random));
+    let outcome = hammer.all(list);
     let failed = u8::from(outcome.is_err());
     if let Err(difference) = outcome {
-        let [old, new] = &hammer.in_hand.paths;
+        let [old, new, ..] = &hammer.in_hand.paths;
         println!("{difference}: {} {}", old.display(), new.display());
     }
     println!("{} passed, {failed} failed", hammer.passed);
