@@ -10,7 +10,7 @@ mod compared;
 mod damaged;
 mod edges;
 mod held;
-mod refiled;
+pub mod refiled;
 mod refused;
 mod typed;
 

@@ -8,7 +8,7 @@ use crate::limits::NODES;
 use crate::model::{kept, surviving_declarations, survivors};
 use crate::refiling::{form, repeat, Form};
 use crate::schema::*;
-use std::collections::BTreeMap;
+use std::collections::{BTreeMap, BTreeSet};
 
 const SAME: &str = "filed otherwise, the same answer";
 const ANOTHER: &str = "filed otherwise, another answer";
@@ -45,40 +45,58 @@ impl Filed {
             0 => format!("filed otherwise, bump {:?}", answer.bump),
             number => format!("filed otherwise, refused {number}"),
         });
-        for (place, (side, schema)) in [("old", old), ("new", new)].into_iter().enumerate() {
-            let fact = |text: &str| facts.add(format!("{side} filed otherwise: {text}"));
-            Side(fact, &first[place], schema).facts();
+        for (side, moves) in [
+            ("old", moves(&first[0], old)),
+            ("new", moves(&first[1], new)),
+        ] {
+            for text in moves {
+                facts.add(format!("{side} filed otherwise: {text}"));
+            }
         }
     }
 }
 
-/// A side as it was filed first and as it is filed here; takes facts.
-struct Side<'a, F: FnMut(&str)>(F, &'a Schema, &'a Schema);
+/// In what a copy is filed otherwise.
+pub fn moves(schema: &Schema, copy: &Schema) -> BTreeSet<String> {
+    let found = BTreeSet::new();
+    let mut moves = Moves {
+        schema,
+        copy,
+        found,
+    };
+    moves.of_schemas();
+    moves.found
+}
 
-impl<F: FnMut(&str)> Side<'_, F> {
-    fn add_if(&mut self, condition: bool, fact: &str) {
+struct Moves<'a> {
+    schema: &'a Schema,
+    copy: &'a Schema,
+    found: BTreeSet<String>,
+}
+
+impl Moves<'_> {
+    fn add_if(&mut self, condition: bool, text: &str) {
         if condition {
-            self.0(fact);
+            self.found.insert(text.to_string());
         }
     }
 
-    fn facts(&mut self) {
-        let Side(_, first, here) = *self;
-        let both = [first, here];
-        let [names, names_here] = both.map(listed_names);
-        self.add_if(names != names_here, "declarations reordered");
-        let impls = names.iter().filter(|(_, kind)| *kind == IMPL).count();
-        self.add_if(names != names_here && impls > 1, "several impls");
-        let [ids, ids_here] = both.map(unresolvable_ids);
-        self.add_if(ids != ids_here, "other unresolvable ids listed");
-        let [entries, entries_here] = both.map(|schema| schema.registry.len());
-        self.add_if(entries < entries_here, "more entries");
-        self.add_if(entries > entries_here, "fewer entries");
-        let [filed, filed_here] = both.map(entry_names);
-        self.add_if(filed != filed_here, "registry renumbered");
-        let [standing, standing_here] = both.map(surviving_declarations);
-        for (_, one, other) in kept(&standing, &standing_here) {
-            self.of_bodies(&one.body, &other.body);
+    fn of_schemas(&mut self) {
+        let both = [self.schema, self.copy];
+        let [o, n] = both.map(listed_names);
+        self.add_if(o != n, "declarations reordered");
+        let impls = o.iter().filter(|(_, kind)| *kind == IMPL).count();
+        self.add_if(o != n && impls > 1, "several impls");
+        let [o, n] = both.map(unresolvable_ids);
+        self.add_if(o != n, "other unresolvable ids listed");
+        let [o, n] = both.map(|schema| schema.registry.len());
+        self.add_if(o < n, "more entries");
+        self.add_if(o > n, "fewer entries");
+        let [o, n] = both.map(entry_names);
+        self.add_if(o != n, "registry renumbered");
+        let [o, n] = both.map(surviving_declarations);
+        for (_, o, n) in kept(&o, &n) {
+            self.of_bodies(&o.body, &n.body);
         }
     }
 
@@ -127,15 +145,15 @@ impl<F: FnMut(&str)> Side<'_, F> {
     }
 
     fn of_ids(&mut self, one: u32, other: u32, place: &str, node: usize) {
-        match (unresolvable(self.1, one), unresolvable(self.2, other)) {
-            (Some(EMPTY), Some(to)) => self.add_if(to != EMPTY, FROM_EMPTY),
-            (Some(_), Some(EMPTY)) => self.0(TO_EMPTY),
-            (Some(_), _) => self.0("other unresolvable id in a type"),
-            _ => {
-                self.0(&format!("id in {place} renumbered"));
-                self.add_if(node == NODES, DEEPEST);
-            }
-        }
+        let [from, to] =
+            [(self.schema, one), (self.copy, other)].map(|(s, id)| unresolvable(s, id));
+        let resolves = from.is_none() && to.is_none();
+        self.add_if(resolves, &format!("id in {place} renumbered"));
+        self.add_if(resolves && node == NODES, DEEPEST);
+        let [from, to] = [from, to].map(|what| what == Some(EMPTY));
+        self.add_if(!resolves && from && !to, FROM_EMPTY);
+        self.add_if(!resolves && !from && to, TO_EMPTY);
+        self.add_if(!resolves && !from && !to, "other unresolvable id in a type");
     }
 }
 
@@ -161,7 +179,7 @@ fn entry_names(schema: &Schema) -> Vec<(&str, u8)> {
     full.map(|d| (d.name.as_str(), d.kind())).collect()
 }
 
-const MOVED: [&str; 15] = [
+const MOVED: [&str; 16] = [
     "declarations reordered",
     "several impls",
     "fields reordered",
@@ -176,8 +194,19 @@ const MOVED: [&str; 15] = [
     "other unresolvable id in a type",
     FROM_EMPTY,
     TO_EMPTY,
+    "id in a root renumbered",
     DEEPEST,
 ];
+
+/// All ways in which a copy can be filed otherwise.
+pub fn all_moves() -> Vec<String> {
+    let mut all: Vec<String> = MOVED.map(str::to_string).into();
+    for tag in 4..=9 {
+        let places = 0..inner_types(tag);
+        all.extend(places.map(|place| format!("id in inner type {place} of tag {tag} renumbered")));
+    }
+    all
+}
 
 pub fn rows(rows: &mut Rows) {
     rows.one(SAME);
@@ -189,12 +218,7 @@ pub fn rows(rows: &mut Rows) {
         rows.one(format!("filed otherwise, bump {bump}"));
     }
     rows.one("filed otherwise, refused 11");
-    let mut each = |text: &str| rows.sides(|side| format!("{side} filed otherwise: {text}"));
-    MOVED.iter().for_each(|text| each(text));
-    each("id in a root renumbered");
-    for tag in 4..=9 {
-        for place in 0..inner_types(tag) {
-            each(&format!("id in inner type {place} of tag {tag} renumbered"));
-        }
+    for text in all_moves() {
+        rows.sides(|side| format!("{side} filed otherwise: {text}"));
     }
 }

@@ -4,9 +4,9 @@
 //!
 //! What an id stands for is a class of entries, which starts as all of them and is
 //! parted by what an entry holds, how often it is listed, where its ids lead and
-//! from where ids lead to it, until that parts no class any more. Only entries of
-//! one name that refer to one another all alike can then be in one class by
-//! mistake, as in one ring of four and two rings of two.
+//! from where ids lead to it, until that parts no class any more. Two schemas that
+//! are no copies of one another then have one form only where entries of one name
+//! refer to one another all alike, as in one ring of four and in two rings of two.
 
 use crate::schema::*;
 
@@ -31,7 +31,6 @@ struct Filed {
 }
 
 /// Something with its ids taken out of the text, in order.
-#[derive(Default)]
 struct Written {
     text: String,
     ids: Vec<u32>,

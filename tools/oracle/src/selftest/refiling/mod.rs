@@ -8,6 +8,7 @@ mod spoiled;
 use super::Tests;
 use crate::answer::{judge, Answer};
 use crate::cases;
+use crate::coverage::refiled::{all_moves, moves};
 use crate::edits::edited;
 use crate::reader::read_image;
 use crate::record::SEED;
@@ -20,6 +21,7 @@ use std::collections::BTreeMap;
 pub fn run(tests: &mut Tests) {
     repeats::run(tests);
     copies(tests);
+    moved(tests);
     spoiled::run(tests);
     answers(tests);
     one_form(tests);
@@ -54,6 +56,20 @@ fn copies(tests: &mut Tests) {
     tests.holds("copies have the form of what they are copies of", alike);
     let moved = list.iter().filter(|(schema, copy)| schema != copy).count();
     tests.holds("nearly all copies are filed otherwise", moved >= 3_600);
+}
+
+/// Copies are filed otherwise in every way.
+fn moved(tests: &mut Tests) {
+    let mut times: BTreeMap<String, usize> = BTreeMap::new();
+    for (schema, copy) in filed(SEED + 3, 8_000) {
+        for text in moves(&schema, &copy) {
+            *times.entry(text).or_default() += 1;
+        }
+    }
+    for text in all_moves() {
+        let times = times.get(&text).copied().unwrap_or(0);
+        tests.holds(&format!("20 copies or more: {text}"), times >= 20);
+    }
 }
 
 /// The four pairs of images and copies have one answer, by the model and check.
