@@ -89,13 +89,20 @@ class Suite:
         return path
 
 
+def sample_files(*names: str) -> list[Path]:
+    return [ROOT / "samples" / f"{name}.img" for name in names]
+
+
 def samples(suite: Suite):
     old, new = SAMPLE
     suite.files("the sample", old, new, SAMPLE_REPORT)
     suite.files("the sample swapped", new, old)
     suite.files("the sample against itself", old, old, "Compatible;Patch;0\n")
     for names in (("drive-1", "drive-2"), ("drive-2", "drive-3"), ("import-old", "import-new"), ("drive-1", "damaged")):
-        suite.files(" ".join(names), *(ROOT / "samples" / f"{name}.img" for name in names))
+        suite.files(" ".join(names), *sample_files(*names))
+    report = output(ORACLE, "report", *sample_files("drive-2", "drive-3"))[1]
+    for names in (("drive-2-refiled", "drive-3-refiled"), ("drive-2-refiled", "drive-3"), ("drive-2", "drive-3-refiled")):
+        suite.files(" ".join(names), *sample_files(*names), report)
 
 
 def files(suite: Suite):

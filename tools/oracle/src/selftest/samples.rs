@@ -1,9 +1,11 @@
 //! samples/: every text makes its image, an image without a text is damaged as
-//! the README there says, and every command of that README has its output.
+//! the README there says, one that is filed otherwise has its original's answers,
+//! and every command of that README has its output.
 
 use super::{read_file, Tests, ROOT};
 use crate::answer::judge;
 use crate::reader::read_image;
+use crate::refiling::form;
 use crate::text;
 use std::collections::{BTreeMap, BTreeSet};
 
@@ -30,7 +32,31 @@ pub fn run(tests: &mut Tests) {
             .any(|damage| readme.contains(damage));
         tests.holds(&format!("the damage to {name} is described"), described);
     }
+    copies(tests, &images);
     commands(tests, &images, &readme);
+}
+
+/// An image `X-refiled` is `X` filed otherwise, and beside every other image both
+/// have the same answers.
+fn copies(tests: &mut Tests, images: &Files) {
+    let mut copies = 0;
+    for (name, copy) in images {
+        let Some(original) = name.strip_suffix("-refiled") else {
+            continue;
+        };
+        let original = images.get(original).cloned().unwrap_or_default();
+        let [one, other] = [&original, copy].map(|i| read_image(i).map(|s| form(&s)).ok());
+        tests.holds(name, original != *copy && one.is_some() && one == other);
+        let answers = |image: &[u8], beside: &[u8]| {
+            let pairs = [(image, beside), (beside, image)];
+            pairs.map(|(old, new)| judge(old, new).answer)
+        };
+        let all = images.values();
+        let differs = |beside: &&Vec<u8>| answers(copy, beside) != answers(&original, beside);
+        tests.equal(name, all.filter(differs).count(), 0);
+        copies += 1;
+    }
+    tests.holds("2 releases filed otherwise or more", copies >= 2);
 }
 
 fn files(ending: &str) -> Files {
