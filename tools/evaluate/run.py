@@ -1,12 +1,11 @@
 #!/usr/bin/env python3
 """run.py [FIRST [COUNT]]: holds the definitions of crates/rules against recorded answers of the Rust, by computation.
 
-Of each recorded pair that is small enough it writes a theorem: the selectors and the report that the definitions give for these bytes
+Of each recorded pair that is small enough it writes two theorems: the selectors, and the report, that the definitions give for these bytes
 are the recorded ones, by `refl`. The theorems are checked in a temporary repository, 20 to a file. Not part of the gate: some hundred
 pairs take a minute.
 """
 
-import re
 import shutil
 import struct
 import subprocess
@@ -18,6 +17,13 @@ ROOT = Path(__file__).resolve().parents[2]
 CRATES = ("maps", "image", "refusals", "text", "rules")
 IMAGES, REPORT = 1200, 4000  # the most bytes of both images, and of a report
 PER_FILE = 20
+# `reports` unfolds all that a report is computed by.
+USES = """use mathlib.Core.Path.{_≡_, refl}
+use mathlib.Core.List.{[], _∷_}
+use Rattle.rules.specs.Answer.{checked, selected}
+use Rattle.rules.specs.Pinned.{hex, told}
+use Rattle.rules.proofs.Computed.{reports}
+"""
 
 
 def recorded():
@@ -47,23 +53,15 @@ def recorded():
         yield name, old, new, selectors, text(selectors[4])
 
 
-def opened():
-    """The imports, and the line that unfolds the definitions, of the theorems that crates/rules proves by computation."""
-    lines = (ROOT / "crates" / "rules" / "proofs" / "Pinned.antt").read_text().splitlines()
-    unfolding = next(line for line in lines if line.startswith("unfolding"))
-    uses = [line.replace("·rules·specs.specs.", "·rules.specs.") for line in lines if line.startswith("use ") and "Distance" not in line]
-    uses = [line.replace(", Pinned}", "}") for line in uses if "Core.Path" not in line and "Core.List" not in line]
-    uses += ["use mathlib.Core.Path.{_≡_, refl}", "use mathlib.Core.List.{[], _∷_, flatMap}", "use Prim.Native.Nat.{ℕ}"]
-    return uses, re.sub(r" Verdict distance countIn Steps", "", unfolding)
-
-
-def theorem(place, pair, unfolding):
+def theorem(place, pair):
     name, old, new, selectors, report = pair
     old, new, report = ('(hex "' + data.hex(" ") + '")' for data in (old, new, report))
     if selectors[0] != 0:
         selectors = selectors[:4]
     wanted = " ∷ ".join(map(str, selectors)) + " ∷ []"
-    return f"-- {name}\npair-{place} : (selected (checked {old} {new}) ≡ {wanted}) × (told {old} {new} ≡ {report})\n{unfolding}\npair-{place} = (refl, refl)\n"
+    claims = {"selected": f"selected (checked {old} {new}) ≡ {wanted}", "told": f"told {old} {new} ≡ {report}"}
+    proved = (f"{part}-{place} : {claim}\nunfolding reports\n{part}-{place} = refl\n" for part, claim in claims.items())
+    return f"-- {name}\n" + "\n".join(proved)
 
 
 def write(folder, pairs):
@@ -76,11 +74,10 @@ def write(folder, pairs):
     (folder / "crates" / "evaluated" / "src" / "lib.rt").write_text("// Theorems only: see proofs/.\n")
     listed = [line for line in (ROOT / "crates.txt").read_text().splitlines() if line.partition(":")[0] in CRATES]
     (folder / "crates.txt").write_text("\n".join(listed) + f"\nevaluated: {' '.join(CRATES)}\n")
-    uses, unfolding = opened()
     files = range(0, len(pairs), PER_FILE)
     for number, first in enumerate(files):
-        theorems = (theorem(place, pair, unfolding) for place, pair in enumerate(pairs[first : first + PER_FILE]))
-        (proofs / f"Pairs{number}.antt").write_text("\n".join(uses) + "\n\n" + "\n".join(theorems))
+        theorems = (theorem(place, pair) for place, pair in enumerate(pairs[first : first + PER_FILE]))
+        (proofs / f"Pairs{number}.antt").write_text(USES + "\n" + "\n".join(theorems))
     (proofs / "Lib.antt").write_text("".join(f"pub mod Pairs{number}\n" for number in range(len(files))))
 
 
