@@ -4,7 +4,7 @@ use mathlib.Core.Path.{_≡_}
 use mathlib.Core.List.{List, [], _∷_}
 use Rattle.maps.specs.Lists.{All}
 
--- a put into a list, anywhere
+-- the second list is the first with a put in, anywhere
 pub data Put {A : Type 0} (a : A) : List A → List A → Type 0 where
   here : {l : List A} → Put a l (a ∷ l)
   later : {b : A} {l m : List A} → Put a l m → Put a (b ∷ l) (b ∷ m)

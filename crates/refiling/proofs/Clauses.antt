@@ -56,7 +56,7 @@ module _ {R S : Registry} {to from : ℕ → ℕ} (N : Renumbered R S to from) w
   label-refiled : {l m : Label} → RefiledLabel R S to l m → resolveLabel R l ≡ resolveLabel S m
   unfolding resolveLabel
   label-refiled (named r) = ap (λ n. label 3 0 0 n) (name-refiled r)
-  label-refiled (other n e) = not-named R _ n ∙ rw e (sym (not-named S _ n))
+  label-refiled (other n e) = not-named R _ n ∙ (ap (label _ _ _) e ∙ sym (not-named S _ n))
 
   type-refiled : {t u : Ty} → RefiledType R S to t u → resolve R t ≡ resolve S u
   unfolding resolve
@@ -65,6 +65,10 @@ module _ {R S : Registry} {to from : ℕ → ℕ} (N : Renumbered R S to from) w
   type-refiled (aTwo l t u) = rw (label-refiled l, type-refiled t, type-refiled u)
 
 -- ---- what becomes of a variant, and of a declaration, of which no number repeats
+
+pub impls-turn : (d e : Decl) → Impls d e → Impls e d
+unfolding Impls
+impls-turn d e i = (i .1, i .0)
 
 module _ (R S : Registry) (to : ℕ → ℕ) where
   abbrev LikeVariant : Variant → Variant → Type 0

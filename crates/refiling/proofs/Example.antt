@@ -1,40 +1,32 @@
 -- The worked example holds: what the images hold by computation, their reports by the theorem and by computation. Assumes nothing.
 use mathlib.Core.Path.{_≡_, refl, sym, ap}
 use mathlib.Core.Bool.{false}
-use mathlib.Core.Option.{none, some, Option·some-injective, Option·some-ne-none}
+use mathlib.Core.Option.{none, some}
 use mathlib.Core.List.{List, [], _∷_}
-use Prim.Native.Nat.{ℕ, zero, suc}
+use Prim.Native.Nat.{ℕ}
 use native.Mathlib.Omega.{arith}
 use lib.ListN.{getD}
 use Rattle.maps.specs.Lists.{All}
-use Rattle.maps.specs.Reordered.{here, later, Reordered, nothing, each, EachTwo, Once}
+use Rattle.maps.specs.Reordered.{here, later, nothing, each, EachTwo, Once}
 use Rattle.maps.proofs.Tests.{no-both}
-use Rattle.image.specs.Schema.{Name, unmarked, label, Ty, noType, Field, Variant, Decl, decl, Schema}
+use Rattle.image.specs.Schema.{Name, unmarked, label, Ty, leaf, two, noType, Field, Variant, Decl, decl, Schema}
 use Rattle.image.specs.Parse.{ok}
 use Rattle.image.specs.Image.{readImage}
 use Rattle.rules.specs.Equal.{sameName}
 use Rattle.rules.specs.Survivors.{Registry, declOf}
-use Rattle.rules.specs.Answer.{written}
-use Rattle.rules.specs.Edges.{named as namedType, primitive, around, u8, impl}
+use Rattle.rules.specs.Answer.{checked, written}
+use Rattle.rules.specs.Edges.{named as namedType, around, u8, impl}
 use Rattle.rules.specs.Pinned.{told}
 use Rattle.rules.proofs.Equal.{names}
 use Rattle.rules.proofs.Computed.{reads, reports}
-use Rattle.refiling.specs.Refiling.{entries, Impls, NamesOnce, NumbersOnce, NoRepeats, Unresolvable, Resolvable, RefiledId, renumbered, unresolvable, RefiledLabel, named, other, RefiledType, aLeaf, aOne, RefiledField, RefiledVariant, RefiledDecl, Renumbered, Refiled, RefiledImage}
-use Rattle.refiling.specs.Example.{filed, anew, release, Example}
-use Rattle.refiling.proofs.Repeats.{entry-resolvable}
-use Rattle.refiling.proofs.FilingOrder.{filing-order}
+use Rattle.refiling.specs.Refiling.{entries, Impls, NamesOnce, NumbersOnce, NoRepeats, Unresolvable, RefiledId, unresolvable, aLeaf, aOne, aTwo, RefiledDecl, Renumbered, Refiled, RefiledImage}
+use Rattle.refiling.specs.Example.{first, firstAnew, second, secondAnew, Example}
+use Rattle.refiling.proofs.Tables.{Rows, renumbered-by, moved-id, plainField, item, stays, primitive-anew, named-anew, field-anew, item-anew, decl-anew}
+use Rattle.refiling.proofs.FilingOrder.{refiled-image, filing-order}
 use Rattle.refiling.proofs.Relation.{refilings}
 
--- ---- what the images hold
+-- ---- what the images hold; the bytes of the names are their numbers: M 77, U 85, F 70, E 69, N 78, K 75, and a 97
 
-abbrev pub plainField : ℕ → Name → Ty → Field
-plainField ordinal name t =
-    record { ordinal = ordinal; name = name; marks = unmarked; encoding = record { deltas = 0; base = 0 }; limit = none; type = t }
-
-abbrev pub item : ℕ → Name → List Field → Variant
-item ordinal name fs = record { ordinal = ordinal; name = name; fields = fs }
-
--- the bytes of the names are their numbers: M 77, U 85, F 70, and a 97
 abbrev message : List Field → Decl
 message fs = decl 0 (77 ∷ []) unmarked fs [] noType
 
@@ -44,8 +36,17 @@ union vs = decl 3 (85 ∷ []) unmarked [] vs noType
 abbrev flags : List Variant → Decl
 flags vs = decl 2 (70 ∷ []) unmarked [] vs noType
 
-abbrev a : ℕ → Field
-a id = plainField 0 (97 ∷ []) (around 5 (namedType id))
+abbrev enum : List Variant → Decl
+enum vs = decl 1 (69 ∷ []) unmarked [] vs noType
+
+abbrev newtype : Ty → Decl
+newtype t = decl 4 (78 ∷ []) unmarked [] [] t
+
+abbrev config : Decl
+config = decl 5 (75 ∷ []) unmarked [] [] noType
+
+abbrev a : Ty → Field
+a t = plainField 0 (97 ∷ []) t
 
 abbrev b : ℕ → Field
 b id = plainField 1 (98 ∷ []) (namedType id)
@@ -56,8 +57,14 @@ f = plainField 0 (102 ∷ []) u8
 abbrev g : ℕ → Field
 g id = plainField 1 (103 ∷ []) (namedType id)
 
+abbrev h : ℕ → Field
+h id = plainField 1 (104 ∷ []) (namedType id)
+
 abbrev x : Variant
 x = item 0 (120 ∷ []) []
+
+abbrev y : List Field → Variant
+y fs = item 1 (121 ∷ []) fs
 
 abbrev p : Variant
 p = item 0 (112 ∷ []) []
@@ -65,48 +72,57 @@ p = item 0 (112 ∷ []) []
 abbrev q : Variant
 q = item 1 (113 ∷ []) []
 
-abbrev y : List Field → Variant
-y fs = item 1 (121 ∷ []) fs
+abbrev r : Variant
+r = item 0 (114 ∷ []) []
+
+abbrev s : Variant
+s = item 1 (115 ∷ []) []
+
+-- map<E, bits { i, j }>
+abbrev mapOf : ℕ → Ty
+mapOf id = two (label 8 0 0 []) (namedType id) (leaf (label 16 0 0 ((105 ∷ []) ∷ (106 ∷ []) ∷ [])))
 
 abbrev ride : List Name
 ride = (114 ∷ 105 ∷ 100 ∷ 101 ∷ []) ∷ []
 
 abbrev R : Registry
-R = some (message (a 1 ∷ b 9 ∷ [])) ∷ some (union (x ∷ y (f ∷ g 0 ∷ []) ∷ [])) ∷ some (flags (p ∷ q ∷ [])) ∷ some impl ∷ some impl ∷ []
+R =
+    some (message (a (around 5 (namedType 1)) ∷ b 9 ∷ [])) ∷ some (union (x ∷ y (f ∷ g 0 ∷ []) ∷ [])) ∷ some (flags (p ∷ q ∷ []))
+    ∷ some impl ∷ some impl ∷ []
+
+abbrev R′ : Registry
+R′ =
+    none ∷ some (flags (q ∷ p ∷ [])) ∷ some impl ∷ some (union (y (g 5 ∷ f ∷ []) ∷ x ∷ [])) ∷ some impl
+    ∷ some (message (b 0 ∷ a (around 5 (namedType 3)) ∷ [])) ∷ []
 
 abbrev S : Registry
 S =
-    none ∷ some (flags (q ∷ p ∷ [])) ∷ some impl ∷ some (union (y (g 5 ∷ f ∷ []) ∷ x ∷ [])) ∷ some impl
-    ∷ some (message (b 0 ∷ a 3 ∷ [])) ∷ []
+    some (message (a u8 ∷ b 5 ∷ [])) ∷ some (union (y (f ∷ h 1 ∷ []) ∷ [])) ∷ some (flags (p ∷ [])) ∷ some (enum (r ∷ s ∷ []))
+    ∷ some (newtype (mapOf 3)) ∷ some config ∷ []
 
-abbrev filedSchema : Schema
-filedSchema = record { registry = R; ids = 0 ∷ 1 ∷ 2 ∷ 3 ∷ 9 ∷ 4 ∷ []; namespace = ride }
+abbrev S′ : Registry
+S′ =
+    some (newtype (mapOf 2)) ∷ some config ∷ some (enum (s ∷ r ∷ [])) ∷ some (flags (p ∷ [])) ∷ some (union (y (h 4 ∷ f ∷ []) ∷ []))
+    ∷ some (message (b 1 ∷ a u8 ∷ [])) ∷ []
 
-abbrev anewSchema : Schema
-anewSchema = record { registry = S; ids = 4 ∷ 5 ∷ 0 ∷ 3 ∷ 1 ∷ 2 ∷ []; namespace = ride }
+abbrev rideOf : Registry → List ℕ → Schema
+rideOf registry ids = record { registry = registry; ids = ids; namespace = ride }
 
-abbrev releaseSchema : Schema
-releaseSchema = record {
-  registry =
-      some (message (plainField 0 (97 ∷ []) u8 ∷ b 1 ∷ []))
-      ∷ some (union (y (f ∷ plainField 1 (104 ∷ []) (namedType 1) ∷ []) ∷ []))
-      ∷ some (flags (p ∷ []))
-      ∷ [];
-  ids = 0 ∷ 1 ∷ 2 ∷ [];
-  namespace = ride;
-}
-
-filed-read : readImage filed ≡ ok filedSchema 157
+first-read : readImage first ≡ ok (rideOf R (0 ∷ 1 ∷ 2 ∷ 3 ∷ 9 ∷ 4 ∷ [])) 157
 unfolding reads
-filed-read = refl
+first-read = refl
 
-anew-read : readImage anew ≡ ok anewSchema 161
+firstAnew-read : readImage firstAnew ≡ ok (rideOf R′ (4 ∷ 5 ∷ 0 ∷ 3 ∷ 1 ∷ 2 ∷ [])) 161
 unfolding reads
-anew-read = refl
+firstAnew-read = refl
 
-release-read : readImage release ≡ ok releaseSchema 117
+second-read : readImage second ≡ ok (rideOf S (0 ∷ 1 ∷ 2 ∷ 3 ∷ 4 ∷ [])) 173
 unfolding reads
-release-read = refl
+second-read = refl
+
+secondAnew-read : readImage secondAnew ≡ ok (rideOf S′ (0 ∷ 3 ∷ 5 ∷ 2 ∷ 4 ∷ [])) 173
+unfolding reads
+secondAnew-read = refl
 
 -- ---- no repeats
 
@@ -117,17 +133,14 @@ none-twice : (d : Decl) → d .fields ≡ [] → d .variants ≡ [] → NumbersO
 unfolding Once EachTwo All
 none-twice d e k = record { fields = rw e tt; variants = rw k tt; variantFields = rw k tt }
 
-filed-once : NoRepeats filedSchema
+first-once : NoRepeats (rideOf R (0 ∷ 1 ∷ 2 ∷ 3 ∷ 9 ∷ 4 ∷ []))
 unfolding reports entries NamesOnce EachTwo All Once Impls
-filed-once = record {
+first-once = record {
   names = (
     (differ _ _ refl, (differ _ _ refl, (differ _ _ refl, (differ _ _ refl, tt)))),
     (
       (differ _ _ refl, (differ _ _ refl, (differ _ _ refl, tt))),
-      (
-        (differ _ _ refl, (differ _ _ refl, tt)),
-        (((λ e. (refl, refl)), tt), (tt, tt)),
-      ),
+      ((differ _ _ refl, (differ _ _ refl, tt)), (((λ e. (refl, refl)), tt), (tt, tt))),
     ),
   );
   numbers = (
@@ -136,54 +149,38 @@ filed-once = record {
       record { fields = tt; variants = (((λ e. omega arith), tt), (tt, tt)); variantFields = (tt, ((((λ e. omega arith), tt), (tt, tt)), tt)) },
       (
         record { fields = tt; variants = (((λ e. omega arith), tt), (tt, tt)); variantFields = (tt, (tt, tt)) },
+        (none-twice _ refl refl, (none-twice _ refl refl, tt)),
+      ),
+    ),
+  );
+}
+
+second-once : NoRepeats (rideOf S (0 ∷ 1 ∷ 2 ∷ 3 ∷ 4 ∷ []))
+unfolding reports entries NamesOnce EachTwo All Once Impls
+second-once = record {
+  names = (
+    (differ _ _ refl, (differ _ _ refl, (differ _ _ refl, (differ _ _ refl, tt)))),
+    (
+      (differ _ _ refl, (differ _ _ refl, (differ _ _ refl, tt))),
+      ((differ _ _ refl, (differ _ _ refl, tt)), ((differ _ _ refl, tt), (tt, tt))),
+    ),
+  );
+  numbers = (
+    record { fields = (((λ e. omega arith), tt), (tt, tt)); variants = tt; variantFields = tt },
+    (
+      record { fields = tt; variants = (tt, tt); variantFields = ((((λ e. omega arith), tt), (tt, tt)), tt) },
+      (
+        record { fields = tt; variants = (tt, tt); variantFields = (tt, tt) },
         (
-          none-twice _ refl refl,
-          (none-twice _ refl refl, tt),
+          record { fields = tt; variants = (((λ e. omega arith), tt), (tt, tt)); variantFields = (tt, (tt, tt)) },
+          (none-twice _ refl refl, (none-twice _ refl refl, tt)),
         ),
       ),
     ),
   );
 }
 
-release-once : NoRepeats releaseSchema
-unfolding reports entries NamesOnce EachTwo All Once Impls
-release-once = record {
-  names = ((differ _ _ refl, (differ _ _ refl, tt)), ((differ _ _ refl, tt), (tt, tt)));
-  numbers = (
-    record { fields = (((λ e. omega arith), tt), (tt, tt)); variants = tt; variantFields = tt },
-    (
-      record { fields = tt; variants = (tt, tt); variantFields = ((((λ e. omega arith), tt), (tt, tt)), tt) },
-      (record { fields = tt; variants = (tt, tt); variantFields = (tt, tt) }, tt),
-    ),
-  );
-}
-
--- ---- filed anew
-
-module _ {R S : Registry} {to : ℕ → ℕ} where
-  -- a node of another tag than 3
-  stays : (tag code : ℕ) → (tag ≡ 3 → ⊥) → RefiledLabel R S to (label tag code 0 []) (label tag code 0 [])
-  stays tag code n = other n refl
-
-  pub number : (code : ℕ) → RefiledType R S to (primitive code) (primitive code)
-  number code = aLeaf (stays 0 code (λ e. omega arith))
-
-  pub retyped : (ordinal : ℕ) (n : Name) (t u : Ty) → RefiledType R S to t u
-      → RefiledField R S to (plainField ordinal n t) (plainField ordinal n u)
-  retyped ordinal n t u r = record { ordinal = refl; name = refl; marks = refl; encoding = refl; limit = refl; type = r }
-
-  variant-anew : (o : ℕ) (n : Name) (fs gs : List Field) → Reordered (RefiledField R S to) fs gs
-      → RefiledVariant R S to (item o n fs) (item o n gs)
-  variant-anew o n fs gs r = record { ordinal = refl; name = refl; fields = r }
-
-  pub decl-anew : (k : ℕ) (n : Name) (fs gs : List Field) (vs ws : List Variant) → Reordered (RefiledField R S to) fs gs
-      → Reordered (RefiledVariant R S to) vs ws → RefiledDecl R S to (decl k n unmarked fs vs noType) (decl k n unmarked gs ws noType)
-  decl-anew k n fs gs vs ws r s =
-      record { kind = refl; name = refl; marks = refl; fields = r; variants = s; inner = number 0 }
-
-  -- of the entries that stand there
-  pub at : {d e d′ e′ : Decl} → RefiledDecl R S to d e → some d ≡ some d′ → some e ≡ some e′ → RefiledDecl R S to d′ e′
-  at {d} {e} {d′} {e′} r k l = rw (← Option·some-injective d d′ k, ← Option·some-injective e e′ l) r
+-- ---- the first filed anew
 
 abbrev to : ℕ → ℕ
 to i = getD (5 ∷ 3 ∷ 1 ∷ 4 ∷ 2 ∷ []) i 0
@@ -191,122 +188,155 @@ to i = getD (5 ∷ 3 ∷ 1 ∷ 4 ∷ 2 ∷ []) i 0
 abbrev from : ℕ → ℕ
 from j = getD (0 ∷ 2 ∷ 4 ∷ 1 ∷ 3 ∷ 0 ∷ []) j 0
 
--- an id that has an entry, and its new number
-moved : (i : ℕ) {d : Decl} → declOf R i ≡ some d → RefiledId R S to i (to i)
-moved i {d} e = renumbered (entry-resolvable R i d e) refl
-
--- a named type, by the new number of its id
-follows : (i j : ℕ) → RefiledId R S to i j → RefiledType R S to (namedType i) (namedType j)
-follows i j r = aLeaf (named r)
-
 -- the unresolvable id
-lost : RefiledId R S to 9 0
+lost : RefiledId R R′ to 9 0
 unfolding Unresolvable declOf
 lost = unresolvable refl refl
 
-message-anew : RefiledDecl R S to (message (a 1 ∷ b 9 ∷ [])) (message (b 0 ∷ a 3 ∷ []))
+message-anew : RefiledDecl R R′ to (message (a (around 5 (namedType 1)) ∷ b 9 ∷ [])) (message (b 0 ∷ a (around 5 (namedType 3)) ∷ []))
 unfolding declOf
 message-anew =
-    decl-anew 0 _ _ _ _ _
-    (each (retyped 0 _ _ _ (aOne (stays 5 0 (λ e. omega arith)) (follows 1 3 (moved 1 refl))))
-    (each (retyped 1 _ _ _ (follows 9 0 lost)) nothing here) (later here))
-    nothing
+    decl-anew 0 _
+    (each (field-anew 0 _ (aOne (stays 5 0 [] (λ e. omega arith)) (named-anew (moved-id 1 refl))))
+    (each (field-anew 1 _ (named-anew lost)) nothing here) (later here))
+    nothing (primitive-anew 0)
 
-union-anew : RefiledDecl R S to (union (x ∷ y (f ∷ g 0 ∷ []) ∷ [])) (union (y (g 5 ∷ f ∷ []) ∷ x ∷ []))
+union-anew : RefiledDecl R R′ to (union (x ∷ y (f ∷ g 0 ∷ []) ∷ [])) (union (y (g 5 ∷ f ∷ []) ∷ x ∷ []))
 unfolding declOf
 union-anew =
-    decl-anew 3 _ _ _ _ _ nothing
-    (each (variant-anew 0 _ _ _ nothing)
+    decl-anew 3 _ nothing
+    (each (item-anew 0 _ nothing)
     (each
-    (variant-anew 1 _ _ _
-    (each (retyped 0 _ _ _ (number 1)) (each (retyped 1 _ _ _ (follows 0 5 (moved 0 refl))) nothing here) (later here)))
+    (item-anew 1 _
+    (each (field-anew 0 _ (primitive-anew 1)) (each (field-anew 1 _ (named-anew (moved-id 0 refl))) nothing here) (later here)))
     nothing here) (later here))
+    (primitive-anew 0)
 
-flags-anew : RefiledDecl R S to (flags (p ∷ q ∷ [])) (flags (q ∷ p ∷ []))
-flags-anew =
-    decl-anew 2 _ _ _ _ _ nothing (each (variant-anew 0 _ _ _ nothing) (each (variant-anew 1 _ _ _ nothing) nothing here) (later here))
+flags-anew : RefiledDecl R R′ to (flags (p ∷ q ∷ [])) (flags (q ∷ p ∷ []))
+flags-anew = decl-anew 2 _ nothing (each (item-anew 0 _ nothing) (each (item-anew 1 _ nothing) nothing here) (later here)) (primitive-anew 0)
 
-impl-anew : RefiledDecl R S to impl impl
-impl-anew = decl-anew 8 _ _ _ _ _ nothing nothing
+impl-anew : RefiledDecl R R′ to impl impl
+impl-anew = decl-anew 8 _ nothing nothing (primitive-anew 0)
 
-renumbers : Renumbered R S to from
-unfolding Resolvable Unresolvable declOf
-renumbers = record { there = there; back = back; entry = entry }
-  where
-    is : {d : Decl} → some d ≡ none → ⊥
-    is {d} = Option·some-ne-none d
+first-renumbered : Renumbered R R′ to from
+unfolding Rows declOf
+first-renumbered =
+    renumbered-by R R′ to from (
+      (_, refl, refl, message-anew),
+      ((_, refl, refl, union-anew), ((_, refl, refl, flags-anew), ((_, refl, refl, impl-anew), ((_, refl, refl, impl-anew), tt)))),
+    )
+    ((_, refl, refl), ((_, refl, refl), ((_, refl, refl), ((_, refl, refl), ((_, refl, refl), tt)))))
 
-    there : (i : ℕ) → Resolvable R i → Resolvable S (to i) × (from (to i) ≡ i)
-    there zero r = (is, refl)
-    there (suc zero) r = (is, refl)
-    there (suc (suc zero)) r = (is, refl)
-    there (suc (suc (suc zero))) r = (is, refl)
-    there (suc (suc (suc (suc zero)))) r = (is, refl)
-    there (suc (suc (suc (suc (suc i))))) r = absurd (r refl)
-
-    back : (j : ℕ) → Resolvable S j → Resolvable R (from j) × (to (from j) ≡ j)
-    back zero r = absurd (r refl)
-    back (suc zero) r = (is, refl)
-    back (suc (suc zero)) r = (is, refl)
-    back (suc (suc (suc zero))) r = (is, refl)
-    back (suc (suc (suc (suc zero)))) r = (is, refl)
-    back (suc (suc (suc (suc (suc zero))))) r = (is, refl)
-    back (suc (suc (suc (suc (suc (suc j)))))) r = absurd (r refl)
-
-    entry : (i : ℕ) (d e : Decl) → declOf R i ≡ some d → declOf S (to i) ≡ some e → RefiledDecl R S to d e
-    entry zero d e k l = at message-anew k l
-    entry (suc zero) d e k l = at union-anew k l
-    entry (suc (suc zero)) d e k l = at flags-anew k l
-    entry (suc (suc (suc zero))) d e k l = at impl-anew k l
-    entry (suc (suc (suc (suc zero)))) d e k l = at impl-anew k l
-    entry (suc (suc (suc (suc (suc i))))) d e k l = absurd (is (sym k))
-
-filed-anew : Refiled filedSchema anewSchema
+first-anew : Refiled (rideOf R (0 ∷ 1 ∷ 2 ∷ 3 ∷ 9 ∷ 4 ∷ [])) (rideOf R′ (4 ∷ 5 ∷ 0 ∷ 3 ∷ 1 ∷ 2 ∷ []))
 unfolding declOf
-filed-anew = record {
+first-anew = record {
   to = to;
   from = from;
-  registry = renumbers;
+  registry = first-renumbered;
   ids =
-      each (moved 0 refl)
-      (each (moved 1 refl)
-      (each (moved 2 refl)
-      (each (moved 3 refl)
-      (each lost (each (moved 4 refl) nothing here) here) here) (later (later here))) (later (later here))) (later here);
+      each (moved-id 0 refl)
+      (each (moved-id 1 refl)
+      (each (moved-id 2 refl)
+      (each (moved-id 3 refl)
+      (each lost (each (moved-id 4 refl) nothing here) here) here) (later (later here))) (later (later here))) (later here);
   namespace = refl;
 }
 
-old-anew : RefiledImage NoRepeats filed anew
-old-anew = record {
-  before = filedSchema;
-  after = anewSchema;
-  beforeEnd = 157;
-  afterEnd = 161;
-  beforeRead = filed-read;
-  afterRead = anew-read;
-  holds = filed-once;
-  refiled = filed-anew;
-}
+-- ---- the second filed anew
 
-new-same : RefiledImage NoRepeats release release
-new-same = record {
-  before = releaseSchema;
-  after = releaseSchema;
-  beforeEnd = 117;
-  afterEnd = 117;
-  beforeRead = release-read;
-  afterRead = release-read;
-  holds = release-once;
-  refiled = refilings .itself releaseSchema;
+abbrev on : ℕ → ℕ
+on i = getD (5 ∷ 4 ∷ 3 ∷ 2 ∷ 0 ∷ 1 ∷ []) i 9
+
+abbrev off : ℕ → ℕ
+off j = getD (4 ∷ 5 ∷ 3 ∷ 2 ∷ 1 ∷ 0 ∷ []) j 9
+
+later-message : RefiledDecl S S′ on (message (a u8 ∷ b 5 ∷ [])) (message (b 1 ∷ a u8 ∷ []))
+unfolding declOf
+later-message =
+    decl-anew 0 _ (each (field-anew 0 _ (primitive-anew 1)) (each (field-anew 1 _ (named-anew (moved-id 5 refl))) nothing here) (later here))
+    nothing (primitive-anew 0)
+
+later-union : RefiledDecl S S′ on (union (y (f ∷ h 1 ∷ []) ∷ [])) (union (y (h 4 ∷ f ∷ []) ∷ []))
+unfolding declOf
+later-union =
+    decl-anew 3 _ nothing
+    (each
+    (item-anew 1 _
+    (each (field-anew 0 _ (primitive-anew 1)) (each (field-anew 1 _ (named-anew (moved-id 1 refl))) nothing here) (later here)))
+    nothing here)
+    (primitive-anew 0)
+
+later-flags : RefiledDecl S S′ on (flags (p ∷ [])) (flags (p ∷ []))
+later-flags = decl-anew 2 _ nothing (each (item-anew 0 _ nothing) nothing here) (primitive-anew 0)
+
+enum-anew : RefiledDecl S S′ on (enum (r ∷ s ∷ [])) (enum (s ∷ r ∷ []))
+enum-anew = decl-anew 1 _ nothing (each (item-anew 0 _ nothing) (each (item-anew 1 _ nothing) nothing here) (later here)) (primitive-anew 0)
+
+newtype-anew : RefiledDecl S S′ on (newtype (mapOf 3)) (newtype (mapOf 2))
+unfolding declOf
+newtype-anew =
+    decl-anew 4 _ nothing nothing
+    (aTwo (stays 8 0 [] (λ e. omega arith)) (named-anew (moved-id 3 refl)) (aLeaf (stays 16 0 _ (λ e. omega arith))))
+
+config-anew : RefiledDecl S S′ on config config
+config-anew = decl-anew 5 _ nothing nothing (primitive-anew 0)
+
+second-renumbered : Renumbered S S′ on off
+unfolding Rows declOf
+second-renumbered =
+    renumbered-by S S′ on off (
+      (_, refl, refl, later-message),
+      (
+        (_, refl, refl, later-union),
+        (
+          (_, refl, refl, later-flags),
+          ((_, refl, refl, enum-anew), ((_, refl, refl, newtype-anew), ((_, refl, refl, config-anew), tt))),
+        ),
+      ),
+    )
+    ((_, refl, refl), ((_, refl, refl), ((_, refl, refl), ((_, refl, refl), ((_, refl, refl), ((_, refl, refl), tt))))))
+
+second-anew : Refiled (rideOf S (0 ∷ 1 ∷ 2 ∷ 3 ∷ 4 ∷ [])) (rideOf S′ (0 ∷ 3 ∷ 5 ∷ 2 ∷ 4 ∷ []))
+unfolding declOf
+second-anew = record {
+  to = on;
+  from = off;
+  registry = second-renumbered;
+  ids =
+      each (moved-id 0 refl)
+      (each (moved-id 1 refl)
+      (each (moved-id 2 refl)
+      (each (moved-id 3 refl) (each (moved-id 4 refl) nothing here) (later here)) (later here)) (later (later (later here))))
+      (later (later here));
+  namespace = refl;
 }
 
 -- ---- the reports
 
+old-anew : RefiledImage NoRepeats first firstAnew
+old-anew = refiled-image first-read firstAnew-read first-once first-anew
+
+new-anew : RefiledImage NoRepeats second secondAnew
+new-anew = refiled-image second-read secondAnew-read second-once second-anew
+
+old-same : RefiledImage NoRepeats first first
+old-same = refiled-image first-read first-read first-once (refilings .itself _)
+
+new-same : RefiledImage NoRepeats second second
+new-same = refiled-image second-read second-read second-once (refilings .itself _)
+
+-- the same report in place of another
+same-told : (old new : List ℕ) → RefiledImage NoRepeats first old → RefiledImage NoRepeats second new → told old new ≡ told first second
+unfolding told
+same-told old new o n = ap (λ c. written c []) (sym (filing-order .noRepeats first second old new o n .outcome))
+
 pub example : Example
-unfolding reports told
+unfolding reports
 example = record {
   old = old-anew;
-  new = new-same;
+  new = new-anew;
   report = refl;
-  reportAnew = ap (λ o. written o []) (sym (filing-order .noRepeats filed release anew release old-anew new-same .outcome));
+  oldAnew = same-told firstAnew second old-anew new-same;
+  newAnew = same-told first secondAnew old-same new-anew;
+  bothAnew = same-told firstAnew secondAnew old-anew new-anew;
 }

@@ -4,10 +4,12 @@ use mathlib.Core.List.{List}
 use Prim.Native.Nat.{ℕ}
 use lib.ListN.{length, take}
 use Rattle.image.specs.Schema.{Schema}
+use Rattle.image.specs.Parse.{ok}
+use Rattle.image.specs.Image.{readImage}
 use Rattle.rules.specs.Types.{sameType}
-use Rattle.rules.specs.Answer.{acceptNew, acceptOld, outcome, checked, select, verdictOf, fit, reported, reportLength, written}
-use Rattle.rules.proofs.Calls.{returned, leaves, room-enough, same-text}
-use Rattle.refiling.specs.Refiling.{ListedOnce, RefiledImage, SameAnswers, Unaffected, FilingOrder}
+use Rattle.rules.specs.Answer.{Outcome, acceptNew, acceptOld, outcome, checked, select, verdictOf, fit, reported, reportLength, written}
+use Rattle.rules.proofs.Calls.{room-enough, same-text}
+use Rattle.refiling.specs.Refiling.{ListedOnce, Refiled, RefiledImage, SameAnswers, FilingOrder}
 use Rattle.refiling.proofs.Standing.{changes-refiled, pair-refiled}
 use Rattle.refiling.proofs.Repeats.{no-repeats-listed, entries-once-listed}
 
@@ -18,16 +20,17 @@ module _ (old new old′ new′ : List ℕ) where
   same-answers e = record {
     outcome = e;
     verdict = λ selector. ap (λ o. select o selector) e;
-    returned = λ out. ap (λ o. reportLength (fit (length out) o)) e;
-    buffer = in-one;
-    report = λ out out′ h h′.
-        ap (λ n. take n (leaves old new out)) (sym (room-enough old new out h))
-        ∙ (same-text old new out out′ h h′
-        ∙ (ap (λ n. take n (leaves old new out′)) (room-enough old new out′ h′) ∙ ap (take (verdictOf old new 4)) (in-one out′)));
+    returns = λ out. ap (returnedOf out) e;
+    buffer = λ out. ap (leavesOf out) e;
+    lengths = λ out out′ h h′. room-enough old new out h ∙ (sym (room-enough old new out′ h′) ∙ ap (returnedOf out′) e);
+    report = λ out out′ h h′. same-text old new out out′ h h′ ∙ ap (λ o. take (returnedOf out′ o) (leavesOf out′ o)) e;
   }
     where
-      in-one : (out : List ℕ) → leaves old new out ≡ leaves old′ new′ out
-      in-one out = ap (λ o. written (fit (length out) o) out) e
+      returnedOf : List ℕ → Outcome → ℕ
+      returnedOf out o = reportLength (fit (length out) o)
+
+      leavesOf : List ℕ → Outcome → List ℕ
+      leavesOf out o = written (fit (length out) o) out
 
   listed-once : RefiledImage ListedOnce old old′ → RefiledImage ListedOnce new new′ → SameAnswers old new old′ new′
   unfolding checked outcome acceptOld acceptNew
@@ -35,23 +38,28 @@ module _ (old new old′ new′ : List ℕ) where
       same-answers
       (rw (a .beforeRead, a .afterRead, b .beforeRead, b .afterRead) (pair-refiled (a .holds) (b .holds) (a .refiled) (b .refiled) sameType))
 
--- a premise that has more
-more : {P Q : Schema → Type 0} {a b : List ℕ} → ((s : Schema) → P s → Q s) → RefiledImage P a b → RefiledImage Q a b
-more f r = record {
-  before = r .before;
-  after = r .after;
-  beforeEnd = r .beforeEnd;
-  afterEnd = r .afterEnd;
-  beforeRead = r .beforeRead;
-  afterRead = r .afterRead;
-  holds = f (r .before) (r .holds);
-  refiled = r .refiled;
+-- two accepted images, by what they hold
+pub refiled-image : {P : Schema → Type 0} {a b : List ℕ} {s t : Schema} {m n : ℕ} → readImage a ≡ ok s m → readImage b ≡ ok t n → P s → Refiled s t
+    → RefiledImage P a b
+refiled-image {s = s} {t = t} {m = m} {n = n} p q h r = record {
+  before = s;
+  after = t;
+  beforeEnd = m;
+  afterEnd = n;
+  beforeRead = p;
+  afterRead = q;
+  holds = h;
+  refiled = r;
 }
+
+-- a premise that says less
+less : {P Q : Schema → Type 0} {a b : List ℕ} → ((s : Schema) → P s → Q s) → RefiledImage P a b → RefiledImage Q a b
+less f r = refiled-image (r .beforeRead) (r .afterRead) (f (r .before) (r .holds)) (r .refiled)
 
 pub filing-order : FilingOrder
 filing-order = record {
-  noRepeats = λ old new old′ new′ a b. listed-once old new old′ new′ (more no-repeats-listed a) (more no-repeats-listed b);
-  entriesOnce = λ old new old′ new′ a b. listed-once old new old′ new′ (more entries-once-listed a) (more entries-once-listed b);
+  noRepeats = λ old new old′ new′ a b. listed-once old new old′ new′ (less no-repeats-listed a) (less no-repeats-listed b);
+  entriesOnce = λ old new old′ new′ a b. listed-once old new old′ new′ (less entries-once-listed a) (less entries-once-listed b);
   listedOnce = listed-once;
-  changes = λ same old new old′ new′ o n a b. changes-refiled o n a b same;
+  anyReading = λ same old new old′ new′ o n a b. changes-refiled o n a b same;
 }

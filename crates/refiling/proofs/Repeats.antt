@@ -5,13 +5,13 @@ use mathlib.Core.Option.{Option, none, some, Option·some-injective, Option·non
 use mathlib.Core.List.{List, [], _∷_, List·Memᴰ·head, List·Memᴰ·tail}
 use Prim.Native.Nat.{ℕ, zero, suc}
 use Rattle.maps.specs.Lists.{All}
-use Rattle.maps.specs.Reordered.{EachTwo, Once}
+use Rattle.maps.specs.Reordered.{Once}
 use Rattle.maps.proofs.Lists.{all-map}
 use Rattle.maps.proofs.Reorderings.{In, all-in, each-two, each-two-map, each-two-of, all-reordered, each-two-reordered, once-reordered}
 use Rattle.image.specs.Schema.{Decl, Schema}
 use Rattle.rules.specs.Survivors.{Registry, declOf, resolved, listed, ordinalOf, variantOrdinal}
 use Rattle.refiling.specs.Refiling.{Impls, NamesOnce, NumbersOnce, entries, NoRepeats, EntriesOnce, ListedOnce, Unresolvable, Resolvable, RefiledDecl, Renumbered, Refiled}
-use Rattle.refiling.proofs.Clauses.{moved}
+use Rattle.refiling.proofs.Clauses.{moved, impls-turn}
 use Rattle.refiling.proofs.Standing.{listed-refiled}
 
 -- ---- ids and entries
@@ -67,7 +67,7 @@ module _ (s : Schema) where
   }
     where
       pair : (d e : Decl) → In d (entries (s .registry)) → In e (entries (s .registry)) → d .name ≡ e .name → (d ≡ e) ⊎ Impls d e
-      pair d e i j k = go (each-two (λ x y. x .name ≡ y .name → Impls x y) (λ x y h q. (h (sym q) .1, h (sym q) .0)) (n .names) i j)
+      pair d e i j k = go (each-two (λ x y. x .name ≡ y .name → Impls x y) (λ x y h q. impls-turn x y (h (sym q))) (n .names) i j)
         where
           go : (d ≡ e) ⊎ (d .name ≡ e .name → Impls d e) → (d ≡ e) ⊎ Impls d e
           go (inl p) = inl p
@@ -99,7 +99,7 @@ unfolding NamesOnce Impls
 no-repeats-refiled s t r n = record {
   names =
       each-two-reordered (λ a d. a .name ≡ d .name → Impls a d) (λ b c. b .name ≡ c .name → Impls b c)
-      (λ b c h k. (h (sym k) .1, h (sym k) .0)) pair (listed-refiled (r .registry) (r .ids)) (n .names);
+      (λ b c h k. impls-turn b c (h (sym k))) pair (listed-refiled (r .registry) (r .ids)) (n .names);
   numbers = entries-refiled (r .registry) (n .numbers);
 }
   where

@@ -18,7 +18,7 @@ use Rattle.rules.specs.Clauses.{changes}
 use Rattle.rules.specs.Verdict.{alias, isAlias, any, aliasPair}
 use Rattle.rules.specs.Answer.{comparePair}
 use Rattle.refiling.specs.Refiling.{Impls, NumbersOnce, ListedOnce, Unresolvable, RefiledId, renumbered, unresolvable, RefiledDecl, Renumbered, Refiled}
-use Rattle.refiling.proofs.Clauses.{moved, LikeDecl, refiled, impls, like-name, like-kind, all-same}
+use Rattle.refiling.proofs.Clauses.{moved, impls-turn, LikeDecl, refiled, impls, like-name, like-kind, all-same}
 
 -- ---- what stands
 
@@ -54,7 +54,7 @@ like-agree {R} {S} {to} once e d i j n f x = go (each-two (λ a b. a .name ≡ b
   where
     turn : (a b : Decl) → (a ≡ b) ⊎ Impls a b → (b ≡ a) ⊎ Impls b a
     turn a b (inl p) = inl (sym p)
-    turn a b (inr k) = inr (k .1, k .0)
+    turn a b (inr k) = inr (impls-turn a b k)
 
     both : (e ≡ d) ⊎ Impls e d → LikeDecl R S to e f
     both (inl p) = subst (λ a. LikeDecl R S to a f) (sym p) x

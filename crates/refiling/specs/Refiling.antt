@@ -14,20 +14,20 @@ use Rattle.image.specs.Image.{readImage}
 use Rattle.rules.specs.Survivors.{Registry, declOf, resolved, listed, ordinalOf, variantOrdinal, viewOf}
 use Rattle.rules.specs.Types.{Reading}
 use Rattle.rules.specs.Clauses.{changes}
-use Rattle.rules.specs.Answer.{checked, verdictOf, reported, reportLength, written}
+use Rattle.rules.specs.Answer.{checked, verdictOf, returned, leaves}
 
 -- ---- "Take images in which no two resolvable declarations share a name, impls among themselves excepted, and no two numbers repeat within
 -- a body or variant."
 
--- kind 8 is impl
+-- both are impls, kind 8
 unfoldable pub Impls : Decl → Decl → Type 0
 Impls d e = (d .kind ≡ 8) × (e .kind ≡ 8)
 
--- two that share a name are impls
+-- two declarations that share a name are impls
 unfoldable pub NamesOnce : List Decl → Type 0
 NamesOnce ds = EachTwo (λ d e. d .name ≡ e .name → Impls d e) ds
 
--- of fields, of variants or bits, and of the fields of each variant
+-- no number stands twice among the fields, among the variants or bits, or among the fields of one variant
 pub record NumbersOnce (d : Decl) : Type 0 where
   pub fields : Once ordinalOf (d .fields)
   pub variants : Once variantOrdinal (d .variants)
@@ -38,17 +38,17 @@ unfoldable pub entries : Registry → List Decl
 entries [] = []
 entries (e ∷ R) = resolved e (entries R)
 
--- names in the declaration list, of which unresolvable ids are skipped, and numbers in every body
+-- names are looked at in the declaration list, where unresolvable ids are skipped, and numbers in every body
 pub record NoRepeats (s : Schema) : Type 0 where
   pub names : NamesOnce (listed (s .registry) (s .ids))
   pub numbers : All NumbersOnce (entries (s .registry))
 
--- The same with names in the whole registry: there an id may be listed twice.
+-- The other reading of "resolvable declarations": the entries of the registry, no two of which share a name; one may then be listed twice.
 pub record EntriesOnce (s : Schema) : Type 0 where
   pub names : NamesOnce (entries (s .registry))
   pub numbers : All NumbersOnce (entries (s .registry))
 
--- What is needed is less than either: of the listed declarations alone, and of one name there may be the same one twice.
+-- What the proof needs is less than either: only listed declarations are looked at, and two of one name may hold the same.
 pub record ListedOnce (s : Schema) : Type 0 where
   pub names : EachTwo (λ d e. d .name ≡ e .name → (d ≡ e) ⊎ Impls d e) (listed (s .registry) (s .ids))
   pub numbers : All NumbersOnce (listed (s .registry) (s .ids))
@@ -116,7 +116,7 @@ pub record Refiled (s t : Schema) : Type 0 where
   pub ids : Reordered (RefiledId (s .registry) (t .registry) to) (s .ids) (t .ids)
   pub namespace : s .namespace ≡ t .namespace
 
--- What filing anew is: an equivalence, under which what has no repeats has none.
+-- Filing anew is an equivalence, and keeps what has no repeats so.
 pub record Refilings : Type 0 where
   pub itself : (s : Schema) → Refiled s s
   pub back : (s t : Schema) → Refiled s t → Refiled t s
@@ -125,6 +125,10 @@ pub record Refilings : Type 0 where
 
 -- ---- "must leave the report of 01 the same byte for byte. .. Accepted images on both sides are the premise, and a buffer that holds the
 -- report."
+
+-- a buffer that holds the report
+abbrev pub Holds : List ℕ → List ℕ → List ℕ → Type 0
+Holds old new out = verdictOf old new 4 ≤ length out
 
 -- both images are accepted: P holds of the schema of a, and b holds that schema filed anew
 pub record RefiledImage (P : Schema → Type 0) (a b : List ℕ) : Type 0 where
@@ -144,21 +148,21 @@ pub record SameAnswers (old new old′ new′ : List ℕ) : Type 0 where
   -- the verdict call, by selector
   pub verdict : (selector : ℕ) → verdictOf old new selector ≡ verdictOf old′ new′ selector
   -- the report call in one and the same buffer, large enough or not: what it returns, and the whole buffer after it
-  pub returned : (out : List ℕ) → reportLength (reported old new (length out)) ≡ reportLength (reported old′ new′ (length out))
-  pub buffer : (out : List ℕ) → written (reported old new (length out)) out ≡ written (reported old′ new′ (length out)) out
-  -- the report in any two buffers that hold it (selector 4 is its length)
-  pub report : (out out′ : List ℕ) → verdictOf old new 4 ≤ length out → verdictOf old new 4 ≤ length out′
-      → take (verdictOf old new 4) (written (reported old new (length out)) out)
-      ≡ take (verdictOf old new 4) (written (reported old′ new′ (length out′)) out′)
+  pub returns : (out : List ℕ) → returned old new out ≡ returned old′ new′ out
+  pub buffer : (out : List ℕ) → leaves old new out ≡ leaves old′ new′ out
+  -- the report call in any two buffers that hold the report, whose length is selector 4: what it returns, and so many bytes of the buffer
+  pub lengths : (out out′ : List ℕ) → Holds old new out → Holds old new out′ → returned old new out ≡ returned old′ new′ out′
+  pub report : (out out′ : List ℕ) → Holds old new out → Holds old new out′
+      → take (returned old new out) (leaves old new out) ≡ take (returned old′ new′ out′) (leaves old′ new′ out′)
 
 -- Filing anew does not affect the answers on images with P. Of those filed anew nothing is asked but that they are accepted.
 abbrev pub Unaffected : (Schema → Type 0) → Type 0
 Unaffected P = (old new old′ new′ : List ℕ) → RefiledImage P old old′ → RefiledImage P new new′ → SameAnswers old new old′ new′
 
--- With either reading of "resolvable declarations", and with less; and over schemas, in whatever way types are read.
+-- With either reading of "resolvable declarations", and with less; and over schemas, in whatever way a verdict reads types.
 pub record FilingOrder : Type 0 where
   pub noRepeats : Unaffected NoRepeats
   pub entriesOnce : Unaffected EntriesOnce
   pub listedOnce : Unaffected ListedOnce
-  pub changes : (same : Reading) (old new old′ new′ : Schema) → ListedOnce old → ListedOnce new → Refiled old old′ → Refiled new new′
+  pub anyReading : (same : Reading) (old new old′ new′ : Schema) → ListedOnce old → ListedOnce new → Refiled old old′ → Refiled new new′
       → changes same (viewOf old) (viewOf new) ≡ changes same (viewOf old′) (viewOf new′)

@@ -17,7 +17,7 @@ use Rattle.rules.specs.Survivors.{viewOf}
 use Rattle.rules.specs.Types.{sameType}
 use Rattle.rules.specs.Changes.{Change}
 use Rattle.rules.specs.Report.{line, lastLine, report}
-use Rattle.rules.specs.Answer.{bothSides, Outcome, refused, compared, checked, selected, select, verdictOf, fit, reported, reportLength, written}
+use Rattle.rules.specs.Answer.{bothSides, Outcome, refused, compared, checked, selected, select, verdictOf, fit, reported, reportLength, written, returned, leaves}
 use Rattle.rules.proofs.Answer.{Case, old-refused, new-refused, pair-refused, verdict, case}
 use Rattle.rules.proofs.Refusals.{report-refusals}
 
@@ -75,32 +75,25 @@ module _ (room : ℕ) where
 -- ---- of the calls
 
 module _ (old new : List ℕ) where
-  -- what the report call returns, and what it leaves in the buffer d
-  abbrev pub returned : List ℕ → ℕ
-  returned d = reportLength (reported old new (length d))
-
-  abbrev pub leaves : List ℕ → List ℕ
-  leaves d = written (reported old new (length d)) d
-
   -- selector 4 of the verdict call is how large a buffer the report call needs, and what it then returns
-  pub room-enough : (d : List ℕ) → verdictOf old new 4 ≤ length d → returned d ≡ verdictOf old new 4
+  pub room-enough : (d : List ℕ) → verdictOf old new 4 ≤ length d → returned old new d ≡ verdictOf old new 4
   unfolding verdictOf reported
   room-enough d h = ap reportLength (fits (checked old new) (length d) h) ∙ length-selected (checked old new)
 
   -- the text is the same in every buffer that is large enough
   pub same-text : (d d′ : List ℕ) → verdictOf old new 4 ≤ length d → verdictOf old new 4 ≤ length d′
-      → take (returned d) (leaves d) ≡ take (returned d′) (leaves d′)
+      → take (returned old new d) (leaves old new d) ≡ take (returned old new d′) (leaves old new d′)
   unfolding verdictOf reported
   same-text d d′ h h′ = text-here d h ∙ sym (text-here d′ h′)
     where
-      text-here : (d : List ℕ) → select (checked old new) 4 ≤ length d → take (returned d) (leaves d) ≡ text (checked old new)
+      text-here : (d : List ℕ) → select (checked old new) 4 ≤ length d → take (returned old new d) (leaves old new d) ≡ text (checked old new)
       text-here d h = rw (fits (checked old new) (length d) h) (text-written (checked old new) d)
 
   -- "Bytes past the length stay", whatever is returned
-  pub rest-stays : (d : List ℕ) → drop (returned d) (leaves d) ≡ drop (returned d) d
+  pub rest-stays : (d : List ℕ) → drop (returned old new d) (leaves old new d) ≡ drop (returned old new d) d
   rest-stays d = rest-written (reported old new (length d)) d
 
   -- it returns 0 for a refusal and for nothing else
-  pub none-refused : (d : List ℕ) → (returned d ≡ 0) ↔ (select (reported old new (length d)) 0 ≡ 0 → ⊥)
+  pub none-refused : (d : List ℕ) → (returned old new d ≡ 0) ↔ (select (reported old new (length d)) 0 ≡ 0 → ⊥)
   unfolding reported checked
   none-refused d = (refused-only (length d) (case viewOf sameType old new), report-refusals old new (length d) .nothing)

@@ -6,6 +6,7 @@ use Rattle.maps.specs.Lists.{pass, largest, total, count}
 use Rattle.maps.specs.Orders.{same, before, orderOf}
 use Rattle.maps.specs.Keyed.{insert, survivors, lookup}
 use Rattle.maps.specs.Compare.{unmatched, matched, between, compare}
+use Rattle.image.specs.Schema.{Schema}
 use Rattle.image.specs.Parse.{Parsed, bind, pick, shift, within, part, byteAt, codeAt, littleEndian, numberAt, many, counted}
 use Rattle.image.specs.Names.{nameByte, nameBytes, nameAt, namesAt}
 use Rattle.image.specs.Types.{followsTag, innerTypes, afterTag, labelOf, innerAt, typeOf, typeAt}
@@ -24,7 +25,6 @@ use Rattle.rules.specs.Verdict.{bumpOf, resultOf, countOf, alias, isAlia
 use Rattle.rules.specs.Report.{changeWord, bumpWord, resultWord, fieldPart, line, changeLine, lastLine, report}
 use Rattle.rules.specs.Answer.{comparePair, acceptNew, acceptOld, outcome, checked, counts, selected, select, verdictOf, written}
 use Rattle.rules.specs.Pinned.{digit, hex, image, lines, told}
-use Rattle.image.specs.Schema.{Schema}
 
 unfoldable pub reads : List ℕ → Parsed Schema
 unfolding flatMap digit hex image bind pick shift within part byteAt codeAt littleEndian numberAt many counted nameByte nameBytes nameAt namesAt followsTag innerTypes afterTag labelOf innerAt typeOf typeAt marksOf marksAt plain delta encodingOf encodingAt limitAt fieldAt bareAt variantAt messageAt enumAt flagsAt unionAt newtypeAt otherAt implAt declAt bodyOf u16At format entryCount idCount segmentCount entryOffset entryLength idsAt segmentsAt idsFrom headOf tablesOf laid entryOf entriesOf readImage

@@ -90,3 +90,10 @@ reportLength (compared cs) = length (report cs)
 unfoldable pub written : Outcome → List ℕ → List ℕ
 written (refused number side) out = out
 written (compared cs) out = report cs ++ drop (length (report cs)) out
+
+-- what it returns, and what it leaves in the buffer, by the buffer that it is lent
+abbrev pub returned : List ℕ → List ℕ → List ℕ → ℕ
+returned old new out = reportLength (reported old new (length out))
+
+abbrev pub leaves : List ℕ → List ℕ → List ℕ → List ℕ
+leaves old new out = written (reported old new (length out)) out
