@@ -1,6 +1,6 @@
 #!/usr/bin/env bash
 # Hammers the library: the recorded pairs, then COUNT random ones of SEED, against the oracle in one process, for SECONDS (60) at most.
-# With every fourth random pair goes one without repeats whose images have a copy that is filed otherwise: all four pairs of
+# With every fourth random pair goes one without repeats whose images have a copy that is filed anew: all four pairs of
 # image and copy must get the answer of the first. With --refiled only COUNT of these are run.
 #
 #   tools/hammer/run.sh [--refiled] SEED COUNT [SECONDS]

@@ -64,7 +64,7 @@ pub fn make(text: &str, image: &str) -> Outcome {
     std::fs::write(image, bytes).map_err(|error| of(image, &error))
 }
 
-/// Writes a copy of an accepted image without repeats that is filed otherwise.
+/// Writes a copy of an accepted image without repeats that is filed anew.
 pub fn refile(path: &str, seed: u64, out: &str) -> Outcome {
     let schema = read_image(&read_file(path)?).map_err(|refusal| format!("{path}: {refusal}"))?;
     if let Some(what) = repeat(&schema) {

@@ -10,8 +10,8 @@ use crate::refiling::{form, repeat, Form};
 use crate::schema::*;
 use std::collections::{BTreeMap, BTreeSet};
 
-const SAME: &str = "filed otherwise, the same answer";
-const ANOTHER: &str = "filed otherwise, another answer";
+const SAME: &str = "filed anew, the same answer";
+const ANOTHER: &str = "filed anew, another answer";
 
 /// Of pairs with the same forms the first, and its answer.
 #[derive(Default)]
@@ -35,28 +35,28 @@ impl Filed {
             [false, true] => "new",
             [true, true] => "both",
         };
-        facts.add(format!("filed otherwise: {sides}"));
+        facts.add(format!("filed anew: {sides}"));
         facts.add(if pair.answer == *answer {
             SAME
         } else {
             ANOTHER
         });
         facts.add(match answer.number {
-            0 => format!("filed otherwise, bump {:?}", answer.bump),
-            number => format!("filed otherwise, refused {number}"),
+            0 => format!("filed anew, bump {:?}", answer.bump),
+            number => format!("filed anew, refused {number}"),
         });
         for (side, moves) in [
             ("old", moves(&first[0], old)),
             ("new", moves(&first[1], new)),
         ] {
             for text in moves {
-                facts.add(format!("{side} filed otherwise: {text}"));
+                facts.add(format!("{side} filed anew: {text}"));
             }
         }
     }
 }
 
-/// In what a copy is filed otherwise.
+/// In what a copy is filed anew.
 pub fn moves(schema: &Schema, copy: &Schema) -> BTreeSet<String> {
     let found = BTreeSet::new();
     let mut moves = Moves {
@@ -198,7 +198,7 @@ const MOVED: [&str; 16] = [
     DEEPEST,
 ];
 
-/// All ways in which a copy can be filed otherwise.
+/// All ways in which a copy can be filed anew.
 pub fn all_moves() -> Vec<String> {
     let mut all: Vec<String> = MOVED.map(str::to_string).into();
     for tag in 4..=9 {
@@ -212,13 +212,13 @@ pub fn rows(rows: &mut Rows) {
     rows.one(SAME);
     rows.never(ANOTHER);
     for sides in ["old", "new", "both"] {
-        rows.one(format!("filed otherwise: {sides}"));
+        rows.one(format!("filed anew: {sides}"));
     }
     for bump in ["Patch", "Minor", "Major"] {
-        rows.one(format!("filed otherwise, bump {bump}"));
+        rows.one(format!("filed anew, bump {bump}"));
     }
-    rows.one("filed otherwise, refused 11");
+    rows.one("filed anew, refused 11");
     for text in all_moves() {
-        rows.sides(|side| format!("{side} filed otherwise: {text}"));
+        rows.sides(|side| format!("{side} filed anew: {text}"));
     }
 }

@@ -1,6 +1,6 @@
 //! Many pairs through the library against the oracle: every selector, and the
 //! report in buffers of several lengths, all against guard pages. Of pairs without
-//! repeats also copies that are filed otherwise, which must get the same answer.
+//! repeats also copies that are filed anew, which must get the same answer.
 
 use super::guarded::Guarded;
 use crate::answer::{judge, Answer, SELECTORS};
@@ -20,7 +20,7 @@ const REPORT_ROOM: usize = 1 << 20;
 const UNTOUCHED: u8 = 0xa5;
 /// So many bytes before a report buffer are watched.
 const BEFORE: usize = 64;
-/// Of so many random pairs one more comes with its copies.
+/// After so many random pairs one more is run, with its copies.
 const REFILED_ONCE_IN: u64 = 4;
 
 /// The images that stand for each side of a pair: one, or one and its copies.

@@ -1,4 +1,4 @@
-//! A copy of a schema that is filed otherwise: lists reordered, the registry
+//! A copy of a schema that is filed anew: lists reordered, the registry
 //! renumbered, every id following. Inline bits are names in order and stay.
 
 use crate::edits::types_of;

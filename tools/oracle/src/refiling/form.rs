@@ -1,4 +1,4 @@
-//! The form of a schema: the same for all copies that are filed otherwise. Every
+//! The form of a schema: the same for all copies that are filed anew. Every
 //! id is replaced by what it stands for, every list is sorted, and all ids that
 //! do not resolve are one.
 //!

@@ -1,5 +1,5 @@
 //! Change request R-13, filing order must not matter: schemas without repeats,
-//! copies of them that are filed otherwise, and a form that tells such copies
+//! copies of them that are filed anew, and a form that tells such copies
 //! from other schemas.
 
 mod copy;

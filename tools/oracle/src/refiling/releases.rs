@@ -10,7 +10,7 @@ use crate::schema::*;
 use crate::writer::image;
 use std::collections::BTreeSet;
 
-/// An image, then a copy of it that is filed otherwise.
+/// An image, then a copy of it that is filed anew.
 pub type FiledTwice = [Vec<u8>; 2];
 
 /// The images of a random pair without repeats, each with a copy.

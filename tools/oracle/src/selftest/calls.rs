@@ -109,7 +109,7 @@ fn refile(tests: &mut Tests, folder: &Path) {
     };
     let (status, copy) = bytes("7", "copy.img");
     tests.equal("refile, status", status, Some(0));
-    tests.holds("refile files otherwise", copy != std::fs::read(&image).ok());
+    tests.holds("refile files anew", copy != std::fs::read(&image).ok());
     let again = bytes("7", "again.img").1;
     tests.holds("refile, one seed, the same bytes", copy == again);
     let other = bytes("8", "other-copy.img").1;

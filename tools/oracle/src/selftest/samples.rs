@@ -1,5 +1,5 @@
 //! samples/: every text makes its image, an image without a text is damaged as
-//! the README there says, one that is filed otherwise has its original's answers,
+//! the README there says, one that is filed anew has its original's answers,
 //! and every command of that README has its output.
 
 use super::{read_file, Tests, ROOT};
@@ -36,7 +36,7 @@ pub fn run(tests: &mut Tests) {
     commands(tests, &images, &readme);
 }
 
-/// An image `X-refiled` is `X` filed otherwise, and beside every other image both
+/// An image `X-refiled` is `X` filed anew, and beside every other image both
 /// have the same answers.
 fn copies(tests: &mut Tests, images: &Files) {
     let mut copies = 0;
@@ -56,7 +56,7 @@ fn copies(tests: &mut Tests, images: &Files) {
         tests.equal(name, all.filter(differs).count(), 0);
         copies += 1;
     }
-    tests.holds("2 releases filed otherwise or more", copies >= 2);
+    tests.holds("2 releases filed anew or more", copies >= 2);
 }
 
 fn files(ending: &str) -> Files {

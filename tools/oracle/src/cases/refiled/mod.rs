@@ -1,4 +1,4 @@
-//! Pairs without repeats, and copies of them that are filed otherwise.
+//! Pairs without repeats, and copies of them that are filed anew.
 
 mod bodies;
 mod ids;

@@ -1,4 +1,4 @@
-//! what repeats, copies that are filed otherwise and their answers, and
+//! what repeats, copies that are filed anew and their answers, and
 //! that what is no such copy is told.
 
 mod controls;
@@ -29,7 +29,7 @@ pub fn run(tests: &mut Tests) {
     controls::run(tests);
 }
 
-/// Schemas without repeats, each with a copy that is filed otherwise.
+/// Schemas without repeats, each with a copy that is filed anew.
 fn filed(seed: u64, count: usize) -> Vec<(Schema, Schema)> {
     let mut rng = Rng::new(seed);
     let mut list = Vec::new();
@@ -55,10 +55,10 @@ fn copies(tests: &mut Tests) {
     let alike = all(|(schema, copy)| form(schema) == form(copy));
     tests.holds("copies have the form of what they are copies of", alike);
     let moved = list.iter().filter(|(schema, copy)| schema != copy).count();
-    tests.holds("nearly all copies are filed otherwise", moved >= 3_600);
+    tests.holds("nearly all copies are filed anew", moved >= 3_600);
 }
 
-/// Copies are filed otherwise in every way.
+/// Copies are filed anew in every way.
 fn moved(tests: &mut Tests) {
     let mut times: BTreeMap<String, usize> = BTreeMap::new();
     for (schema, copy) in filed(SEED + 3, 8_000) {
