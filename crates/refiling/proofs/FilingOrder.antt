@@ -9,7 +9,7 @@ use Rattle.image.specs.Image.{readImage}
 use Rattle.rules.specs.Types.{sameType}
 use Rattle.rules.specs.Answer.{Outcome, acceptNew, acceptOld, outcome, checked, select, verdictOf, fit, reported, reportLength, written}
 use Rattle.rules.proofs.Calls.{room-enough, same-text}
-use Rattle.refiling.specs.Refiling.{ListedOnce, Refiled, RefiledImage, SameAnswers, FilingOrder}
+use Rattle.refiling.specs.Refiling.{ListedOnce, Refiled, RefiledImage, Holds, SameAnswers, FilingOrder}
 use Rattle.refiling.proofs.Standing.{changes-refiled, pair-refiled}
 use Rattle.refiling.proofs.Repeats.{no-repeats-listed, entries-once-listed}
 
@@ -22,10 +22,13 @@ module _ (old new old′ new′ : List ℕ) where
     verdict = λ selector. ap (λ o. select o selector) e;
     returns = λ out. ap (returnedOf out) e;
     buffer = λ out. ap (leavesOf out) e;
-    lengths = λ out out′ h h′. room-enough old new out h ∙ (sym (room-enough old new out′ h′) ∙ ap (returnedOf out′) e);
-    report = λ out out′ h h′. same-text old new out out′ h h′ ∙ ap (λ o. take (returnedOf out′ o) (leavesOf out′ o)) e;
+    lengths = λ out out′ h h′. room-enough old new out h ∙ (sym (room-enough old new out′ (held out′ h′)) ∙ ap (returnedOf out′) e);
+    report = λ out out′ h h′. same-text old new out out′ h (held out′ h′) ∙ ap (λ o. take (returnedOf out′ o) (leavesOf out′ o)) e;
   }
     where
+      held : (out : List ℕ) → Holds old′ new′ out → Holds old new out
+      held out h = rw (ap (λ o. select o 4) e) h
+
       returnedOf : List ℕ → Outcome → ℕ
       returnedOf out o = reportLength (fit (length out) o)
 

@@ -151,8 +151,8 @@ pub record SameAnswers (old new old′ new′ : List ℕ) : Type 0 where
   pub returns : (out : List ℕ) → returned old new out ≡ returned old′ new′ out
   pub buffer : (out : List ℕ) → leaves old new out ≡ leaves old′ new′ out
   -- the report call in any two buffers that hold the report, whose length is selector 4: what it returns, and so many bytes of the buffer
-  pub lengths : (out out′ : List ℕ) → Holds old new out → Holds old new out′ → returned old new out ≡ returned old′ new′ out′
-  pub report : (out out′ : List ℕ) → Holds old new out → Holds old new out′
+  pub lengths : (out out′ : List ℕ) → Holds old new out → Holds old′ new′ out′ → returned old new out ≡ returned old′ new′ out′
+  pub report : (out out′ : List ℕ) → Holds old new out → Holds old′ new′ out′
       → take (returned old new out) (leaves old new out) ≡ take (returned old′ new′ out′) (leaves old′ new′ out′)
 
 -- Filing anew does not affect the answers on images with P. Of those filed anew nothing is asked but that they are accepted.
