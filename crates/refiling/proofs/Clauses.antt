@@ -21,6 +21,15 @@ use Rattle.refiling.specs.Refiling.{Impls, NumbersOnce, Unresolvable, Re
 
 -- ---- ids, types
 
+-- by what entry an id stands for
+pub by-entry : (R : Registry) (i : ℕ) {A : Type 0} → Resolvable R i → ((d : Decl) → declOf R i ≡ some d → A) → A
+unfolding Resolvable Unresolvable
+by-entry R i {A} r f = go (declOf R i) refl
+  where
+    go : (o : Option Decl) → declOf R i ≡ o → A
+    go none p = absurd (r p)
+    go (some d) p = f d p
+
 -- the entry of an id, and that of its new number
 pub record Moved (R S : Registry) (to : ℕ → ℕ) (i : ℕ) : Type 0 where
   pub before : Decl
@@ -40,13 +49,10 @@ not-named R l n = go (eqb (l .tag) 3) refl
 
 module _ {R S : Registry} {to from : ℕ → ℕ} (N : Renumbered R S to from) where
   pub moved : (i : ℕ) → Resolvable R i → Moved R S to i
-  unfolding Resolvable Unresolvable
-  moved i r = go (declOf R i) (declOf S (to i)) refl refl
-    where
-      go : (o p : Option Decl) → declOf R i ≡ o → declOf S (to i) ≡ p → Moved R S to i
-      go none p a b = absurd (r a)
-      go (some d) none a b = absurd (N .there i r .0 b)
-      go (some d) (some e) a b = record { before = d; after = e; stood = a; stands = b; anew = N .entry i d e a b }
+  moved i r =
+      by-entry R i r (λ d a.
+      by-entry S (to i) (N .there i r .0) (λ e b.
+      record { before = d; after = e; stood = a; stands = b; anew = N .entry i d e a b }))
 
   name-refiled : {i j : ℕ} → RefiledId R S to i j → nameIn (declOf R i) ≡ nameIn (declOf S j)
   unfolding nameIn Unresolvable

@@ -1,6 +1,6 @@
 -- For examples: a renumbering shown entry by entry, and what is filed anew piece by piece. Assumes nothing.
 use mathlib.Core.Path.{_≡_, refl, sym, _∙_, subst}
-use mathlib.Core.Option.{Option, none, some, Option·some-injective, Option·none-ne-some}
+use mathlib.Core.Option.{none, some, Option·some-injective, Option·none-ne-some}
 use mathlib.Core.List.{List, [], _∷_}
 use Prim.Native.Nat.{ℕ, zero, suc}
 use native.Mathlib.Omega.{arith}
@@ -8,7 +8,8 @@ use Rattle.maps.specs.Reordered.{Reordered}
 use Rattle.image.specs.Schema.{Name, unmarked, label, Ty, Field, Variant, Decl, decl}
 use Rattle.rules.specs.Survivors.{Registry, declOf}
 use Rattle.rules.specs.Edges.{named as namedType, primitive}
-use Rattle.refiling.specs.Refiling.{Unresolvable, Resolvable, RefiledId, renumbered, RefiledLabel, named, other, RefiledType, aLeaf, RefiledField, RefiledVariant, RefiledDecl, Renumbered}
+use Rattle.refiling.specs.Refiling.{RefiledId, renumbered, RefiledLabel, named, other, RefiledType, aLeaf, RefiledField, RefiledVariant, RefiledDecl, Renumbered}
+use Rattle.refiling.proofs.Clauses.{by-entry}
 use Rattle.refiling.proofs.Repeats.{entry-resolvable}
 
 -- ---- entry by entry
@@ -26,15 +27,6 @@ row P (none ∷ R) n h zero d p = absurd (Option·none-ne-some d p)
 row P (none ∷ R) n h (suc i) d p = row P R (λ k. n (suc k)) h i d p
 row P (some e ∷ R) n h zero d p = subst (P (n 0)) (Option·some-injective e d p) (h .0)
 row P (some e ∷ R) n h (suc i) d p = row P R (λ k. n (suc k)) (h .1) i d p
-
--- by what entry an id stands for
-by-entry : (R : Registry) (i : ℕ) {A : Type 0} → Resolvable R i → ((d : Decl) → declOf R i ≡ some d → A) → A
-unfolding Resolvable Unresolvable
-by-entry R i {A} r f = go (declOf R i) refl
-  where
-    go : (o : Option Decl) → declOf R i ≡ o → A
-    go none p = absurd (r p)
-    go (some d) p = f d p
 
 module _ (R S : Registry) (to from : ℕ → ℕ) where
   -- what is shown of an entry of R, and of one of S
