@@ -1,8 +1,10 @@
--- The four cases of two images: the old one is refused, the new one is, the pair is, or there are changes. Assumes nothing.
-use mathlib.Core.Path.{_≡_, refl, ap, _∙_}
+-- Two images by stages: where they are decided, and what a pair with number 0 has. Assumes nothing.
+use mathlib.Core.Path.{_≡_, refl, sym, ap, _∙_}
 use mathlib.Core.Bool.{Bool, true, false, cond}
+use mathlib.Core.Option.{Option, none, some, orElse, Option·none-ne-some, Option·some-injective}
 use mathlib.Core.List.{List, [], _∷_}
-use Prim.Native.Nat.{ℕ, zero, suc, _+_, _≤_, _<_}
+use mathlib.Core.Logic.{_↔_}
+use Prim.Native.Nat.{ℕ, zero, suc, _+_, _<_}
 use native.Mathlib.Omega.{arith}
 use lib.ListN.{length, getD}
 use lib.Seq.{getD-append-add}
@@ -10,40 +12,54 @@ use Rattle.image.specs.Schema.{Schema}
 use Rattle.image.specs.Parse.{Parsed, ok, no}
 use Rattle.image.specs.Image.{readImage}
 use Rattle.refusals.proofs.Refusals.{only-ten}
-use Rattle.rules.specs.Survivors.{View}
-use Rattle.rules.specs.Types.{Reading}
+use Rattle.rules.specs.Survivors.{viewOf}
 use Rattle.rules.specs.Changes.{Change, kindCount}
 use Rattle.rules.specs.Clauses.{changes}
 use Rattle.rules.specs.Verdict.{bumpOf, resultOf, countOf, aliasPair}
 use Rattle.rules.specs.Report.{report}
-use Rattle.rules.specs.Answer.{oldSide, newSide, bothSides, Outcome, refused, compared, comparePair, acceptNew, acceptOld, outcome, counts, selected, select}
+use Rattle.rules.specs.Outcome.{Outcome, refused, answered, selected, select}
+use Rattle.rules.specs.Answer.{oldSide, newSide, bothSides, Fault, fault, Policy, compared, counts, firstFault, judged, onSide, comparePair, acceptNew, acceptOld, outcome, aliasCheck, plain}
+use Rattle.rules.specs.Refusals.{Passes, Decided, oldRefused, oldAlone, newRefused, newAlone, pairRefused, verdict, Numbered}
 
--- a number of a single image
-abbrev pub Single : ℕ → Type 0
-Single k = (1 ≤ k) × (k ≤ 10)
+-- ---- where they are decided
 
-module _ (view : Schema → View) (same : Reading) (a b : List ℕ) where
-  pub data Case : Outcome → Type 0 where
-    old-refused : {k : ℕ} → Single k → readImage a ≡ no k → Case (refused k oldSide)
-    new-refused : {x : Schema} {m k : ℕ} → Single k → readImage a ≡ ok x m → readImage b ≡ no k → Case (refused k newSide)
-    pair-refused : {x y : Schema} {m n : ℕ} → readImage a ≡ ok x m → readImage b ≡ ok y n → aliasPair (view x) (view y) ≡ true
-        → Case (refused 11 bothSides)
-    verdict : {x y : Schema} {m n : ℕ} → readImage a ≡ ok x m → readImage b ≡ ok y n → aliasPair (view x) (view y) ≡ false
-        → Case (compared (changes same (view x) (view y)))
-
-  pub case : Case (outcome view same a b)
-  unfolding outcome acceptOld acceptNew comparePair
-  case = go (readImage a) (readImage b) refl refl
+module _ (p : Policy) (old new : List ℕ) where
+  pub decided : Decided p old new (outcome p old new)
+  unfolding outcome acceptOld acceptNew comparePair onSide judged
+  decided = go (readImage old) (readImage new) refl refl
     where
-      pair : (x y : Schema) (m n : ℕ) → readImage a ≡ ok x m → readImage b ≡ ok y n → (p : Bool) → aliasPair (view x) (view y) ≡ p
-          → Case (cond p (refused 11 bothSides) (compared (changes same (view x) (view y))))
-      pair x y m n p q true e = pair-refused p q e
-      pair x y m n p q false e = verdict p q e
+      pair : (x y : Schema) → Passes p old x → Passes p new y → (f : Option Fault) → firstFault (p .pair) x y ≡ f
+          → Decided p old new (judged f (compared (changes (p .reading) (p .view x) (p .view y))))
+      pair x y a b none e = verdict a b e
+      pair x y a b (some f) e = pairRefused a b e
 
-      go : (r s : Parsed Schema) → readImage a ≡ r → readImage b ≡ s → Case (acceptOld view same r s)
-      go (ok x m) (ok y n) p q = pair x y m n p q (aliasPair (view x) (view y)) refl
-      go (ok x m) (no k) p q = new-refused (only-ten b k q) p q
-      go (no k) s p q = old-refused (only-ten a k p) p
+      second : (x : Schema) → Passes p old x → (y : Schema) (n : ℕ) → readImage new ≡ ok y n → (k : Option ℕ) → p .alone y ≡ k
+          → Decided p old new (judged (onSide newSide k) (comparePair p x y))
+      second x a y n q none e = pair x y a (record { end = n; read = q; alone = e }) (firstFault (p .pair) x y) refl
+      second x a y n q (some k) e = newAlone a q e
+
+      first : (x : Schema) (m : ℕ) → readImage old ≡ ok x m → (s : Parsed Schema) → readImage new ≡ s → (k : Option ℕ) → p .alone x ≡ k
+          → Decided p old new (judged (onSide oldSide k) (acceptNew p x s))
+      first x m q (ok y n) r none e = second x (record { end = m; read = q; alone = e }) y n r (p .alone y) refl
+      first x m q (no k) r none e = newRefused (record { end = m; read = q; alone = e }) r
+      first x m q s r (some k) e = oldAlone q e
+
+      go : (r s : Parsed Schema) → readImage old ≡ r → readImage new ≡ s → Decided p old new (acceptOld p r s)
+      go (ok x m) s q t = first x m q s t (p .alone x) refl
+      go (no k) s q t = oldRefused q
+
+  -- and in no other way
+  pub decides : {o : Outcome} → Decided p old new o → outcome p old new ≡ o
+  unfolding outcome acceptOld acceptNew comparePair onSide judged
+  decides (oldRefused q) = rw q
+  decides (oldAlone q e) = rw (q, e)
+  decides (newRefused a q) = rw (a .read, a .alone, q)
+  decides (newAlone a q e) = rw (a .read, a .alone, q, e)
+  decides (pairRefused a b e) = rw (a .read, a .alone, b .read, b .alone, e)
+  decides (verdict a b e) = rw (a .read, a .alone, b .read, b .alone, e)
+
+  pub exactly : (o : Outcome) → (outcome p old new ≡ o) ↔ Decided p old new o
+  exactly o = (λ e. rw (sym e) decided, decides)
 
 -- ---- a pair with number 0 has the changes of what the two images hold
 
@@ -52,20 +68,22 @@ unfoldable pub schemaOf : Parsed Schema → Schema
 schemaOf (ok s n) = s
 schemaOf (no k) = record { registry = []; ids = []; namespace = [] }
 
-module _ (view : Schema → View) (same : Reading) where
+module _ (p : Policy) where
   -- what the clauses report, whether or not the images are refused
   unfoldable pub changesOf : List ℕ → List ℕ → List Change
-  changesOf a b = changes same (view (schemaOf (readImage a))) (view (schemaOf (readImage b)))
+  changesOf a b = changes (p .reading) (p .view (schemaOf (readImage a))) (p .view (schemaOf (readImage b)))
 
-  pub compared-of : (a b : List ℕ) → select (outcome view same a b) 0 ≡ 0 → outcome view same a b ≡ compared (changesOf a b)
+  pub compared-of : Numbered p → (a b : List ℕ) → select (outcome p a b) 0 ≡ 0 → outcome p a b ≡ compared (changesOf a b)
   unfolding changesOf schemaOf select selected
-  compared-of a b = go (case view same a b)
+  compared-of n a b = go (decided p a b)
     where
-      go : {o : Outcome} → Case view same a b o → select o 0 ≡ 0 → o ≡ compared (changesOf a b)
-      go (old-refused l p) z = absurd (omega arith)
-      go (new-refused l p q) z = absurd (omega arith)
-      go (pair-refused p q e) z = absurd (omega arith)
-      go (verdict p q e) z = rw (p, q)
+      go : {o : Outcome} → Decided p a b o → select o 0 ≡ 0 → o ≡ compared (changesOf a b)
+      go (oldRefused q) z = absurd (omega (arith, only-ten a _ q))
+      go (oldAlone q e) z = absurd (n .alone _ _ e .0 z)
+      go (newRefused c q) z = absurd (omega (arith, only-ten b _ q))
+      go (newAlone c q e) z = absurd (n .alone _ _ e .0 z)
+      go (pairRefused c d e) z = absurd (n .pair _ _ _ e .0 z)
+      go (verdict c d e) z = rw (c .read, d .read)
 
 -- ---- the selectors from 5 on
 
@@ -80,3 +98,26 @@ unfolding select selected
 count-selected kind h cs =
     getD-append-add (0 ∷ 0 ∷ bumpOf cs ∷ resultOf cs ∷ length (report cs) ∷ []) (counts kindCount 0 cs) kind 0
     ∙ (counts-at kindCount 0 kind cs h ∙ ap (λ i. countOf i cs) (omega arith))
+
+-- ---- the verdict of document 01
+
+-- of the pair only 11 is given, to a pair of aliases
+pub plain-fault : (x y : Schema) (f : Fault) → firstFault (plain .pair) x y ≡ some f
+    → (aliasPair (viewOf x) (viewOf y) ≡ true) × (f ≡ fault 11 bothSides)
+unfolding firstFault aliasCheck orElse
+plain-fault x y f = go (aliasPair (viewOf x) (viewOf y)) refl
+  where
+    go : (u : Bool) → aliasPair (viewOf x) (viewOf y) ≡ u → orElse (cond u (some (fault 11 bothSides)) none) none ≡ some f
+        → (aliasPair (viewOf x) (viewOf y) ≡ true) × (f ≡ fault 11 bothSides)
+    go true p e = (p, sym (Option·some-injective (fault 11 bothSides) f e))
+    go false p e = absurd (Option·none-ne-some f e)
+
+pub alias-fault : (x y : Schema) → aliasPair (viewOf x) (viewOf y) ≡ true → firstFault (plain .pair) x y ≡ some (fault 11 bothSides)
+unfolding firstFault aliasCheck orElse
+alias-fault x y e = rw e
+
+pub plain-numbered : Numbered plain
+plain-numbered = record {
+  alone = λ x k e. absurd (Option·none-ne-some k e);
+  pair = λ x y f e. let n = ap (λ (g : Fault). g .number) (plain-fault x y f e .1) in (λ z. omega arith, λ z. omega arith);
+}

@@ -1,7 +1,7 @@
 -- The report of two accepted images is shorter than 2^62 bytes, and so is every value that the verdict call selects. Assumes nothing.
-use mathlib.Core.Path.{_≡_}
+use mathlib.Core.Path.{_≡_, ap}
 use mathlib.Core.Bool.{Bool, true, false, cond}
-use mathlib.Core.Option.{Option, none, some}
+use mathlib.Core.Option.{Option, none, some, Option·none-ne-some}
 use mathlib.Core.List.{List, [], _∷_}
 use Prim.Native.Nat.{ℕ, zero, suc, _+_, _*_, _^_, _≤_, _<_}
 use native.Mathlib.Omega.{arith}
@@ -9,6 +9,7 @@ use lib.Dec.{eqb}
 use lib.ListN.{length, getD, length-append}
 use Rattle.maps.specs.Lists.{largest, total, count, All}
 use Rattle.maps.specs.Orders.{before}
+use Rattle.maps.specs.Walk.{Rising}
 use Rattle.maps.proofs.Lists.{all, total-less, length-flatMap}
 use Rattle.maps.proofs.Survivors.{all-survivors}
 use Rattle.maps.proofs.Sums.{total-survivors}
@@ -17,20 +18,23 @@ use Rattle.image.specs.Words.{bytes}
 use Rattle.image.specs.Parse.{Parsed, ok}
 use Rattle.image.specs.Image.{readImage}
 use Rattle.image.proofs.Laws.Sure.{Sure, sure-ok, sure-no}
-use Rattle.rules.specs.Survivors.{Registry, nameOf, declOf, resolved, listed, declarations, viewOf}
+use Rattle.rules.specs.Survivors.{Registry, nameOf, declOf, resolved, listed, declarations, View, viewOf}
 use Rattle.rules.specs.Types.{nameIn, sameType}
 use Rattle.rules.specs.Text.{joined}
 use Rattle.rules.specs.Changes.{Change, kindCount}
 use Rattle.rules.specs.Clauses.{changes}
 use Rattle.rules.specs.Verdict.{bumpOf, resultAt, resultOf, countOf}
 use Rattle.rules.specs.Report.{bumpWord, resultWord, line, lastLine, report}
-use Rattle.rules.specs.Answer.{Outcome, refused, compared, checked, counts, selected, select, verdictOf}
+use Rattle.rules.specs.Outcome.{Outcome, refused, selected, select}
+use Rattle.rules.specs.Answer.{Fault, Policy, compared, counts, firstFault, verdictBy, plain, verdictOf}
+use Rattle.rules.specs.Refusals.{Passes, Decided, oldRefused, oldAlone, newRefused, newAlone, pairRefused, verdict}
 use Rattle.rules.proofs.Sizes.{namesSize, declSize}
 use Rattle.text.proofs.Numbers.{decimal-length}
 use Rattle.rules.proofs.Texts.{word-length, Short, line-some}
-use Rattle.rules.proofs.Weights.{lineLength, changes-weight}
+use Rattle.rules.proofs.Weights.{lineLength, Light, clauses-light, changes-weight}
 use Rattle.rules.proofs.Held.{Small, Held, image-held}
-use Rattle.rules.proofs.Answer.{Case, old-refused, new-refused, pair-refused, verdict, case}
+use Rattle.refusals.proofs.Refusals.{only-ten}
+use Rattle.rules.proofs.Answer.{decided, plain-fault}
 use Rattle.rules.proofs.Chain.{largest-two}
 use Rattle.rules.proofs.Distance.{view-rises}
 
@@ -105,19 +109,38 @@ report-lines : (cs : List Change) → length (report cs) ≡ total lineLength cs
 unfolding report
 report-lines cs = simp (length-append, length-flatMap)
 
-held-bound : (x y : Schema) → Held x → Held y → length (report (changes sameType (viewOf x) (viewOf y))) < 2 ^ 62
-unfolding viewOf
-held-bound x y h k =
-    omega (
-      arith,
-      report-lines (changes sameType (viewOf x) (viewOf y)),
-      last-length (changes sameType (viewOf x) (viewOf y)),
-      changes-weight sameType (viewOf x) (viewOf y) (held-short x h) (held-short y k) (view-rises x) (view-rises y) (standing-small x h),
-      standing-total x h,
-      standing-total y k,
-      h .segments,
-      k .segments,
-    )
+-- ---- of any verdict
+
+-- a view of what an image holds is no larger than that
+pub record Sized (v : View) : Type 0 where
+  pub namespace : namesSize (v .namespace) ≤ 32768
+  pub rises : Rising nameOf before (v .standing)
+  pub small : All (λ d. declSize d ≤ 32768) (v .standing)
+  pub size : total declSize (v .standing) ≤ 2 ^ 40
+  pub registry : Short (v .registry)
+
+-- what is asked of a policy
+pub record Bounded (p : Policy) : Type 0 where
+  pub view : (x : Schema) → Held x → Sized (p .view x)
+  pub light : Light (p .reading)
+  pub alone : (x : Schema) (k : ℕ) → p .alone x ≡ some k → k < 2 ^ 62
+  pub pair : (x y : Schema) (f : Fault) → firstFault (p .pair) x y ≡ some f → (f .number < 2 ^ 62) × (f .side < 2 ^ 62)
+
+module _ (p : Policy) (b : Bounded p) where
+  held-bound : (x y : Schema) → Held x → Held y → length (report (changes (p .reading) (p .view x) (p .view y))) < 2 ^ 62
+  held-bound x y h k =
+      let v = b .view x h in
+      let w = b .view y k in
+      omega (
+        arith,
+        report-lines (changes (p .reading) (p .view x) (p .view y)),
+        last-length (changes (p .reading) (p .view x) (p .view y)),
+        changes-weight (p .reading) (b .light) (p .view x) (p .view y) (v .registry) (w .registry) (v .rises) (w .rises) (v .small),
+        v .size,
+        w .size,
+        v .namespace,
+        w .namespace,
+      )
 
 -- ---- of two accepted images
 
@@ -125,10 +148,9 @@ held-by : {r : Parsed Schema} (x : Schema) (n : ℕ) → Sure (λ x n. Held x) r
 held-by x n (sure-ok {a = y} h) e = let p : y ≡ x = cc in rw p at h
 held-by x n sure-no e = absurd (let z : _≡_ {A = ℕ} 0 1 = cc in omega arith)
 
-module _ (old new : List ℕ) where
-  pub report-bound : (x y : Schema) (m n : ℕ) → readImage old ≡ ok x m → readImage new ≡ ok y n
-      → length (report (changes sameType (viewOf x) (viewOf y))) < 2 ^ 62
-  report-bound x y m n p q = held-bound x y (held-by x m (image-held old) p) (held-by y n (image-held new) q)
+pub report-bound : (p : Policy) → Bounded p → (old new : List ℕ) (x y : Schema) (m n : ℕ) → readImage old ≡ ok x m → readImage new ≡ ok y n
+    → length (report (changes (p .reading) (p .view x) (p .view y))) < 2 ^ 62
+report-bound p b old new x y m n q r = held-bound p b x y (held-by x m (image-held old) q) (held-by y n (image-held new) r)
 
 -- ---- every selector
 
@@ -161,10 +183,10 @@ below-at b [] n h k = h
 below-at b (v ∷ l) zero h k = k .0
 below-at b (v ∷ l) (suc n) h k = below-at b l n h (k .1)
 
-refused-below : (number side n : ℕ) → number ≤ 12 → side ≤ 3 → select (refused number side) n < 2 ^ 62
+refused-below : (number side n : ℕ) → number < 2 ^ 62 → side < 2 ^ 62 → select (refused number side) n < 2 ^ 62
 unfolding select selected All
 refused-below number side n h k =
-    below-at (2 ^ 62) (number ∷ side ∷ 2 ∷ 1 ∷ []) n (omega arith) (omega arith, (omega arith, (omega arith, (omega arith, tt))))
+    below-at (2 ^ 62) (number ∷ side ∷ 2 ∷ 1 ∷ []) n (omega arith) (h, (k, (omega arith, (omega arith, tt))))
 
 compared-below : (cs : List Change) (n : ℕ) → length (report cs) < 2 ^ 62 → select (compared cs) n < 2 ^ 62
 unfolding select selected bumpOf All
@@ -172,12 +194,36 @@ compared-below cs n h =
     below-at (2 ^ 62) (selected (compared cs)) n (omega arith)
     (omega arith, (omega arith, (omega (arith, largest-two cs), (omega (arith, result-one cs), (h, counts-below (2 ^ 62) kindCount 0 cs (omega (arith, report-lines cs)))))))
 
-pub selector-bound : (old new : List ℕ) (n : ℕ) → verdictOf old new n < 2 ^ 62
-unfolding verdictOf checked
-selector-bound old new n = go (case viewOf sameType old new)
+pub selector-bound : (p : Policy) → Bounded p → (old new : List ℕ) (n : ℕ) → verdictBy p old new n < 2 ^ 62
+unfolding verdictBy
+selector-bound p b old new n = go (decided p old new)
   where
-    go : {o : Outcome} → Case viewOf sameType old new o → select o n < 2 ^ 62
-    go (old-refused l p) = refused-below _ _ n (omega arith) (omega arith)
-    go (new-refused l p q) = refused-below _ _ n (omega arith) (omega arith)
-    go (pair-refused p q e) = refused-below _ _ n (omega arith) (omega arith)
-    go (verdict {x = x} {y = y} {m = m} {n = k} p q e) = compared-below _ n (report-bound old new x y m k p q)
+    go : {o : Outcome} → Decided p old new o → select o n < 2 ^ 62
+    go (oldRefused q) = refused-below _ _ n (omega (arith, only-ten old _ q)) (omega arith)
+    go (oldAlone q e) = refused-below _ _ n (b .alone _ _ e) (omega arith)
+    go (newRefused a q) = refused-below _ _ n (omega (arith, only-ten new _ q)) (omega arith)
+    go (newAlone a q e) = refused-below _ _ n (b .alone _ _ e) (omega arith)
+    go (pairRefused a c e) = refused-below _ _ n (b .pair _ _ _ e .0) (b .pair _ _ _ e .1)
+    go (verdict {x = x} {y = y} a c e) = compared-below _ n (report-bound p b old new x y (a .end) (c .end) (a .read) (c .read))
+
+-- ---- of the verdict of document 01
+
+plain-sized : (x : Schema) → Held x → Sized (viewOf x)
+unfolding viewOf
+plain-sized x h = record {
+  namespace = h .segments;
+  rises = view-rises x;
+  small = standing-small x h;
+  size = omega (arith, standing-total x h);
+  registry = held-short x h;
+}
+
+pub plain-bounded : Bounded plain
+plain-bounded = record {
+  view = plain-sized;
+  light = clauses-light sameType;
+  alone = λ x k e. absurd (Option·none-ne-some k e);
+  pair = λ x y f e.
+      let q = plain-fault x y f e .1 in
+      (omega (arith, ap (λ (g : Fault). g .number) q), omega (arith, ap (λ (g : Fault). g .side) q));
+}

@@ -1,99 +1,56 @@
--- The two calls together. Their contracts say that the verdict call answers `verdictOf old new selector`, and that the report call answers
--- `reportLength` of `reported old new room` and leaves `written` of it, room being the buffer's length. So what is proved of these holds of
--- the calls: the distance rule (Distance), when each refusal is given (Refusals). Here: what a caller who asks for the length first may rest
--- on. Assumes nothing.
-use mathlib.Core.Path.{_≡_, refl, sym, ap, _∙_}
-use mathlib.Core.Bool.{Bool, true, false, cond}
+-- The verdict call and the report call together. Their contracts say that the one answers `verdictBy p old new selector`, and that the other
+-- answers `textLength` of `reportBy p old new room` and leaves `written` of it, p being the policy and room the buffer's length. So what is
+-- proved of these holds of the calls: the distance rule (Distance), when each refusal is given (Refusals). Here: what a caller who asks for
+-- the length first may rest on. Assumes nothing.
+use mathlib.Core.Path.{_≡_, sym, ap, _∙_}
 use mathlib.Core.Logic.{_↔_}
-use mathlib.Core.List.{List, []}
+use mathlib.Core.List.{List}
 use Prim.Native.Nat.{ℕ, _≤_, _<_}
 use native.Mathlib.Omega.{arith}
-use borrow.Author.Tests.{le-leb}
-use lib.Dec.{leb}
 use lib.ListN.{length, take, drop, length-append}
-use lib.Seq.{take-at, drop-at}
 use Rattle.image.specs.Words.{bytes}
-use Rattle.rules.specs.Survivors.{viewOf}
-use Rattle.rules.specs.Types.{sameType}
 use Rattle.rules.specs.Changes.{Change}
 use Rattle.rules.specs.Report.{line, lastLine, report}
-use Rattle.rules.specs.Answer.{bothSides, Outcome, refused, compared, checked, selected, select, verdictOf, fit, reported, reportLength, written, returned, leaves}
-use Rattle.rules.proofs.Answer.{Case, old-refused, new-refused, pair-refused, verdict, case}
+use Rattle.rules.specs.Outcome.{select, textLength, written}
+use Rattle.rules.specs.Answer.{bothSides, Policy, outcome, verdictBy, reportBy, returnedBy, leavesBy}
+use Rattle.rules.specs.Refusals.{Numbered}
+use Rattle.rules.proofs.Outcomes.{textOf, length-selected, fit-enough, fit-some, text-written, rest-written}
+use Rattle.rules.proofs.Answer.{changesOf, compared-of}
 use Rattle.rules.proofs.Refusals.{report-refusals}
-
--- ---- of outcomes
-
-length-selected : (o : Outcome) → reportLength o ≡ select o 4
-unfolding reportLength select selected
-length-selected (refused number side) = refl
-length-selected (compared cs) = refl
-
-fits : (o : Outcome) (room : ℕ) → select o 4 ≤ room → fit room o ≡ o
-unfolding fit select selected
-fits (refused number side) room h = refl
-fits (compared cs) room h = rw (le-leb (length (report cs)) room h)
-
--- the report, empty if refused
-unfoldable text : Outcome → List ℕ
-text (refused number side) = []
-text (compared cs) = report cs
-
-text-written : (o : Outcome) (d : List ℕ) → take (reportLength o) (written o d) ≡ text o
-unfolding reportLength written text
-text-written (refused number side) d = refl
-text-written (compared cs) d = take-at (report cs) (drop (length (report cs)) d) (length (report cs)) refl
-
-rest-written : (o : Outcome) (d : List ℕ) → drop (reportLength o) (written o d) ≡ drop (reportLength o) d
-unfolding reportLength written
-rest-written (refused number side) d = refl
-rest-written (compared cs) d = drop-at (report cs) (drop (length (report cs)) d) (length (report cs)) refl
 
 -- it has a byte, the last one
 report-some : (cs : List Change) → 0 < length (report cs)
 unfolding report lastLine line bytes
 report-some cs = simp length-append (omega arith)
 
-module _ (room : ℕ) where
-  fit-none : (cs : List Change) → reportLength (fit room (compared cs)) ≡ 0 → select (fit room (compared cs)) 0 ≡ 0 → ⊥
-  unfolding fit reportLength select selected
-  fit-none cs = go (leb (length (report cs)) room)
-    where
-      fitted : Bool → Outcome
-      fitted u = cond u (compared cs) (refused 12 bothSides)
+module _ (p : Policy) (numbered : Numbered p) (old new : List ℕ) where
+  verdict-some : select (outcome p old new) 0 ≡ 0 → 0 < textLength (outcome p old new)
+  unfolding textLength
+  verdict-some z = rw (compared-of p numbered old new z) (report-some (changesOf p old new))
 
-      go : (u : Bool) → reportLength (fitted u) ≡ 0 → select (fitted u) 0 ≡ 0 → ⊥
-      go true e z = absurd (omega (arith, report-some cs))
-      go false e z = absurd (omega arith)
-
-  refused-only : {old new : List ℕ} {o : Outcome} → Case viewOf sameType old new o → reportLength (fit room o) ≡ 0 → select (fit room o) 0 ≡ 0 → ⊥
-  unfolding fit select selected
-  refused-only (old-refused l p) e z = absurd (omega arith)
-  refused-only (new-refused l p q) e z = absurd (omega arith)
-  refused-only (pair-refused p q a) e z = absurd (omega arith)
-  refused-only (verdict p q a) e z = fit-none _ e z
-
--- ---- of the calls
-
-module _ (old new : List ℕ) where
   -- selector 4 of the verdict call is how large a buffer the report call needs, and what it then returns
-  pub room-enough : (d : List ℕ) → verdictOf old new 4 ≤ length d → returned old new d ≡ verdictOf old new 4
-  unfolding verdictOf reported
-  room-enough d h = ap reportLength (fits (checked old new) (length d) h) ∙ length-selected (checked old new)
+  pub room-enough : (d : List ℕ) → verdictBy p old new 4 ≤ length d → returnedBy p old new d ≡ verdictBy p old new 4
+  unfolding verdictBy reportBy
+  room-enough d h = ap textLength (fit-enough bothSides (length d) (outcome p old new) h) ∙ length-selected (outcome p old new)
 
   -- the text is the same in every buffer that is large enough
-  pub same-text : (d d′ : List ℕ) → verdictOf old new 4 ≤ length d → verdictOf old new 4 ≤ length d′
-      → take (returned old new d) (leaves old new d) ≡ take (returned old new d′) (leaves old new d′)
-  unfolding verdictOf reported
+  pub same-text : (d d′ : List ℕ) → verdictBy p old new 4 ≤ length d → verdictBy p old new 4 ≤ length d′
+      → take (returnedBy p old new d) (leavesBy p old new d) ≡ take (returnedBy p old new d′) (leavesBy p old new d′)
+  unfolding verdictBy reportBy
   same-text d d′ h h′ = text-here d h ∙ sym (text-here d′ h′)
     where
-      text-here : (d : List ℕ) → select (checked old new) 4 ≤ length d → take (returned old new d) (leaves old new d) ≡ text (checked old new)
-      text-here d h = rw (fits (checked old new) (length d) h) (text-written (checked old new) d)
+      text-here : (d : List ℕ) → select (outcome p old new) 4 ≤ length d
+          → take (returnedBy p old new d) (leavesBy p old new d) ≡ textOf (outcome p old new)
+      text-here d h = rw (fit-enough bothSides (length d) (outcome p old new) h) (text-written (outcome p old new) d)
 
   -- "Bytes past the length stay", whatever is returned
-  pub rest-stays : (d : List ℕ) → drop (returned old new d) (leaves old new d) ≡ drop (returned old new d) d
-  rest-stays d = rest-written (reported old new (length d)) d
+  pub rest-stays : (d : List ℕ) → drop (returnedBy p old new d) (leavesBy p old new d) ≡ drop (returnedBy p old new d) d
+  rest-stays d = rest-written (reportBy p old new (length d)) d
 
   -- it returns 0 for a refusal and for nothing else
-  pub none-refused : (d : List ℕ) → (returned old new d ≡ 0) ↔ (select (reported old new (length d)) 0 ≡ 0 → ⊥)
-  unfolding reported checked
-  none-refused d = (refused-only (length d) (case viewOf sameType old new), report-refusals old new (length d) .nothing)
+  pub none-refused : (d : List ℕ) → (returnedBy p old new d ≡ 0) ↔ (select (reportBy p old new (length d)) 0 ≡ 0 → ⊥)
+  unfolding reportBy
+  none-refused d = (
+    λ e z. absurd (omega (arith, fit-some bothSides (length d) (outcome p old new) verdict-some z)),
+    report-refusals p numbered old new (length d) .nothing,
+  )

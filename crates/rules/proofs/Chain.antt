@@ -1,5 +1,5 @@
 -- The chain rule of three views: what the clauses report from the first to the third is at most the larger of what they report to and from
--- the second. Over any views whose standing declarations rise by name, and any sound reading of types. Assumes nothing.
+-- the second. Over any views whose standing declarations rise by name, and any lawful reading. Assumes nothing.
 use mathlib.Core.Path.{_≡_, refl, ap, subst}
 use mathlib.Core.Bool.{Bool, true, false, cond, not}
 use mathlib.Core.Option.{Option, some}
@@ -20,15 +20,12 @@ use Rattle.maps.proofs.Levels.{Chained, chained, chained-small, chained-append,
 use Rattle.image.specs.Schema.{Name, Marks, Ty, Field, Variant, Decl}
 use Rattle.rules.specs.Equal.{Sound}
 use Rattle.rules.specs.Survivors.{Registry, nameOf, ordinalOf, fieldMap, variantOrdinal, variantMap, View}
-use Rattle.rules.specs.Types.{Reading, resolve}
+use Rattle.rules.specs.Types.{resolve}
 use Rattle.rules.specs.Changes.{Bump, patch, minor, major, level, Change, only}
-use Rattle.rules.specs.Clauses.{compareNamespaces, Reader, reader, compareTypes, fieldText, compareFieldNames, compareEncodings, compareDeprecated, compareFields, fieldRules, compareFieldSets, compareMessages, variantGone, variantCame, enumBump, enumRules, compareNonExhaustive, compareEnums, flagsRules, compareFlags, unionRules, compareUnions, compareNewtypes, compareKind, kindChanged, compareDecls, declRules, changes}
+use Rattle.rules.specs.Clauses.{compareNamespaces, Reading, Context, context, compareTypes, fieldText, compareFieldNames, compareEncodings, compareDeprecated, compareFields, fieldRules, compareFieldSets, compareMessages, variantGone, variantCame, enumBump, enumRules, compareNonExhaustive, compareEnums, flagsRules, compareFlags, unionRules, compareUnions, compareNewtypes, compareKind, kindChanged, compareAlike, compareDecls, declRules, changes}
 use Rattle.rules.proofs.Equal.{same-trans, pairs, numbers, marks, options, nameLists}
 use Rattle.rules.proofs.Types.{encodings}
-
--- the level of a change
-abbrev pub levelOf : Change → ℕ
-levelOf c = level (c .bump)
+use Rattle.rules.proofs.Readings.{levelOf, Lawful}
 
 -- nothing is worse than Major
 pub bump-bound : (b : Bump) → level b ≤ 2
@@ -151,23 +148,23 @@ enums-chained b d₁ d₂ d₃ x y z =
     (λ f g. omega (arith, openness-slack d₂ (y .marks) (z .marks))) (λ e f g u v. chained-small (omega arith)))
     (x .variants) (y .variants) (z .variants))
 
--- ---- the clauses, over any sound reading of types
+-- ---- the clauses, over any lawful reading
 
-module _ {same : Reading} {odd : Ty → Bool} (sound : Sound same odd) (P Q R : Registry) where
-  -- the readers to the second view, from it, and past it
-  abbrev to : Reader
-  to = reader same P Q
+module _ {r : Reading} {odd : Ty → Bool} (lawful : Lawful r odd) (P Q R : Registry) where
+  -- to the second view, from it, and past it
+  abbrev to : Context
+  to = context r P Q
 
-  abbrev from : Reader
-  from = reader same Q R
+  abbrev from : Context
+  from = context r Q R
 
-  abbrev past : Reader
-  past = reader same P R
+  abbrev past : Context
+  past = context r P R
 
   types-chained : (b : ℕ) (d₁ d₂ d₃ : Name) (n₁ n₂ n₃ : Option Name) (w₁ w₂ w₃ : List ℕ) (t u v : Ty)
       → Chained levelOf b (compareTypes to d₁ n₁ w₁ t u) (compareTypes from d₂ n₂ w₂ u v) (compareTypes past d₃ n₃ w₃ t v)
   unfolding compareTypes
-  types-chained b d₁ d₂ d₃ n₁ n₂ n₃ w₁ w₂ w₃ t u v = test-chained sound b (resolve P t) (resolve Q u) (resolve R v) _ _ _ refl refl
+  types-chained b d₁ d₂ d₃ n₁ n₂ n₃ w₁ w₂ w₃ t u v = test-chained (lawful .types) b (resolve P t) (resolve Q u) (resolve R v) _ _ _ refl refl
 
   fields-chained : (b : ℕ) (d₁ d₂ d₃ : Name) (f g h : Field)
       → Chained levelOf b (compareFields to d₁ f g) (compareFields from d₂ g h) (compareFields past d₃ f h)
@@ -202,7 +199,7 @@ module _ {same : Reading} {odd : Ty → Bool} (sound : Sound same odd) (P Q R : 
     unions-chained =
         variants-chained b (unionRules to (x .name)) (unionRules from (y .name)) (unionRules past (x .name))
         (links variantOrdinal b _ _ _ (λ e. omega arith) (λ f. omega arith) (λ g. omega arith) (λ f g. omega arith)
-        (λ e f g u v. sets-chained b _ _ _ (e .fields) (f .fields) (g .fields)))
+        (λ e f g u v. chained-append (sets-chained b _ _ _ (e .fields) (f .fields) (g .fields)) (lawful .lastIn .chained b _ _ _ e f g tt tt)))
         (x .variants) (y .variants) (z .variants)
 
     newtypes-chained : Chained levelOf b (compareNewtypes to (x .name) x y) (compareNewtypes from (y .name) y z)
@@ -219,32 +216,39 @@ module _ {same : Reading} {odd : Ty → Bool} (sound : Sound same odd) (P Q R : 
     kinds-chained (suc (suc (suc (suc zero)))) = newtypes-chained
     kinds-chained (suc (suc (suc (suc (suc k))))) = chained-small (omega arith)
 
+    alike-chained : x .kind ≡ y .kind → y .kind ≡ z .kind → Chained levelOf b (compareAlike to x y) (compareAlike from y z) (compareAlike past x z)
+    unfolding compareAlike
+    alike-chained p q =
+        chained-append (lawful .first .chained b (x .name) (y .name) (x .name) x y z p q)
+        (chained-append
+        (subst (λ k. Chained levelOf b (compareKind (x .kind) to x y) (compareKind k from y z) (compareKind (x .kind) past x z)) p
+        (kinds-chained (x .kind)))
+        (lawful .last .chained b (x .name) (y .name) (x .name) x y z p q))
+
     decls-chained : Chained levelOf b (compareDecls to x y) (compareDecls from y z) (compareDecls past x z)
     unfolding compareDecls kindChanged largest level
     decls-chained = go (eqb (x .kind) (y .kind)) (eqb (y .kind) (z .kind)) refl refl
       where
         go : (p q : Bool) → eqb (x .kind) (y .kind) ≡ p → eqb (y .kind) (z .kind) ≡ q
-            → Chained levelOf b (cond p (compareKind (x .kind) to x y) (kindChanged x y)) (cond q (compareKind (y .kind) from y z) (kindChanged y z))
+            → Chained levelOf b (cond p (compareAlike to x y) (kindChanged x y)) (cond q (compareAlike from y z) (kindChanged y z))
             (compareDecls past x z)
         go false q u v = first-major (omega arith)
         go true false u v = second-major (omega arith)
         go true true u v =
             rw (same-trans numbers (x .kind) (y .kind) (z .kind) u v)
-            (subst (λ k. Chained levelOf b (compareKind (x .kind) to x y) (compareKind k from y z) (compareKind (x .kind) past x z))
-            (eqb-true (x .kind) (y .kind) u)
-            (kinds-chained (x .kind)))
+            (alike-chained (eqb-true (x .kind) (y .kind) u) (eqb-true (y .kind) (z .kind) v))
 
 -- ---- all clauses
 
-pub changes-chained : {same : Reading} {odd : Ty → Bool} → Sound same odd → (x y z : View) → Rising nameOf before (x .standing)
+pub changes-chained : {r : Reading} {odd : Ty → Bool} → Lawful r odd → (x y z : View) → Rising nameOf before (x .standing)
     → Rising nameOf before (z .standing)
-    → Chained levelOf 0 (changes same x y) (changes same y z) (changes same x z)
+    → Chained levelOf 0 (changes r x y) (changes r y z) (changes r x z)
 unfolding changes declRules largest level
-changes-chained {same = same} sound x y z r s =
+changes-chained {r = r} lawful x y z p q =
     chained-append (namespaces-chained 0 (x .namespace) (y .namespace) (z .namespace))
     (chain-links nameOf byName levelOf 0
-    (declRules (reader same (x .registry) (y .registry))) (declRules (reader same (y .registry) (z .registry)))
-    (declRules (reader same (x .registry) (z .registry)))
+    (declRules (context r (x .registry) (y .registry))) (declRules (context r (y .registry) (z .registry)))
+    (declRules (context r (x .registry) (z .registry)))
     (links nameOf 0 _ _ _ (λ e. omega arith) (λ f. omega arith) (λ g. omega arith) (λ f g. omega arith)
-    (λ d e f u v. decls-chained sound (x .registry) (y .registry) (z .registry) 0 d e f))
-    (x .standing) (y .standing) (z .standing) r s)
+    (λ d e f u v. decls-chained lawful (x .registry) (y .registry) (z .registry) 0 d e f))
+    (x .standing) (y .standing) (z .standing) p q)

@@ -1,5 +1,6 @@
 -- What is unfolded where an image is read, and where a report is computed: for what holds by computation from the definitions alone. A new
 -- definition on the way to a report is added here. Assumes nothing.
+use mathlib.Core.Option.{orElse}
 use mathlib.Core.List.{List, flatMap}
 use Prim.Native.Nat.{ℕ}
 use Rattle.maps.specs.Lists.{pass, largest, total, count}
@@ -20,10 +21,11 @@ use Rattle.rules.specs.Types.{nameIn, resolveLabel, resolve, vector, sam
 use Rattle.text.specs.Decimal.{digits, decimal}
 use Rattle.rules.specs.Text.{joined, word, boolWord, primitiveWord, semanticWord, showName, showLeaf, opening, showSize, showType, deltasAround, showEncoding}
 use Rattle.rules.specs.Changes.{level, only, quoted, numbered, fromTo}
-use Rattle.rules.specs.Clauses.{showNamespace, compareNamespaces, compareTypes, fieldText, compareFieldNames, sameEncoding, compareEncodings, compareDeprecated, compareFields, fieldRules, compareFieldSets, compareMessages, variantText, variantGone, variantCame, enumBump, enumRules, compareNonExhaustive, compareEnums, bitText, flagsRules, compareFlags, variantDecl, unionRules, compareUnions, compareNewtypes, compareKind, kindChanged, compareDecls, declText, declRules, changes}
+use Rattle.rules.specs.Clauses.{showNamespace, compareNamespaces, compareTypes, fieldText, compareFieldNames, sameEncoding, compareEncodings, compareDeprecated, compareFields, fieldRules, compareFieldSets, compareMessages, variantText, variantGone, variantCame, enumBump, enumRules, compareNonExhaustive, compareEnums, bitText, flagsRules, compareFlags, variantDecl, unionRules, compareUnions, compareNewtypes, compareKind, kindChanged, compareAlike, compareDecls, declText, declRules, changes}
 use Rattle.rules.specs.Verdict.{bumpOf, resultOf, countOf, alias, isAlias, any, aliasPair}
 use Rattle.rules.specs.Report.{changeWord, bumpWord, resultWord, fieldPart, line, changeLine, lastLine, report}
-use Rattle.rules.specs.Answer.{comparePair, acceptNew, acceptOld, outcome, checked, counts, selected, select, verdictOf, written}
+use Rattle.rules.specs.Outcome.{selected, select, textLength, written}
+use Rattle.rules.specs.Answer.{counts, firstFault, judged, onSide, comparePair, acceptNew, acceptOld, outcome, verdictBy, aliasCheck}
 use Rattle.rules.specs.Pinned.{digit, hex, image, lines, told}
 
 unfoldable pub reads : List ℕ → Parsed Schema
@@ -31,5 +33,5 @@ unfolding flatMap digit hex image bind pick shift within part byteAt codeAt litt
 reads s = readImage s
 
 unfoldable pub reports : List ℕ → List ℕ → List ℕ
-unfolding reads pass largest total count same before orderOf insert survivors lookup unmatched matched between compare bytes kindWord sameList sameOption sameName sameNames declOf resolved listed declarations fieldMap variantMap viewOf nameIn resolveLabel resolve vector sameLabel equalLabel sameType digits decimal joined word boolWord primitiveWord semanticWord showName showLeaf opening showSize showType deltasAround showEncoding level only quoted numbered fromTo showNamespace compareNamespaces compareTypes fieldText compareFieldNames sameEncoding compareEncodings compareDeprecated compareFields fieldRules compareFieldSets compareMessages variantText variantGone variantCame enumBump enumRules compareNonExhaustive compareEnums bitText flagsRules compareFlags variantDecl unionRules compareUnions compareNewtypes compareKind kindChanged compareDecls declText declRules changes bumpOf resultOf countOf alias isAlias any aliasPair changeWord bumpWord resultWord fieldPart line changeLine lastLine report comparePair acceptNew acceptOld outcome checked counts selected select verdictOf written lines told
+unfolding reads pass largest total count same before orderOf insert survivors lookup unmatched matched between compare bytes kindWord sameList sameOption sameName sameNames declOf resolved listed declarations fieldMap variantMap viewOf nameIn resolveLabel resolve vector sameLabel equalLabel sameType digits decimal joined word boolWord primitiveWord semanticWord showName showLeaf opening showSize showType deltasAround showEncoding level only quoted numbered fromTo showNamespace compareNamespaces compareTypes fieldText compareFieldNames sameEncoding compareEncodings compareDeprecated compareFields fieldRules compareFieldSets compareMessages variantText variantGone variantCame enumBump enumRules compareNonExhaustive compareEnums bitText flagsRules compareFlags variantDecl unionRules compareUnions compareNewtypes compareKind kindChanged compareAlike compareDecls declText declRules changes bumpOf resultOf countOf alias isAlias any aliasPair changeWord bumpWord resultWord fieldPart line changeLine lastLine report selected select textLength written counts firstFault judged onSide orElse comparePair acceptNew acceptOld outcome verdictBy aliasCheck lines told
 reports old new = told old new

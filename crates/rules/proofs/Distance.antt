@@ -1,4 +1,4 @@
--- The distance rule, demand 3, over byte lists: of any verdict call that compares rising views by a sound reading of types, and so of the
+-- The distance rule, demand 3, over byte lists: of any policy that compares rising views by a lawful reading, and so of the
 -- verdict call of document 01. Assumes nothing.
 use mathlib.Core.Path.{_≡_, refl, sym, ap, _∙_}
 use mathlib.Core.Bool.{Bool, true, cond, not, _&&_}
@@ -18,73 +18,73 @@ use Rattle.image.specs.Schema.{Schema, Ty}
 use Rattle.image.specs.Parse.{Parsed, ok, no}
 use Rattle.image.specs.Image.{readImage}
 use Rattle.maps.proofs.Tests.{both}
-use Rattle.rules.specs.Equal.{Sound}
 use Rattle.rules.specs.Survivors.{nameOf, listed, declarations, View, viewOf}
-use Rattle.rules.specs.Types.{Reading, resolve, holdsVector}
+use Rattle.rules.specs.Types.{resolve, holdsVector}
 use Rattle.rules.specs.Changes.{kindCount, FieldAdded, FieldRemoved, FieldDeprecated, VariantAdded, VariantRemoved, DeclarationAdded, DeclarationRemoved, FlagsBitAdded, FlagsBitRemoved}
 use Rattle.rules.specs.Clauses.{comparedTypes}
 use Rattle.rules.specs.Verdict.{bumpOf, countOf, any}
-use Rattle.rules.specs.Answer.{outcome, checked, selected, select, verdictOf}
-use Rattle.rules.specs.Distance.{Image, vectorCompared, last, otherKinds, Verdict, distance, counted, Steps, largestStep, Swapped, DistanceRule, holdsVectors}
+use Rattle.rules.specs.Outcome.{selected, select}
+use Rattle.rules.specs.Answer.{Policy, outcome, verdictBy, plain, verdictOf}
+use Rattle.rules.specs.Refusals.{Numbered}
+use Rattle.rules.specs.Distance.{Image, vectorCompared, last, otherKinds, Verdict, distance, countBetween, Steps, largestStep, Swapped, DistanceRule, holdsVectors}
 use Rattle.rules.proofs.Types.{types, holds-resolved}
 use Rattle.rules.proofs.Chain.{changes-chained}
 use Rattle.rules.proofs.Self.{changes-self}
-use Rattle.rules.proofs.Swap.{mirror, changes-swap}
-use Rattle.rules.proofs.Answer.{schemaOf, changesOf, compared-of, count-selected}
+use Rattle.rules.proofs.Mirror.{exchange, mirror}
+use Rattle.rules.proofs.Readings.{Lawful, clauses-lawful}
+use Rattle.rules.proofs.Swap.{changes-swap}
+use Rattle.rules.proofs.Answer.{schemaOf, changesOf, compared-of, count-selected, plain-numbered}
 
 -- whether the count of one kind is that of another the other way
 unfoldable turned : ℕ → ℕ → Bool
 turned j k = ltb j kindCount && (ltb k kindCount && (not (eqb FieldDeprecated j) && eqb (mirror j) k))
 
-module _ (view : Schema → View) (rise : (s : Schema) → Rising nameOf before (view s .standing)) {same : Reading} {odd : Ty → Bool}
-    (sound : Sound same odd) where
-  -- the verdict call, and what is compared of an image
-  abbrev call : Image → Image → ℕ → ℕ
-  call a b selector = select (outcome view same a b) selector
-
+module _ (p : Policy) (numbered : Numbered p) (rise : (s : Schema) → Rising nameOf before (p .view s .standing)) {odd : Ty → Bool}
+    (lawful : Lawful (p .reading) odd) where
+  -- what is compared of an image
   abbrev viewIn : Image → View
-  viewIn a = view (schemaOf (readImage a))
+  viewIn a = p .view (schemaOf (readImage a))
 
   -- whether a compared type is odd
   abbrev oddIn : Image → Bool
   oddIn a = any (λ t. odd (resolve (viewIn a .registry) t)) (comparedTypes (viewIn a))
 
-  distance-is : (a b : Image) → Verdict call a b → distance call a b ≡ bumpOf (changesOf view same a b)
-  unfolding Verdict distance select selected
-  distance-is a b v = ap (λ o. select o 2) (compared-of view same a b v)
+  distance-is : (a b : Image) → Verdict (verdictBy p) a b → distance (verdictBy p) a b ≡ bumpOf (changesOf p a b)
+  unfolding Verdict distance verdictBy select selected
+  distance-is a b v = ap (λ o. select o 2) (compared-of p numbered a b v)
 
   -- ---- chain
 
-  triangle : (a b c : Image) → bumpOf (changesOf view same a c) ≤ max (bumpOf (changesOf view same a b)) (bumpOf (changesOf view same b c))
+  triangle : (a b c : Image) → bumpOf (changesOf p a c) ≤ max (bumpOf (changesOf p a b)) (bumpOf (changesOf p b c))
   unfolding changesOf bumpOf
-  triangle a b c = omega (arith, changes-chained sound (viewIn a) (viewIn b) (viewIn c) (rise _) (rise _) .bound)
+  triangle a b c = omega (arith, changes-chained lawful (viewIn a) (viewIn b) (viewIn c) (rise _) (rise _) .bound)
 
-  reach : (a b : Image) (rest : List Image) → Steps call a (b ∷ rest)
-      → bumpOf (changesOf view same a (last b rest)) ≤ largestStep call a (b ∷ rest)
+  reach : (a b : Image) (rest : List Image) → Steps (verdictBy p) a (b ∷ rest)
+      → bumpOf (changesOf p a (last b rest)) ≤ largestStep (verdictBy p) a (b ∷ rest)
   unfolding Steps last largestStep
   reach a b [] s = omega (arith, distance-is a b (s .0))
   reach a b (c ∷ rest) s = omega (arith, distance-is a b (s .0), triangle a b (last c rest), reach b c rest (s .1))
 
   -- ---- swap
 
-  counted-is : (kind : ℕ) → kind < kindCount → (a b : Image) → Verdict call a b
-      → counted call kind a b ≡ countOf kind (changesOf view same a b)
-  unfolding Verdict counted
-  counted-is kind h a b v = ap (λ o. select o (5 + kind)) (compared-of view same a b v) ∙ count-selected kind h (changesOf view same a b)
+  counted-is : (kind : ℕ) → kind < kindCount → (a b : Image) → Verdict (verdictBy p) a b
+      → countBetween (verdictBy p) kind a b ≡ countOf kind (changesOf p a b)
+  unfolding Verdict countBetween verdictBy
+  counted-is kind h a b v = ap (λ o. select o (5 + kind)) (compared-of p numbered a b v) ∙ count-selected kind h (changesOf p a b)
 
-  module _ (a b : Image) (v : Verdict call a b) (w : Verdict call b a) where
-    count-swap : (j k : ℕ) → turned j k ≡ true → counted call j a b ≡ counted call k b a
+  module _ (a b : Image) (v : Verdict (verdictBy p) a b) (w : Verdict (verdictBy p) b a) where
+    count-swap : (j k : ℕ) → turned j k ≡ true → countBetween (verdictBy p) j a b ≡ countBetween (verdictBy p) k b a
     unfolding turned changesOf
     count-swap j k e =
-        let p = both (ltb j kindCount) _ e in
-        let q = both (ltb k kindCount) _ (p .1) in
+        let h = both (ltb j kindCount) _ e in
+        let q = both (ltb k kindCount) _ (h .1) in
         let r = both (not (eqb FieldDeprecated j)) _ (q .1) in
-        counted-is j (ltb-true j kindCount (p .0)) a b v
-        ∙ (changes-swap sound j (not-true (eqb FieldDeprecated j) (r .0)) (viewIn a) (viewIn b) (rise _) (rise _)
-        ∙ (ap (λ i. countOf i (changesOf view same b a)) (eqb-true (mirror j) k (r .1))
+        counted-is j (ltb-true j kindCount (h .0)) a b v
+        ∙ (changes-swap lawful j (not-true (eqb FieldDeprecated j) (r .0)) (viewIn a) (viewIn b) (rise _) (rise _)
+        ∙ (ap (λ i. countOf i (changesOf p b a)) (eqb-true (mirror j) k (r .1))
         ∙ sym (counted-is k (ltb-true k kindCount (q .0)) b a w)))
 
-    swapped : Swapped call a b
+    swapped : Swapped (verdictBy p) a b
     unfolding turned mirror All
     swapped = record {
       declarations = count-swap DeclarationRemoved DeclarationAdded refl;
@@ -94,11 +94,11 @@ module _ (view : Schema → View) (rise : (s : Schema) → Rising nameOf before 
       others = all-map (λ kind. count-swap kind kind) otherKinds (refl, (refl, (refl, (refl, (refl, (refl, (refl, (refl, (refl, tt)))))))));
     }
 
-  pub distance-rule-of : DistanceRule call oddIn
+  pub distance-rule-of : DistanceRule (verdictBy p) oddIn
   unfolding distance bumpOf changesOf
   distance-rule-of = record {
     chain = λ first second rest s v. omega (arith, distance-is first (last second rest) v, reach first second rest s);
-    self = λ a v. distance-is a a v ∙ changes-self sound (viewIn a) (rise _);
+    self = λ a v. distance-is a a v ∙ changes-self lawful (viewIn a) (rise _);
     swap = swapped;
   }
 
@@ -115,7 +115,7 @@ any-same p q h [] = refl
 any-same p q h (a ∷ l) = rw (h a, any-same p q h l)
 
 -- an odd type is one that holds a vector, quaternion or matrix node
-odd-vectors : (a : Image) → oddIn viewOf view-rises types a ≡ holdsVectors a
+odd-vectors : (a : Image) → oddIn plain plain-numbered view-rises (clauses-lawful types) a ≡ holdsVectors a
 unfolding holdsVectors vectorCompared schemaOf viewOf declarations listed survivors pass comparedTypes flatMap any
 odd-vectors a = go (readImage a)
   where
@@ -125,12 +125,11 @@ odd-vectors a = go (readImage a)
     go (no k) = refl
 
 pub distance-rule : DistanceRule verdictOf holdsVectors
-unfolding verdictOf checked
 distance-rule = record {
   chain = rule .chain;
   self = λ a v. rule .self a v ∙ ap (λ u. cond u 2 0) (odd-vectors a);
   swap = rule .swap;
 }
   where
-    rule : DistanceRule verdictOf (oddIn viewOf view-rises types)
-    rule = distance-rule-of viewOf view-rises types
+    rule : DistanceRule verdictOf (oddIn plain plain-numbered view-rises (clauses-lawful types))
+    rule = distance-rule-of plain plain-numbered view-rises (clauses-lawful types)

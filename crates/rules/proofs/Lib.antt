@@ -5,9 +5,12 @@
 -- Computed: what is unfolded to compute. Edges, Pinned: what is computed from the definitions alone.
 pub mod Equal
 pub mod Types
+pub mod Mirror
+pub mod Readings
 pub mod Chain
 pub mod Self
 pub mod Swap
+pub mod Outcomes
 pub mod Answer
 pub mod Distance
 pub mod Refusals

@@ -1,4 +1,5 @@
--- "The three `..OrdinalChanged` counts are 0.": the clauses report no such change, whatever they compare. Assumes nothing.
+-- "The three `..OrdinalChanged` counts are 0.": the clauses report no such change, whatever they compare, and so does no verdict
+-- that reports none besides. Assumes nothing.
 use mathlib.Core.Path.{_≡_, refl, _∙_}
 use mathlib.Core.Bool.{Bool, true, false, cond, _||_}
 use mathlib.Core.Option.{Option, none, some}
@@ -13,15 +14,17 @@ use Rattle.maps.specs.Orders.{before}
 use Rattle.maps.specs.Keyed.{lookup}
 use Rattle.maps.specs.Compare.{Rules, unmatched, matched, between, compare}
 use Rattle.image.specs.Schema.{Name, Marks, Ty, Field, Variant, Decl}
-use Rattle.rules.specs.Survivors.{nameOf, ordinalOf, fieldMap, variantOrdinal, variantMap, View, viewOf}
-use Rattle.rules.specs.Types.{Reading, sameType}
+use Rattle.rules.specs.Survivors.{nameOf, ordinalOf, fieldMap, variantOrdinal, variantMap, View}
+use Rattle.rules.specs.Types.{sameType}
 use Rattle.rules.specs.Changes.{Bump, Change, only, kindCount, FieldOrdinalChanged, VariantOrdinalChanged, FlagsBitOrdinalChanged}
-use Rattle.rules.specs.Clauses.{compareNamespaces, Reader, reader, compareTypes, compareFieldNames, compareEncodings, compareDeprecated, compareFields, fieldRules, compareFieldSets, compareMessages, variantGone, variantCame, enumRules, compareNonExhaustive, compareEnums, flagsRules, compareFlags, unionRules, compareUnions, compareNewtypes, compareKind, kindChanged, compareDecls, declRules, changes}
+use Rattle.rules.specs.Clauses.{compareNamespaces, Reading, clausesBy, Context, context, compareTypes, compareFieldNames, compareEncodings, compareDeprecated, compareFields, fieldRules, compareFieldSets, compareMessages, variantGone, variantCame, enumRules, compareNonExhaustive, compareEnums, flagsRules, compareFlags, unionRules, compareUnions, compareNewtypes, compareKind, kindChanged, compareAlike, compareDecls, declRules, changes}
 use Rattle.rules.specs.Verdict.{countOf}
-use Rattle.rules.specs.Answer.{Outcome, checked, select, verdictOf}
-use Rattle.rules.specs.Distance.{counted}
-use Rattle.rules.proofs.Answer.{Case, old-refused, new-refused, pair-refused, verdict, case, count-selected}
-use Rattle.rules.proofs.Refusals.{refusal-is}
+use Rattle.rules.specs.Outcome.{Outcome, select}
+use Rattle.rules.specs.Answer.{Policy, verdictBy, plain, verdictOf}
+use Rattle.rules.specs.Refusals.{Decided, oldRefused, oldAlone, newRefused, newAlone, pairRefused, verdict}
+use Rattle.rules.specs.Distance.{countBetween}
+use Rattle.rules.proofs.Outcomes.{refusal-is}
+use Rattle.rules.proofs.Answer.{decided, count-selected}
 
 -- ---- what all reported changes have
 
@@ -58,10 +61,10 @@ module _ {C : Type 0} (P : C → Type 0) where
 -- ---- the clauses
 
 -- the three kinds
-unfoldable ordinalChanged : ℕ → Bool
+unfoldable pub ordinalChanged : ℕ → Bool
 ordinalChanged kind = eqb kind FieldOrdinalChanged || (eqb kind VariantOrdinalChanged || eqb kind FlagsBitOrdinalChanged)
 
-abbrev Other : Change → Type 0
+abbrev pub Other : Change → Type 0
 Other c = ordinalChanged (c .kind) ≡ false
 
 only-other : (test : Bool) (c : Change) → Other c → All Other (only test c)
@@ -81,18 +84,18 @@ deprecated-other : (d : Name) (field : Option Name) (target : List ℕ) (m n : M
 unfolding compareDeprecated ordinalChanged
 deprecated-other d field target m n = only-other _ _ refl
 
-types-other : (r : Reader) (d : Name) (field : Option Name) (what : List ℕ) (t u : Ty) → All Other (compareTypes r d field what t u)
+types-other : (r : Context) (d : Name) (field : Option Name) (what : List ℕ) (t u : Ty) → All Other (compareTypes r d field what t u)
 unfolding compareTypes ordinalChanged
 types-other r d field what t u = only-other _ _ refl
 
-fields-other : (r : Reader) (d : Name) (f g : Field) → All Other (compareFields r d f g)
+fields-other : (r : Context) (d : Name) (f g : Field) → All Other (compareFields r d f g)
 unfolding compareFields compareFieldNames compareEncodings ordinalChanged
 fields-other r d f g =
     all-append Other _ _ (only-other _ _ refl)
     (all-append Other _ _ (types-other r d _ _ (f .type) (g .type))
     (all-append Other _ _ (only-other _ _ refl) (deprecated-other d _ _ (f .marks) (g .marks))))
 
-sets-other : (r : Reader) (d : Name) (m n : List Field) → All Other (compareFieldSets r d m n)
+sets-other : (r : Context) (d : Name) (m n : List Field) → All Other (compareFieldSets r d m n)
 unfolding compareFieldSets fieldRules ordinalChanged
 sets-other r d m n =
     all-compare Other ordinalOf ltb (fieldRules r d) (λ f. single-other _ refl) (λ f. single-other _ refl) (fields-other r d) (fieldMap m)
@@ -111,37 +114,47 @@ came-other : (b : Bump) (d : Name) (v : Variant) → All Other (variantCame b d 
 unfolding variantCame ordinalChanged
 came-other b d v = single-other _ refl
 
-kinds-other : (k : ℕ) (r : Reader) (x y : Decl) → All Other (compareKind k r x y)
-unfolding compareKind compareMessages compareEnums enumRules compareNonExhaustive compareFlags flagsRules compareUnions unionRules compareNewtypes ordinalChanged
-kinds-other zero r x y =
-    all-append Other _ _ (sets-other r (x .name) (x .fields) (y .fields)) (deprecated-other (x .name) _ _ (x .marks) (y .marks))
-kinds-other (suc zero) r x y =
-    all-append Other _ _ (only-other _ _ refl)
-    (variants-other (enumRules (x .name) (y .marks)) (gone-other (x .name)) (came-other _ (x .name)) (λ v w. nothing-other) (x .variants)
-    (y .variants))
-kinds-other (suc (suc zero)) r x y =
-    variants-other (flagsRules (x .name)) (λ v. single-other _ refl) (λ v. single-other _ refl) (λ v w. nothing-other) (x .variants)
-    (y .variants)
-kinds-other (suc (suc (suc zero))) r x y =
-    variants-other (unionRules r (x .name)) (gone-other (x .name)) (came-other _ (x .name)) (λ v w. sets-other r _ (v .fields) (w .fields))
-    (x .variants) (y .variants)
-kinds-other (suc (suc (suc (suc zero)))) r x y = types-other r (x .name) none _ (x .inner) (y .inner)
-kinds-other (suc (suc (suc (suc (suc k))))) r x y = nothing-other
+-- no such change is reported besides
+pub record Ordinary (r : Reading) : Type 0 where
+  pub first : (x y : Decl) → All Other (r .first x y)
+  pub last : (x y : Decl) → All Other (r .last x y)
+  pub lastIn : (d : Name) (v w : Variant) → All Other (r .lastIn d v w)
 
-decls-other : (r : Reader) (x y : Decl) → All Other (compareDecls r x y)
-unfolding compareDecls kindChanged ordinalChanged
-decls-other r x y = go (eqb (x .kind) (y .kind))
-  where
-    go : (u : Bool) → All Other (cond u (compareKind (x .kind) r x y) (kindChanged x y))
-    go true = kinds-other (x .kind) r x y
-    go false = single-other _ refl
+pub clauses-ordinary : (same : Ty → Ty → Bool) → Ordinary (clausesBy same)
+clauses-ordinary same = record { first = λ x y. nothing-other; last = λ x y. nothing-other; lastIn = λ d v w. nothing-other }
 
-changes-other : (same : Reading) (x y : View) → All Other (changes same x y)
+module _ (r : Context) (o : Ordinary (r .reading)) where
+  kinds-other : (k : ℕ) (x y : Decl) → All Other (compareKind k r x y)
+  unfolding compareKind compareMessages compareEnums enumRules compareNonExhaustive compareFlags flagsRules compareUnions unionRules compareNewtypes ordinalChanged
+  kinds-other zero x y =
+      all-append Other _ _ (sets-other r (x .name) (x .fields) (y .fields)) (deprecated-other (x .name) _ _ (x .marks) (y .marks))
+  kinds-other (suc zero) x y =
+      all-append Other _ _ (only-other _ _ refl)
+      (variants-other (enumRules (x .name) (y .marks)) (gone-other (x .name)) (came-other _ (x .name)) (λ v w. nothing-other) (x .variants)
+      (y .variants))
+  kinds-other (suc (suc zero)) x y =
+      variants-other (flagsRules (x .name)) (λ v. single-other _ refl) (λ v. single-other _ refl) (λ v w. nothing-other) (x .variants)
+      (y .variants)
+  kinds-other (suc (suc (suc zero))) x y =
+      variants-other (unionRules r (x .name)) (gone-other (x .name)) (came-other _ (x .name)) (λ v w. all-append Other _ _ (sets-other r _ (v .fields) (w .fields)) (o .lastIn _ v w))
+      (x .variants) (y .variants)
+  kinds-other (suc (suc (suc (suc zero)))) x y = types-other r (x .name) none _ (x .inner) (y .inner)
+  kinds-other (suc (suc (suc (suc (suc k))))) x y = nothing-other
+
+  decls-other : (x y : Decl) → All Other (compareDecls r x y)
+  unfolding compareDecls compareAlike kindChanged ordinalChanged
+  decls-other x y = go (eqb (x .kind) (y .kind))
+    where
+      go : (u : Bool) → All Other (cond u (compareAlike r x y) (kindChanged x y))
+      go true = all-append Other _ _ (o .first x y) (all-append Other _ _ (kinds-other (x .kind) x y) (o .last x y))
+      go false = single-other _ refl
+
+changes-other : (r : Reading) → Ordinary r → (x y : View) → All Other (changes r x y)
 unfolding changes compareNamespaces declRules ordinalChanged
-changes-other same x y =
+changes-other r o x y =
     all-append Other _ _ (only-other _ _ refl)
-    (all-compare Other nameOf before (declRules (reader same (x .registry) (y .registry)))
-    (λ d. single-other _ refl) (λ d. single-other _ refl) (decls-other (reader same (x .registry) (y .registry))) (x .standing)
+    (all-compare Other nameOf before (declRules (context r (x .registry) (y .registry)))
+    (λ d. single-other _ refl) (λ d. single-other _ refl) (decls-other (context r (x .registry) (y .registry)) o) (x .standing)
     (y .standing))
 
 -- ---- the counts
@@ -156,23 +169,26 @@ none-counted kind e (c ∷ cs) h = go (eqb (c .kind) kind) refl (none-counted ki
     go true p ih = no-both e (rw (eqb-true (c .kind) kind p) at (h .0))
     go false p ih = omega (arith, ih)
 
-module _ (old new : List ℕ) where
-  none-selected : (kind : ℕ) → kind < kindCount → ordinalChanged kind ≡ true → verdictOf old new (5 + kind) ≡ 0
-  unfolding verdictOf checked
-  none-selected kind l e = go (case viewOf sameType old new)
+-- of any verdict
+module _ (p : Policy) (o : Ordinary (p .reading)) (old new : List ℕ) where
+  none-selected : (kind : ℕ) → kind < kindCount → ordinalChanged kind ≡ true → verdictBy p old new (5 + kind) ≡ 0
+  unfolding verdictBy
+  none-selected kind l e = go (decided p old new)
     where
-      go : {o : Outcome} → Case viewOf sameType old new o → select o (5 + kind) ≡ 0
-      go (old-refused h p) = refusal-is _ _ .rest (5 + kind) (omega arith)
-      go (new-refused h p q) = refusal-is _ _ .rest (5 + kind) (omega arith)
-      go (pair-refused p q i) = refusal-is _ _ .rest (5 + kind) (omega arith)
-      go (verdict {x = x} {y = y} p q i) =
-          count-selected kind l (changes sameType (viewOf x) (viewOf y))
-          ∙ none-counted kind e _ (changes-other sameType (viewOf x) (viewOf y))
+      go : {u : Outcome} → Decided p old new u → select u (5 + kind) ≡ 0
+      go (oldRefused q) = refusal-is _ _ .rest (5 + kind) (omega arith)
+      go (oldAlone q i) = refusal-is _ _ .rest (5 + kind) (omega arith)
+      go (newRefused a q) = refusal-is _ _ .rest (5 + kind) (omega arith)
+      go (newAlone a q i) = refusal-is _ _ .rest (5 + kind) (omega arith)
+      go (pairRefused a b i) = refusal-is _ _ .rest (5 + kind) (omega arith)
+      go (verdict {x = x} {y = y} a b i) =
+          count-selected kind l (changes (p .reading) (p .view x) (p .view y))
+          ∙ none-counted kind e _ (changes-other (p .reading) o (p .view x) (p .view y))
 
-  pub no-ordinal-changed : All (λ kind. counted verdictOf kind old new ≡ 0)
+  pub none-ordinal : All (λ kind. countBetween (verdictBy p) kind old new ≡ 0)
       (FieldOrdinalChanged ∷ VariantOrdinalChanged ∷ FlagsBitOrdinalChanged ∷ [])
-  unfolding All counted ordinalChanged
-  no-ordinal-changed = (
+  unfolding All countBetween ordinalChanged
+  none-ordinal = (
     none-selected FieldOrdinalChanged
         (omega arith) refl,
     (
@@ -181,3 +197,8 @@ module _ (old new : List ℕ) where
       (none-selected FlagsBitOrdinalChanged (omega arith) refl, tt),
     ),
   )
+
+-- and so of document 01's
+pub no-ordinal-changed : (old new : List ℕ) → All (λ kind. countBetween verdictOf kind old new ≡ 0)
+    (FieldOrdinalChanged ∷ VariantOrdinalChanged ∷ FlagsBitOrdinalChanged ∷ [])
+no-ordinal-changed old new = none-ordinal plain (clauses-ordinary sameType) old new

@@ -1,31 +1,29 @@
 -- When two images get a verdict and when each refusal, exactly as specs/Refusals says. Assumes nothing.
 use mathlib.Core.Path.{_≡_, refl, sym, ap, _∙_}
-use mathlib.Core.Bool.{Bool, true, false, cond, _&&_, _||_}
-use mathlib.Core.Option.{Option, none, some}
+use mathlib.Core.Bool.{Bool, true, false, _&&_, _||_}
+use mathlib.Core.Option.{Option, none, some, Option·none-ne-some}
 use mathlib.Core.List.{List, [], _∷_}
-use Prim.Native.Nat.{ℕ, _<_}
+use Prim.Native.Nat.{ℕ, _≤_}
 use native.Mathlib.Omega.{arith}
 use lib.Dec.{leb}
-use lib.ListN.{length, List·getD-eq-default}
-use borrow.Author.Tests.{eqb-true, eq-eqb, leb-false, lt-leb}
+use borrow.Author.Tests.{eqb-true, eq-eqb, leb-true, leb-false}
 use Rattle.maps.specs.Lists.{All}
 use Rattle.maps.specs.Keyed.{lookup}
 use Rattle.maps.specs.Orders.{before}
 use Rattle.maps.proofs.Names.{byName}
 use Rattle.maps.proofs.Survivors.{all-lookup, lookup-key, lookup-own}
 use Rattle.image.specs.Schema.{Name, Decl, Schema}
-use Rattle.image.specs.Parse.{no}
+use Rattle.image.specs.Parse.{ok, no}
 use Rattle.image.specs.Image.{readImage}
+use Rattle.refusals.proofs.Refusals.{only-ten}
 use Rattle.maps.proofs.Tests.{no-both, both}
 use Rattle.rules.specs.Survivors.{nameOf, declarations, viewOf}
-use Rattle.rules.specs.Types.{sameType}
-use Rattle.rules.specs.Changes.{Change}
-use Rattle.rules.specs.Clauses.{changes}
 use Rattle.rules.specs.Verdict.{alias, isAlias, any, aliasPair}
-use Rattle.rules.specs.Report.{report}
-use Rattle.rules.specs.Answer.{bothSides, Outcome, refused, compared, comparePair, acceptNew, acceptOld, outcome, checked, selected, select, verdictOf, fit, reported, reportLength, written}
-use Rattle.rules.specs.Refusals.{Accepted, NewRefused, Alias, AliasPair, Refusal, VerdictRefusals, ReportRefusals}
-use Rattle.rules.proofs.Answer.{Case, old-refused, new-refused, pair-refused, verdict, case}
+use Rattle.rules.specs.Outcome.{Outcome, refused, answered, selected, select}
+use Rattle.rules.specs.Answer.{bothSides, Fault, fault, Policy, firstFault, outcome, verdictBy, reportBy, plain, checked, verdictOf, reported}
+use Rattle.rules.specs.Refusals.{Passes, Decided, oldRefused, oldAlone, newRefused, newAlone, pairRefused, verdict, Numbered, PolicyRefusals, ReportRefusals, AcceptedPair, NewRefused, Alias, AliasPair, VerdictRefusals}
+use Rattle.rules.proofs.Outcomes.{not-answered, nothing-told, nothing-written, fit-full, fit-filled, fit-else}
+use Rattle.rules.proofs.Answer.{decided, decides, exactly, plain-fault, alias-fault, plain-numbered}
 use Rattle.rules.proofs.Distance.{view-rises}
 
 -- ---- the test of a pair of aliases
@@ -101,172 +99,178 @@ module _ (x y : Schema) where
           no-both passes (all-lookup nameOf before (λ d. test d ≡ false) (a .name) (declarations x) (old .survivor)
           (any-false test (declarations x) e) (old .stands))
 
--- ---- the verdict call
+-- ---- of any verdict
 
--- what is refused
-number-is : (number side : ℕ) → select (refused number side) 0 ≡ number
-unfolding select selected
-number-is number side = refl
+module _ (p : Policy) (numbered : Numbered p) (old new : List ℕ) where
+  no-side : {o : Outcome} → Decided p old new o → select o 0 ≡ 0 → select o 1 ≡ 0
+  unfolding select selected
+  no-side (oldRefused q) z = absurd (omega (arith, only-ten old _ q))
+  no-side (oldAlone q e) z = absurd (numbered .alone _ _ e .0 z)
+  no-side (newRefused a q) z = absurd (omega (arith, only-ten new _ q))
+  no-side (newAlone a q e) z = absurd (numbered .alone _ _ e .0 z)
+  no-side (pairRefused a b e) z = absurd (numbered .pair _ _ _ e .0 z)
+  no-side (verdict a b e) z = refl
 
-pub refusal-is : (number side : ℕ) → Refusal (select (refused number side))
-unfolding select selected
-refusal-is number side = record { bump = refl; result = refl; rest = λ n h. List·getD-eq-default (number ∷ side ∷ 2 ∷ 1 ∷ []) 0 h }
+  pub policy-refusals : PolicyRefusals p old new
+  unfolding verdictBy
+  policy-refusals = record {
+    exactly = exactly p old new;
+    noSide = no-side (decided p old new);
+    refusal = not-answered (outcome p old new);
+  }
+
+  -- 12 is the report's
+  not-full : {o : Outcome} → Decided p old new o → select o 0 ≡ 12 → ⊥
+  unfolding select selected
+  not-full (oldRefused q) z = absurd (omega (arith, only-ten old _ q))
+  not-full (oldAlone q e) z = numbered .alone _ _ e .1 z
+  not-full (newRefused a q) z = absurd (omega (arith, only-ten new _ q))
+  not-full (newAlone a q e) z = numbered .alone _ _ e .1 z
+  not-full (pairRefused a b e) z = numbered .pair _ _ _ e .1 z
+  not-full (verdict a b e) z = absurd (omega arith)
+
+  pub report-refusals : (room : ℕ) → ReportRefusals p old new room
+  unfolding verdictBy reportBy select selected
+  report-refusals room =
+      let o = outcome p old new in
+      let n = not-full (decided p old new) in
+      record {
+        full = (λ z. fit-full bothSides room o n z .1, fit-filled bothSides room o);
+        bothSides = λ z. ap (λ u. select u 1) (fit-full bothSides room o n z .0);
+        fits = λ h k. ap (λ u. select u k) (fit-else bothSides room o h);
+        refusal = not-answered (reportBy p old new room);
+        nothing = nothing-told (reportBy p old new room);
+        untouched = nothing-written (reportBy p old new room);
+      }
+
+-- ---- of the verdict of document 01
 
 module _ (old new : List ℕ) where
-  -- a number of one image alone
   abbrev Of : Outcome → Type 0
-  Of = Case viewOf sameType old new
+  Of = Decided plain old new
 
-  verdict-only : {o : Outcome} → Of o → select o 0 ≡ 0 → Accepted old new (λ x y. AliasPair x y → ⊥)
+  -- nobody is refused alone
+  none-alone : {A : Type 0} {k : ℕ} → _≡_ {A = Option ℕ} none (some k) → A
+  none-alone e = absurd (Option·none-ne-some _ e)
+
+  -- the number and the side that a fault of the pair has
+  eleven : (x y : Schema) (f : Fault) → firstFault (plain .pair) x y ≡ some f → (f .number ≡ 11) × (f .side ≡ bothSides)
+  eleven x y f e = let q = plain-fault x y f e .1 in (ap (λ (g : Fault). g .number) q, ap (λ (g : Fault). g .side) q)
+
+  both-read : {P : Schema → Schema → Type 0} {x y : Schema} → Passes plain old x → Passes plain new y → P x y → AcceptedPair old new P
+  both-read {x = x} {y = y} a b h =
+      record { oldSchema = x; newSchema = y; oldEnd = a .end; newEnd = b .end; oldRead = a .read; newRead = b .read; holds = h }
+
+  verdict-only : {o : Outcome} → Of o → select o 0 ≡ 0 → AcceptedPair old new (λ x y. AliasPair x y → ⊥)
   unfolding select selected
-  verdict-only (old-refused l p) z = absurd (omega arith)
-  verdict-only (new-refused l p q) z = absurd (omega arith)
-  verdict-only (pair-refused p q e) z = absurd (omega arith)
-  verdict-only (verdict {x = x} {y = y} {m = m} {n = n} p q e) z =
-      record { oldSchema = x; newSchema = y; oldEnd = m; newEnd = n; oldRead = p; newRead = q; holds = λ a. no-both (pair-given x y a) e }
+  verdict-only (oldRefused q) z = absurd (omega (arith, only-ten old _ q))
+  verdict-only (oldAlone q e) z = none-alone e
+  verdict-only (newRefused a q) z = absurd (omega (arith, only-ten new _ q))
+  verdict-only (newAlone a q e) z = none-alone e
+  verdict-only (pairRefused a b e) z = absurd (omega (arith, eleven _ _ _ e .0))
+  verdict-only (verdict {x = x} {y = y} a b e) z =
+      both-read a b (λ h. absurd (Option·none-ne-some _ (sym e ∙ alias-fault x y (pair-given x y h))))
 
-  alias-only : {o : Outcome} → Of o → select o 0 ≡ 11 → Accepted old new AliasPair
+  alias-only : {o : Outcome} → Of o → select o 0 ≡ 11 → AcceptedPair old new AliasPair
   unfolding select selected
-  alias-only (old-refused l p) z = absurd (omega arith)
-  alias-only (new-refused l p q) z = absurd (omega arith)
-  alias-only (pair-refused {x = x} {y = y} {m = m} {n = n} p q e) z =
-      record { oldSchema = x; newSchema = y; oldEnd = m; newEnd = n; oldRead = p; newRead = q; holds = pair-found x y e }
-  alias-only (verdict p q e) z = absurd (omega arith)
+  alias-only (oldRefused q) z = absurd (omega (arith, only-ten old _ q))
+  alias-only (oldAlone q e) z = none-alone e
+  alias-only (newRefused a q) z = absurd (omega (arith, only-ten new _ q))
+  alias-only (newAlone a q e) z = none-alone e
+  alias-only (pairRefused {x = x} {y = y} a b e) z = both-read a b (pair-found x y (plain-fault _ _ _ e .0))
+  alias-only (verdict a b e) z = absurd (omega arith)
 
-  module _ {P : Schema → Schema → Type 0} (a : Accepted old new P) where
-    accepted-is : checked old new ≡ comparePair sameType (viewOf (a .oldSchema)) (viewOf (a .newSchema))
-    unfolding checked outcome acceptOld acceptNew
-    accepted-is = rw (a .oldRead, a .newRead)
+  module _ {P : Schema → Schema → Type 0} (a : AcceptedPair old new P) where
+    old-passes : Passes plain old (a .oldSchema)
+    old-passes = record { end = a .oldEnd; read = a .oldRead; alone = refl }
 
-  verdict-given : Accepted old new (λ x y. AliasPair x y → ⊥) → select (checked old new) 0 ≡ 0
-  unfolding comparePair select selected
-  verdict-given a = rw (accepted-is a) (go (aliasPair (viewOf (a .oldSchema)) (viewOf (a .newSchema))) refl)
+    new-passes : Passes plain new (a .newSchema)
+    new-passes = record { end = a .newEnd; read = a .newRead; alone = refl }
+
+  verdict-given : AcceptedPair old new (λ x y. AliasPair x y → ⊥) → select (checked old new) 0 ≡ 0
+  unfolding select selected
+  verdict-given a = go (firstFault (plain .pair) (a .oldSchema) (a .newSchema)) refl
     where
-      go : (u : Bool) → aliasPair (viewOf (a .oldSchema)) (viewOf (a .newSchema)) ≡ u
-          → select (cond u (refused 11 bothSides) (compared (changes sameType (viewOf (a .oldSchema)) (viewOf (a .newSchema))))) 0 ≡ 0
-      go true e = absurd (a .holds (pair-found (a .oldSchema) (a .newSchema) e))
-      go false e = refl
+      go : (f : Option Fault) → firstFault (plain .pair) (a .oldSchema) (a .newSchema) ≡ f → select (checked old new) 0 ≡ 0
+      go none e = ap (λ o. select o 0) (decides plain old new (verdict (old-passes a) (new-passes a) e))
+      go (some f) e = absurd (a .holds (pair-found (a .oldSchema) (a .newSchema) (plain-fault _ _ _ e .0)))
 
-  alias-given : Accepted old new AliasPair → select (checked old new) 0 ≡ 11
-  unfolding comparePair select selected
-  alias-given a = rw (accepted-is a, pair-given (a .oldSchema) (a .newSchema) (a .holds))
+  alias-given : AcceptedPair old new AliasPair → select (checked old new) 0 ≡ 11
+  unfolding select selected
+  alias-given a =
+      ap (λ o. select o 0) (decides plain old new (pairRefused {f = fault 11 bothSides} (old-passes a) (new-passes a)
+      (alias-fault (a .oldSchema) (a .newSchema) (pair-given (a .oldSchema) (a .newSchema) (a .holds)))))
 
   -- the old image's number, and the new one's
   old-only : (k : ℕ) {o : Outcome} → Of o → (select o 0 ≡ k) × (select o 1 ≡ 1) → readImage old ≡ no k
   unfolding select selected
-  old-only k (old-refused l p) z = p ∙ ap no (z .0)
-  old-only k (new-refused l p q) z = absurd (omega arith)
-  old-only k (pair-refused p q e) z = absurd (omega arith)
-  old-only k (verdict p q e) z = absurd (omega arith)
+  old-only k (oldRefused q) z = q ∙ ap no (z .0)
+  old-only k (oldAlone q e) z = none-alone e
+  old-only k (newRefused a q) z = absurd (omega (arith, z .1))
+  old-only k (newAlone a q e) z = none-alone e
+  old-only k (pairRefused a b e) z = absurd (omega (arith, z .1, eleven _ _ _ e .1))
+  old-only k (verdict a b e) z = absurd (omega (arith, z .1))
 
   old-given : (k : ℕ) → readImage old ≡ no k → (select (checked old new) 0 ≡ k) × (select (checked old new) 1 ≡ 1)
-  unfolding checked outcome acceptOld select selected
-  old-given k e = (rw e, rw e)
+  unfolding select selected
+  old-given k e = let d = decides plain old new (oldRefused e) in (ap (λ o. select o 0) d, ap (λ o. select o 1) d)
 
   new-only : (k : ℕ) {o : Outcome} → Of o → (select o 0 ≡ k) × (select o 1 ≡ 2) → NewRefused old new k
   unfolding select selected
-  new-only k (old-refused l p) z = absurd (omega arith)
-  new-only k (new-refused {x = x} {m = m} l p q) z = record { oldSchema = x; oldEnd = m; oldRead = p; newRead = q ∙ ap no (z .0) }
-  new-only k (pair-refused p q e) z = absurd (omega arith)
-  new-only k (verdict p q e) z = absurd (omega arith)
+  new-only k (oldRefused q) z = absurd (omega (arith, z .1))
+  new-only k (oldAlone q e) z = none-alone e
+  new-only k (newRefused {x = x} a q) z = record { oldSchema = x; oldEnd = a .end; oldRead = a .read; newRead = q ∙ ap no (z .0) }
+  new-only k (newAlone a q e) z = none-alone e
+  new-only k (pairRefused a b e) z = absurd (omega (arith, z .1, eleven _ _ _ e .1))
+  new-only k (verdict a b e) z = absurd (omega (arith, z .1))
 
   new-given : (k : ℕ) → NewRefused old new k → (select (checked old new) 0 ≡ k) × (select (checked old new) 1 ≡ 2)
-  unfolding checked outcome acceptOld acceptNew select selected
-  new-given k r = (rw (r .oldRead, r .newRead), rw (r .oldRead, r .newRead))
-
-  no-side : {o : Outcome} → Of o → select o 0 ≡ 0 → select o 1 ≡ 0
   unfolding select selected
-  no-side (old-refused l p) z = absurd (omega arith)
-  no-side (new-refused l p q) z = absurd (omega arith)
-  no-side (pair-refused p q e) z = absurd (omega arith)
-  no-side (verdict p q e) z = refl
+  new-given k r =
+      let d = decides plain old new (newRefused (record { end = r .oldEnd; read = r .oldRead; alone = refl }) (r .newRead)) in
+      (ap (λ o. select o 0) d, ap (λ o. select o 1) d)
 
   both-sides : {o : Outcome} → Of o → select o 0 ≡ 11 → select o 1 ≡ 3
   unfolding select selected
-  both-sides (old-refused l p) z = absurd (omega arith)
-  both-sides (new-refused l p q) z = absurd (omega arith)
-  both-sides (pair-refused p q e) z = refl
-  both-sides (verdict p q e) z = absurd (omega arith)
+  both-sides (oldRefused q) z = absurd (omega (arith, only-ten old _ q))
+  both-sides (oldAlone q e) z = none-alone e
+  both-sides (newRefused a q) z = absurd (omega (arith, only-ten new _ q))
+  both-sides (newAlone a q e) z = none-alone e
+  both-sides (pairRefused a b e) z = eleven _ _ _ e .1
+  both-sides (verdict a b e) z = absurd (omega arith)
 
--- what has another number than 0 is a refusal
-not-verdict : (o : Outcome) → (select o 0 ≡ 0 → ⊥) → Refusal (select o)
-unfolding select selected
-not-verdict (refused number side) n = refusal-is number side
-not-verdict (compared cs) n = absurd (n refl)
+  at-most : {o : Outcome} → Of o → select o 0 ≤ 11
+  unfolding select selected
+  at-most (oldRefused q) = omega (arith, only-ten old _ q)
+  at-most (oldAlone q e) = none-alone e
+  at-most (newRefused a q) = omega (arith, only-ten new _ q)
+  at-most (newAlone a q e) = none-alone e
+  at-most (pairRefused a b e) = omega (arith, eleven _ _ _ e .0)
+  at-most (verdict a b e) = omega arith
+
+  reported-most : (room : ℕ) → select (reported old new room) 0 ≤ 12
+  unfolding reportBy
+  reported-most room = go (leb (select (reported old new room) 0) 12) refl
+    where
+      go : (u : Bool) → leb (select (reported old new room) 0) 12 ≡ u → select (reported old new room) 0 ≤ 12
+      go true e = leb-true _ 12 e
+      go false e =
+          let l = leb-false (select (reported old new room) 0) 12 e in
+          absurd (omega (arith, ap (λ o. select o 0) (fit-else bothSides room (checked old new) (λ z. omega arith)), at-most (decided plain old new)))
 
 pub verdict-refusals : (old new : List ℕ) → VerdictRefusals old new
-unfolding verdictOf checked
-verdict-refusals old new = record {
-  verdict = (verdict-only old new (case viewOf sameType old new), verdict-given old new);
-  aliasPair = (alias-only old new (case viewOf sameType old new), alias-given old new);
-  oldRefused = λ k. (old-only old new k (case viewOf sameType old new), old-given old new k);
-  newRefused = λ k. (new-only old new k (case viewOf sameType old new), new-given old new k);
-  noSide = no-side old new (case viewOf sameType old new);
-  bothSides = both-sides old new (case viewOf sameType old new);
-  refusal = not-verdict (checked old new);
-}
-
--- ---- the report call
-
-module _ (room : ℕ) where
-  -- of changes
-  fit-full : (cs : List Change) → select (fit room (compared cs)) 0 ≡ 12
-      → (fit room (compared cs) ≡ refused 12 bothSides) × (room < length (report cs))
-  unfolding fit select selected
-  fit-full cs = go (leb (length (report cs)) room) refl
-    where
-      go : (u : Bool) → leb (length (report cs)) room ≡ u → select (cond u (compared cs) (refused 12 bothSides)) 0 ≡ 12
-          → (cond u (compared cs) (refused 12 bothSides) ≡ refused 12 bothSides) × (room < length (report cs))
-      go true e z = absurd (omega arith)
-      go false e z = (refl, leb-false (length (report cs)) room e)
-
-  -- of any outcome
-  fit-else : (o : Outcome) → (select (fit room o) 0 ≡ 12 → ⊥) → (n : ℕ) → select (fit room o) n ≡ select o n
-  unfolding fit
-  fit-else (refused number side) h n = refl
-  fit-else (compared cs) h n = go (leb (length (report cs)) room) h
-    where
-      go : (u : Bool) → (select (cond u (compared cs) (refused 12 bothSides)) 0 ≡ 12 → ⊥)
-          → select (cond u (compared cs) (refused 12 bothSides)) n ≡ select (compared cs) n
-      go true h = refl
-      go false h = absurd (h (number-is 12 bothSides))
-
-  module _ (old new : List ℕ) where
-    full-only : {o : Outcome} → Case viewOf sameType old new o → select (fit room o) 0 ≡ 12
-        → (fit room o ≡ refused 12 bothSides) × ((select o 0 ≡ 0) × (room < select o 4))
-    unfolding fit select selected
-    full-only (old-refused l p) z = absurd (omega arith)
-    full-only (new-refused l p q) z = absurd (omega arith)
-    full-only (pair-refused p q e) z = absurd (omega arith)
-    full-only (verdict {x = x} {y = y} p q e) z =
-        let f = fit-full (changes sameType (viewOf x) (viewOf y)) z in
-        (f .0, (refl, f .1))
-
-    full-given : {o : Outcome} → Case viewOf sameType old new o → (select o 0 ≡ 0) × (room < select o 4) → select (fit room o) 0 ≡ 12
-    unfolding fit select selected
-    full-given (old-refused l p) z = absurd (omega arith)
-    full-given (new-refused l p q) z = absurd (omega arith)
-    full-given (pair-refused p q e) z = absurd (omega arith)
-    full-given (verdict {x = x} {y = y} p q e) z = rw (lt-leb (length (report (changes sameType (viewOf x) (viewOf y)))) room (z .1))
-
--- nothing is written of what is no verdict
-nothing-told : (o : Outcome) → (select o 0 ≡ 0 → ⊥) → reportLength o ≡ 0
-unfolding select selected reportLength
-nothing-told (refused number side) n = refl
-nothing-told (compared cs) n = absurd (n refl)
-
-nothing-written : (o : Outcome) → (select o 0 ≡ 0 → ⊥) → (out : List ℕ) → written o out ≡ out
-unfolding select selected written
-nothing-written (refused number side) n out = refl
-nothing-written (compared cs) n out = absurd (n refl)
-
-pub report-refusals : (old new : List ℕ) (room : ℕ) → ReportRefusals old new room
-unfolding verdictOf checked reported select selected
-report-refusals old new room = record {
-  full = (λ z. full-only room old new (case viewOf sameType old new) z .1, full-given room old new (case viewOf sameType old new));
-  bothSides = λ z. ap (λ o. select o 1) (full-only room old new (case viewOf sameType old new) z .0);
-  fits = fit-else room (checked old new);
-  refusal = not-verdict (reported old new room);
-  nothing = nothing-told (reported old new room);
-  untouched = nothing-written (reported old new room);
-}
+unfolding verdictBy
+verdict-refusals old new =
+    let d = decided plain old new in
+    let r = policy-refusals plain plain-numbered old new in
+    record {
+      verdict = (verdict-only old new d, verdict-given old new);
+      aliasPair = (alias-only old new d, alias-given old new);
+      oldRefused = λ k. (old-only old new k d, old-given old new k);
+      newRefused = λ k. (new-only old new k d, new-given old new k);
+      noSide = r .noSide;
+      bothSides = both-sides old new d;
+      refusal = r .refusal;
+      most = at-most old new d;
+      mostReported = reported-most old new;
+    }

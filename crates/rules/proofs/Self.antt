@@ -1,5 +1,5 @@
 -- A view against itself: Major if a compared type is odd, and no change but of level Patch otherwise. Over any view whose standing
--- declarations rise by name, and any sound reading of types. Assumes nothing.
+-- declarations rise by name, and any lawful reading. Assumes nothing.
 use mathlib.Core.Path.{_≡_, refl, ap, _∙_}
 use mathlib.Core.Bool.{Bool, true, false, cond, not, _&&_, _||_}
 use mathlib.Core.Option.{Option, some, none}
@@ -19,13 +19,13 @@ use Rattle.maps.proofs.Levels.{self-flatMap, self-none}
 use Rattle.image.specs.Schema.{Name, Marks, Ty, Field, Variant, Decl}
 use Rattle.rules.specs.Equal.{Sound}
 use Rattle.rules.specs.Survivors.{Registry, nameOf, ordinalOf, fieldMap, variantOrdinal, variantMap, View}
-use Rattle.rules.specs.Types.{Reading, resolve}
+use Rattle.rules.specs.Types.{resolve}
 use Rattle.rules.specs.Changes.{level, Change, only}
-use Rattle.rules.specs.Clauses.{compareNamespaces, Reader, reader, compareTypes, fieldText, compareFieldNames, compareEncodings, compareDeprecated, compareFields, fieldRules, compareFieldSets, compareMessages, enumRules, compareNonExhaustive, compareEnums, flagsRules, compareFlags, unionRules, compareUnions, compareNewtypes, compareKind, compareDecls, declRules, changes, fieldTypes, variantTypes, typesOf, comparedTypes}
+use Rattle.rules.specs.Clauses.{compareNamespaces, Reading, Context, context, compareTypes, fieldText, compareFieldNames, compareEncodings, compareDeprecated, compareFields, fieldRules, compareFieldSets, compareMessages, enumRules, compareNonExhaustive, compareEnums, flagsRules, compareFlags, unionRules, compareUnions, compareNewtypes, compareKind, compareAlike, compareDecls, declRules, changes, fieldTypes, variantTypes, typesOf, comparedTypes}
 use Rattle.rules.specs.Verdict.{any}
 use Rattle.rules.proofs.Equal.{pairs, numbers, marks, options, names, nameLists}
 use Rattle.rules.proofs.Types.{encodings}
-use Rattle.rules.proofs.Chain.{levelOf}
+use Rattle.rules.proofs.Readings.{levelOf, Lawful}
 
 -- a part that reports nothing worth counting, before or after another
 nothing-then : {n : ℕ} (xs ys : List Change) → largest levelOf xs ≡ 0 → largest levelOf ys ≡ n → largest levelOf (xs ++ ys) ≡ n
@@ -94,11 +94,11 @@ flags-self : (d : Name) (x : Decl) → largest levelOf (compareFlags d x x) ≡ 
 unfolding compareFlags flagsRules
 flags-self d x = variants-self (flagsRules d) (λ v w. refl) (x .variants)
 
--- ---- the clauses, over any sound reading of types
+-- ---- the clauses, over any lawful reading
 
-module _ {same : Reading} {odd : Ty → Bool} (sound : Sound same odd) (R : Registry) where
-  abbrev own : Reader
-  own = reader same R R
+module _ {r : Reading} {odd : Ty → Bool} (lawful : Lawful r odd) (R : Registry) where
+  abbrev own : Context
+  own = context r R R
 
   -- the level of a type against itself
   score : Ty → ℕ
@@ -107,7 +107,7 @@ module _ {same : Reading} {odd : Ty → Bool} (sound : Sound same odd) (R : Regi
   types-self : (d : Name) (field : Option Name) (what : List ℕ) (t : Ty)
       → largest levelOf (compareTypes own d field what t t) ≡ largest score (t ∷ [])
   unfolding compareTypes score largest level
-  types-self d field what t = test-self sound (resolve R t) _ ∙ alone (score t)
+  types-self d field what t = test-self (lawful .types) (resolve R t) _ ∙ alone (score t)
 
   fields-self : (d : Name) (f : Field) → largest levelOf (compareFields own d f f) ≡ largest score (f .type ∷ [])
   unfolding compareFields
@@ -135,7 +135,9 @@ module _ {same : Reading} {odd : Ty → Bool} (sound : Sound same odd) (R : Regi
     unions-self =
         self-flatMap variantOrdinal byNumber (variantMap (x .variants)) (rising variantOrdinal byNumber (x .variants))
         (unionRules own (x .name)) levelOf score
-        (λ v. fieldTypes (v .fields)) (all (λ v. sets-self _ (v .fields)) (variantMap (x .variants)))
+        (λ v. fieldTypes (v .fields))
+        (all (λ v. then-nothing (compareFieldSets own _ (v .fields) (v .fields)) _ (sets-self _ (v .fields)) (lawful .lastIn .self _ v))
+        (variantMap (x .variants)))
 
     kinds-self : (k : ℕ) → largest levelOf (compareKind k own x x) ≡ largest score (typesOf k x)
     unfolding compareKind typesOf compareNewtypes largest
@@ -147,8 +149,11 @@ module _ {same : Reading} {odd : Ty → Bool} (sound : Sound same odd) (R : Regi
     kinds-self (suc (suc (suc (suc (suc k))))) = refl
 
     decls-self : largest levelOf (compareDecls own x x) ≡ largest score (typesOf (x .kind) x)
-    unfolding compareDecls
-    decls-self = rw (numbers .self (x .kind)) (kinds-self (x .kind))
+    unfolding compareDecls compareAlike
+    decls-self =
+        rw (numbers .self (x .kind))
+        (nothing-then (r .first x x) _ (lawful .first .self (x .name) x)
+        (then-nothing (compareKind (x .kind) own x x) _ (kinds-self (x .kind)) (lawful .last .self (x .name) x)))
 
 -- ---- all clauses
 
@@ -164,11 +169,11 @@ largest-any p (a ∷ l) = go (p a) (any p l) (largest-any p l)
     go true false ih = omega arith
     go false v ih = omega (arith, ih)
 
-pub changes-self : {same : Reading} {odd : Ty → Bool} → Sound same odd → (v : View) → Rising nameOf before (v .standing)
-    → largest levelOf (changes same v v) ≡ cond (any (λ t. odd (resolve (v .registry) t)) (comparedTypes v)) 2 0
+pub changes-self : {r : Reading} {odd : Ty → Bool} → Lawful r odd → (v : View) → Rising nameOf before (v .standing)
+    → largest levelOf (changes r v v) ≡ cond (any (λ t. odd (resolve (v .registry) t)) (comparedTypes v)) 2 0
 unfolding changes declRules comparedTypes score
-changes-self {same = same} {odd = odd} sound v r =
+changes-self {r = r} {odd = odd} lawful v p =
     nothing-then (compareNamespaces (v .namespace) (v .namespace)) _ (namespaces-self (v .namespace))
-    (self-flatMap nameOf byName (v .standing) r (declRules (reader same (v .registry) (v .registry))) levelOf (score sound (v .registry))
-    (λ d. typesOf (d .kind) d) (all (decls-self sound (v .registry)) (v .standing))
+    (self-flatMap nameOf byName (v .standing) p (declRules (context r (v .registry) (v .registry))) levelOf (score lawful (v .registry))
+    (λ d. typesOf (d .kind) d) (all (decls-self lawful (v .registry)) (v .standing))
     ∙ largest-any (λ t. odd (resolve (v .registry) t)) (comparedTypes v))

@@ -1,5 +1,5 @@
 -- The counts of a comparison and of the opposite one: what is removed one way is added the other way, and all else but deprecations is
--- counted alike. Over any views whose standing declarations rise by name, and any sound reading of types. Assumes nothing.
+-- counted alike. Over any views whose standing declarations rise by name, and any lawful reading. Assumes nothing.
 use mathlib.Core.Path.{_≡_, refl, sym, ap, _∙_}
 use mathlib.Core.Bool.{Bool, true, false, cond, not}
 use mathlib.Core.Option.{Option, some, none}
@@ -7,7 +7,7 @@ use mathlib.Core.List.{List, [], _∷_, _++_}
 use Prim.Native.Nat.{ℕ, zero, suc}
 use native.Mathlib.Omega.{arith}
 use lib.Dec.{eqb, ltb}
-use borrow.Author.Tests.{eqb-true, eqb-false}
+use borrow.Author.Tests.{eqb-true}
 use Rattle.maps.specs.Lists.{total, count}
 use Rattle.maps.specs.Compare.{Rules, compare}
 use Rattle.maps.specs.Orders.{Strict, before}
@@ -20,65 +20,14 @@ use Rattle.maps.proofs.Sums.{swap}
 use Rattle.image.specs.Schema.{Name, Marks, Ty, Field, Variant, Decl}
 use Rattle.rules.specs.Equal.{Sound}
 use Rattle.rules.specs.Survivors.{Registry, nameOf, ordinalOf, fieldMap, variantOrdinal, variantMap, View}
-use Rattle.rules.specs.Types.{Reading, resolve}
-use Rattle.rules.specs.Changes.{Change, only, FieldAdded, FieldRemoved, FieldDeprecated, VariantAdded, VariantRemoved, DeclarationAdded, DeclarationRemoved, FlagsBitAdded, FlagsBitRemoved}
-use Rattle.rules.specs.Clauses.{compareNamespaces, Reader, reader, compareTypes, fieldText, compareFieldNames, compareEncodings, compareDeprecated, compareFields, fieldRules, compareFieldSets, compareMessages, variantGone, variantCame, enumRules, compareNonExhaustive, compareEnums, flagsRules, compareFlags, unionRules, compareUnions, compareNewtypes, compareKind, kindChanged, compareDecls, declRules, changes}
+use Rattle.rules.specs.Types.{resolve}
+use Rattle.rules.specs.Changes.{Change, only, FieldDeprecated}
+use Rattle.rules.specs.Clauses.{compareNamespaces, Reading, Context, context, compareTypes, fieldText, compareFieldNames, compareEncodings, compareDeprecated, compareFields, fieldRules, compareFieldSets, compareMessages, variantGone, variantCame, enumRules, compareNonExhaustive, compareEnums, flagsRules, compareFlags, unionRules, compareUnions, compareNewtypes, compareKind, kindChanged, compareAlike, compareDecls, declRules, changes}
 use Rattle.rules.specs.Verdict.{countOf}
 use Rattle.rules.proofs.Equal.{same-sym, pairs, numbers, marks, options, names, nameLists}
 use Rattle.rules.proofs.Types.{encodings}
-
--- ---- the kind under which the same is counted the other way
-
-unfoldable exchange : ℕ → ℕ → ℕ → ℕ
-exchange a b k = cond (eqb k a) b (cond (eqb k b) a k)
-
-exchange-first : (a b : ℕ) → exchange a b a ≡ b
-unfolding exchange
-exchange-first a b = rw (numbers .self a)
-
-exchange-second : (a b : ℕ) → exchange a b b ≡ a
-unfolding exchange
-exchange-second a b = go (eqb b a) refl
-  where
-    go : (x : Bool) → eqb b a ≡ x → cond x b (cond (eqb b b) a b) ≡ a
-    go true p = eqb-true b a p
-    go false p = rw (numbers .self b)
-
-exchange-twice : (a b k : ℕ) → exchange a b (exchange a b k) ≡ k
-unfolding exchange
-exchange-twice a b k = go (eqb k a) (eqb k b) refl refl
-  where
-    go : (x y : Bool) → eqb k a ≡ x → eqb k b ≡ y → exchange a b (cond x b (cond y a k)) ≡ k
-    go true y p q = exchange-second a b ∙ sym (eqb-true k a p)
-    go false true p q = exchange-first a b ∙ sym (eqb-true k b q)
-    go false false p q = rw (p, q)
-
--- a test between two numbers is that between what they are exchanged for
-exchange-test : (a b i j : ℕ) → eqb i j ≡ eqb (exchange a b i) (exchange a b j)
-exchange-test a b i j = go (eqb i j) (eqb (exchange a b i) (exchange a b j)) refl refl
-  where
-    go : (x y : Bool) → eqb i j ≡ x → eqb (exchange a b i) (exchange a b j) ≡ y → x ≡ y
-    go true true p q = refl
-    go false false p q = refl
-    go true false p q = absurd (eqb-false _ _ q (ap (exchange a b) (eqb-true i j p)))
-    go false true p q =
-        absurd (eqb-false i j p (sym (exchange-twice a b i) ∙ (ap (exchange a b) (eqb-true _ _ q) ∙ exchange-twice a b j)))
-
--- added for removed and removed for added; any other kind for itself
-unfoldable pub mirror : ℕ → ℕ
-unfolding exchange
-mirror k =
-    exchange FieldAdded FieldRemoved (exchange VariantAdded VariantRemoved
-    (exchange DeclarationAdded DeclarationRemoved (exchange FlagsBitAdded FlagsBitRemoved k)))
-
-mirror-test : (i j : ℕ) → eqb i j ≡ eqb (mirror i) (mirror j)
-unfolding mirror
-mirror-test i j =
-    let f : ℕ → ℕ = exchange FlagsBitAdded FlagsBitRemoved in
-    let g : ℕ → ℕ = λ k. exchange DeclarationAdded DeclarationRemoved (f k) in
-    let h : ℕ → ℕ = λ k. exchange VariantAdded VariantRemoved (g k) in
-    exchange-test FlagsBitAdded FlagsBitRemoved i j ∙ (exchange-test DeclarationAdded DeclarationRemoved (f i) (f j)
-    ∙ (exchange-test VariantAdded VariantRemoved (g i) (g j) ∙ exchange-test FieldAdded FieldRemoved (h i) (h j)))
+use Rattle.rules.proofs.Mirror.{exchange, mirror, mirror-test}
+use Rattle.rules.proofs.Readings.{OneKind, Lawful}
 
 module _ (j : ℕ) where
   -- xs one way counts under j what ys the other way counts under its mirror
@@ -169,20 +118,20 @@ module _ (j : ℕ) where
     unfolding compareDeprecated mirror exchange
     deprecated-swap d e n o t u l m = none-of j _ _ other ∙ sym (none-of (mirror j) _ _ (sym (mirror-test FieldDeprecated j) ∙ other))
 
-    -- ---- the clauses, over any sound reading of types
+    -- ---- the clauses, over any lawful reading
 
-    module _ {same : Reading} {odd : Ty → Bool} (sound : Sound same odd) (P Q : Registry) where
-      -- the readers one way and the other
-      abbrev there : Reader
-      there = reader same P Q
+    module _ {r : Reading} {odd : Ty → Bool} (lawful : Lawful r odd) (P Q : Registry) where
+      -- one way and the other
+      abbrev there : Context
+      there = context r P Q
 
-      abbrev back : Reader
-      back = reader same Q P
+      abbrev back : Context
+      back = context r Q P
 
       types-swap : (d e : Name) (n o : Option Name) (v w : List ℕ) (t u : Ty)
           → Opposed (compareTypes there d n v t u) (compareTypes back e o w u t)
       unfolding compareTypes mirror exchange
-      types-swap d e n o v w t u = test-swap sound (resolve P t) (resolve Q u) _ _ refl
+      types-swap d e n o v w t u = test-swap (lawful .types) (resolve P t) (resolve Q u) _ _ refl
 
       fields-swap : (d e : Name) (f g : Field) → Opposed (compareFields there d f g) (compareFields back e g f)
       unfolding compareFields
@@ -213,7 +162,8 @@ module _ (j : ℕ) where
         unfolding compareUnions unionRules variantGone variantCame mirror exchange
         unions-swap =
             variants-swap (unionRules there (x .name)) (unionRules back (y .name)) (λ v. single-swap _ _ refl) (λ v. single-swap _ _ refl)
-            (λ v w. sets-swap _ _ (v .fields) (w .fields)) (x .variants) (y .variants)
+            (λ v w. append-swap (compareFieldSets there _ (v .fields) (w .fields)) _ (compareFieldSets back _ (w .fields) (v .fields)) _
+            (sets-swap _ _ (v .fields) (w .fields)) (lawful .lastIn .swap j other _ _ v w tt)) (x .variants) (y .variants)
 
         kinds-swap : (k : ℕ) → Opposed (compareKind k there x y) (compareKind k back y x)
         unfolding compareKind compareNewtypes
@@ -224,25 +174,32 @@ module _ (j : ℕ) where
         kinds-swap (suc (suc (suc (suc zero)))) = types-swap (x .name) (y .name) none none _ _ (x .inner) (y .inner)
         kinds-swap (suc (suc (suc (suc (suc k))))) = nothing-swap
 
+        alike-swap : x .kind ≡ y .kind → Opposed (compareAlike there x y) (compareAlike back y x)
+        unfolding compareAlike
+        alike-swap p =
+            append-swap (r .first x y) _ (r .first y x) _ (lawful .first .swap j other (x .name) (y .name) x y p)
+            (append-swap (compareKind (x .kind) there x y) _ (compareKind (y .kind) back y x) _
+            (kinds-swap (x .kind) ∙ ap (λ k. countOf (mirror j) (compareKind k back y x)) p)
+            (lawful .last .swap j other (x .name) (y .name) x y p))
+
         decls-swap : Opposed (compareDecls there x y) (compareDecls back y x)
         unfolding compareDecls kindChanged mirror exchange
         decls-swap = rw (same-sym numbers (y .kind) (x .kind)) (go (eqb (x .kind) (y .kind)) refl)
           where
             go : (u : Bool) → eqb (x .kind) (y .kind) ≡ u
-                → Opposed (cond u (compareKind (x .kind) there x y) (kindChanged x y))
-                (cond u (compareKind (y .kind) back y x) (kindChanged y x))
-            go true p = kinds-swap (x .kind) ∙ ap (λ k. countOf (mirror j) (compareKind k back y x)) (eqb-true (x .kind) (y .kind) p)
+                → Opposed (cond u (compareAlike there x y) (kindChanged x y)) (cond u (compareAlike back y x) (kindChanged y x))
+            go true p = alike-swap (eqb-true (x .kind) (y .kind) p)
             go false p = single-swap _ _ refl
 
 -- ---- all clauses
 
-pub changes-swap : {same : Reading} {odd : Ty → Bool} → Sound same odd → (j : ℕ) → eqb FieldDeprecated j ≡ false → (x y : View)
+pub changes-swap : {r : Reading} {odd : Ty → Bool} → Lawful r odd → (j : ℕ) → eqb FieldDeprecated j ≡ false → (x y : View)
     → Rising nameOf before (x .standing) → Rising nameOf before (y .standing)
-    → countOf j (changes same x y) ≡ countOf (mirror j) (changes same y x)
+    → countOf j (changes r x y) ≡ countOf (mirror j) (changes r y x)
 unfolding changes declRules mirror exchange
-changes-swap {same = same} sound j other x y r s =
+changes-swap {r = r} lawful j other x y p q =
     append-swap j (compareNamespaces (x .namespace) (y .namespace)) _ (compareNamespaces (y .namespace) (x .namespace)) _
     (namespaces-swap j (x .namespace) (y .namespace))
-    (maps-swap j nameOf byName (declRules (reader same (x .registry) (y .registry))) (declRules (reader same (y .registry) (x .registry)))
-    (λ d. single-swap j _ _ refl) (λ d. single-swap j _ _ refl) (λ d e p. decls-swap j other sound (x .registry) (y .registry) d e)
-    (x .standing) (y .standing) r s)
+    (maps-swap j nameOf byName (declRules (context r (x .registry) (y .registry))) (declRules (context r (y .registry) (x .registry)))
+    (λ d. single-swap j _ _ refl) (λ d. single-swap j _ _ refl) (λ d e k. decls-swap j other lawful (x .registry) (y .registry) d e)
+    (x .standing) (y .standing) p q)

@@ -22,10 +22,9 @@ use Rattle.maps.proofs.Sums.{total-survivors, compare-weight}
 use Rattle.image.specs.Schema.{Name, Marks, Ty, leaf, one, two, Field, Variant, Decl}
 use Rattle.image.specs.Words.{bytes}
 use Rattle.rules.specs.Survivors.{nameOf, ordinalOf, fieldMap, variantOrdinal, variantMap, View}
-use Rattle.rules.specs.Types.{Reading}
 use Rattle.rules.specs.Text.{joined}
 use Rattle.rules.specs.Changes.{Bump, Change, change, only, quoted, numbered}
-use Rattle.rules.specs.Clauses.{showNamespace, compareNamespaces, Reader, reader, compareTypes, fieldText, compareFieldNames, compareEncodings, compareDeprecated, compareFields, fieldRules, compareFieldSets, compareMessages, variantText, variantGone, variantCame, enumRules, compareNonExhaustive, compareEnums, bitText, flagsRules, compareFlags, variantDecl, unionRules, compareUnions, compareNewtypes, compareKind, kindChanged, compareDecls, declText, declRules, changes}
+use Rattle.rules.specs.Clauses.{showNamespace, compareNamespaces, Reading, clausesBy, Context, context, compareTypes, fieldText, compareFieldNames, compareEncodings, compareDeprecated, compareFields, fieldRules, compareFieldSets, compareMessages, variantText, variantGone, variantCame, enumRules, compareNonExhaustive, compareEnums, bitText, flagsRules, compareFlags, variantDecl, unionRules, compareUnions, compareNewtypes, compareKind, kindChanged, compareAlike, compareDecls, declText, declRules, changes}
 use Rattle.rules.specs.Report.{changeLine}
 use Rattle.rules.proofs.Sizes.{namesSize, typeSize, fieldSize, variantSize, declSize}
 use Rattle.text.proofs.Numbers.{decimal-length}
@@ -69,6 +68,15 @@ total-heavy : {A : Type 0} (size : A → ℕ) (l : List A) → total (heavy size
 unfolding heavy total
 total-heavy size [] = refl
 total-heavy size (a ∷ l) = omega (arith, total-heavy size l)
+
+-- with as much again for what is reported besides
+unfoldable twice : {A : Type 0} → (A → ℕ) → A → ℕ
+twice size a = 2 * size a
+
+total-twice : {A : Type 0} (size : A → ℕ) (l : List A) → total (twice size) l ≡ 2 * total size l
+unfolding twice total
+total-twice size [] = refl
+total-twice size (a ∷ l) = omega (arith, total-twice size l)
 
 total-each : {A : Type 0} (w : A → ℕ) (l : List A) → All (λ a. w a ≤ total w l) l
 unfolding total All
@@ -193,9 +201,22 @@ module _ (d : Name) (h : length d ≤ 32768) where
             (λ v w. refl) (x .variants) (y .variants),
       ))
 
+-- ---- what is reported besides
+
+-- it is no longer than what a clause may report
+pub record Light (r : Reading) : Type 0 where
+  pub decls : (x y : Decl) → declSize x ≤ 32768
+      → total lineLength (r .first x y) + total lineLength (r .last x y) ≤ heavy declSize x + heavy declSize y
+  pub variants : (d : Name) → length d ≤ 65538 → (v w : Variant)
+      → total lineLength (r .lastIn d v w) ≤ heavy variantSize v + heavy variantSize w
+
+pub clauses-light : (same : Ty → Ty → Bool) → Light (clausesBy same)
+unfolding total
+clauses-light same = record { decls = λ x y h. omega arith; variants = λ d h v w. omega arith }
+
 -- ---- clauses that show types
 
-module _ (r : Reader) (S : Short (r .old)) (T : Short (r .new)) where
+module _ (r : Context) (light : Light (r .reading)) (S : Short (r .old)) (T : Short (r .new)) where
   types-weight : (d : Name) (field : Option Name) (what : List ℕ) (t u : Ty)
       → total lineLength (compareTypes r d field what t u)
       ≤ 100 + (length d + (optionLength field + (length what + 66000 * (typeSize t + typeSize u))))
@@ -269,23 +290,38 @@ module _ (r : Reader) (S : Short (r .old)) (T : Short (r .new)) where
     variant-short v p = simp length-append (omega (arith, name-short, leb-true (length (v .name)) 32768 p))
 
     variant-weight : (v w : Variant) → leb (length (v .name)) 32768 ≡ true
-        → total lineLength (compareFieldSets r (variantDecl (x .name) v) (v .fields) (w .fields))
-        ≤ heavy variantSize v + heavy variantSize w
-    unfolding heavy variantSize
-    variant-weight v w p = omega (arith, sets-weight (variantDecl (x .name) v) (variant-short v p) (v .fields) (w .fields))
+        → total lineLength (unionRules r (x .name) .kept v w) ≤ heavy (twice variantSize) v + heavy (twice variantSize) w
+    unfolding unionRules heavy twice variantSize
+    variant-weight v w p =
+        simp (total-append lineLength)
+        (omega (
+          arith,
+          sets-weight (variantDecl (x .name) v) (variant-short v p) (v .fields) (w .fields),
+          light .variants (variantDecl (x .name) v) (variant-short v p) v w,
+        ))
+
+    gone-twice : (v : Variant) → total lineLength (variantGone (x .name) v) ≤ heavy (twice variantSize) v
+    unfolding heavy twice
+    gone-twice v = omega (arith, gone-weight (x .name) name-short v)
+
+    came-twice : (b : Bump) (v : Variant) → total lineLength (variantCame b (x .name) v) ≤ heavy (twice variantSize) v
+    unfolding heavy twice
+    came-twice b v = omega (arith, came-weight (x .name) name-short b v)
 
     unions-weight : total lineLength (compareUnions r (x .name) x y)
-        ≤ 200000 * (total variantSize (x .variants) + total variantSize (y .variants))
+        ≤ 400000 * (total variantSize (x .variants) + total variantSize (y .variants))
     unfolding compareUnions unionRules variantMap
     unions-weight =
         omega (
           arith,
-          fine-weight variantOrdinal byNumber lineLength (λ v. leb (length (v .name)) 32768) (heavy variantSize) (heavy variantSize)
-              (variantMap (x .variants)) (variantMap (y .variants)) (rising variantOrdinal byNumber (x .variants))
+          fine-weight variantOrdinal byNumber lineLength (λ v. leb (length (v .name)) 32768) (heavy (twice variantSize))
+              (heavy (twice variantSize)) (variantMap (x .variants)) (variantMap (y .variants)) (rising variantOrdinal byNumber (x .variants))
               (rising variantOrdinal byNumber (y .variants)) variants-short
-              (unionRules r (x .name)) (gone-weight (x .name) name-short) (came-weight (x .name) name-short _) variant-weight,
-          survivors-heavy variantOrdinal ltb variantSize (x .variants),
-          survivors-heavy variantOrdinal ltb variantSize (y .variants),
+              (unionRules r (x .name)) gone-twice (came-twice _) variant-weight,
+          survivors-heavy variantOrdinal ltb (twice variantSize) (x .variants),
+          survivors-heavy variantOrdinal ltb (twice variantSize) (y .variants),
+          total-twice variantSize (x .variants),
+          total-twice variantSize (y .variants),
         )
 
     newtypes-weight : total lineLength (compareNewtypes r (x .name) x y) ≤ heavy declSize x + heavy declSize y
@@ -300,13 +336,13 @@ module _ (r : Reader) (S : Short (r .old)) (T : Short (r .new)) where
           type-one (x .inner),
         )
 
-    kinds-weight : (k : ℕ) → total lineLength (compareKind k r x y) ≤ heavy declSize x + heavy declSize y
+    kinds-weight : (k : ℕ) → total lineLength (compareKind k r x y) ≤ 2 * (heavy declSize x + heavy declSize y)
     unfolding compareKind heavy declSize total
-    kinds-weight zero = messages-weight
+    kinds-weight zero = omega (arith, messages-weight)
     kinds-weight (suc zero) = omega (arith, enums-weight (x .name) name-short x y, type-one (x .inner))
     kinds-weight (suc (suc zero)) = omega (arith, flags-weight (x .name) name-short x y)
     kinds-weight (suc (suc (suc zero))) = omega (arith, unions-weight)
-    kinds-weight (suc (suc (suc (suc zero)))) = newtypes-weight
+    kinds-weight (suc (suc (suc (suc zero)))) = omega (arith, newtypes-weight)
     kinds-weight (suc (suc (suc (suc (suc k))))) = omega arith
 
     changed-weight : total lineLength (kindChanged x y) ≤ heavy declSize x + heavy declSize y
@@ -316,32 +352,33 @@ module _ (r : Reader) (S : Short (r .old)) (T : Short (r .new)) where
         (simp (length-append, fromTo-length, quoted-length)
         (omega (arith, kind-length (x .kind), kind-length (y .kind), name-short, type-one (x .inner))))
 
-    decls-weight : total lineLength (compareDecls r x y) ≤ heavy declSize x + heavy declSize y
-    unfolding compareDecls
+    decls-weight : total lineLength (compareDecls r x y) ≤ heavy (twice (twice declSize)) x + heavy (twice (twice declSize)) y
+    unfolding compareDecls compareAlike heavy twice
     decls-weight = go (eqb (x .kind) (y .kind))
       where
-        go : (u : Bool) → total lineLength (cond u (compareKind (x .kind) r x y) (kindChanged x y)) ≤ heavy declSize x + heavy declSize y
-        go true = kinds-weight (x .kind)
-        go false = changed-weight
+        go : (u : Bool) → total lineLength (cond u (compareAlike r x y) (kindChanged x y))
+            ≤ heavy (twice (twice declSize)) x + heavy (twice (twice declSize)) y
+        go true = simp (total-append lineLength) (omega (arith, kinds-weight (x .kind), light .decls x y h))
+        go false = omega (arith, changed-weight)
 
 -- ---- all clauses
 
 -- of views whose declarations an image can hold
-module _ (same : Reading) (x y : View) (S : Short (x .registry)) (T : Short (y .registry))
+module _ (r : Reading) (light : Light r) (x y : View) (S : Short (x .registry)) (T : Short (y .registry))
     (R : Rising nameOf before (x .standing)) (Q : Rising nameOf before (y .standing))
     (h : All (λ d. declSize d ≤ 32768) (x .standing)) where
-  abbrev between-views : Reader
-  between-views = reader same (x .registry) (y .registry)
+  abbrev between-views : Context
+  between-views = context r (x .registry) (y .registry)
 
   -- a declaration that is gone or came
   decl-weight : (kind : ℕ) (bump : Bump) (d : Decl) (text : List ℕ) → length text ≤ 12
-      → total lineLength (change kind bump (d .name) none (declText d ++ text) ∷ []) ≤ heavy declSize d
-  unfolding declText bytes optionLength heavy declSize
+      → total lineLength (change kind bump (d .name) none (declText d ++ text) ∷ []) ≤ heavy (twice (twice declSize)) d
+  unfolding declText bytes optionLength heavy twice declSize
   decl-weight kind bump d text l =
       le-trans (single-weight _) (simp (length-append, quoted-length) (omega (arith, kind-length (d .kind), type-one (d .inner))))
 
-  pub changes-weight : total lineLength (changes same x y)
-      ≤ 100 + (2 * namesSize (x .namespace) + 2 * namesSize (y .namespace)) + 200000 * (total declSize (x .standing) + total declSize
+  pub changes-weight : total lineLength (changes r x y)
+      ≤ 100 + (2 * namesSize (x .namespace) + 2 * namesSize (y .namespace)) + 800000 * (total declSize (x .standing) + total declSize
       (y .standing))
   unfolding changes declRules bytes
   changes-weight =
@@ -349,10 +386,14 @@ module _ (same : Reading) (x y : View) (S : Short (x .registry)) (T : Short (y .
       (omega (
         arith,
         namespaces-weight (x .namespace) (y .namespace),
-        fine-weight nameOf byName lineLength (λ d. leb (declSize d) 32768) (heavy declSize) (heavy declSize) (x .standing) (y .standing) R Q
-            (all-map (λ d p. le-leb (declSize d) 32768 p) (x .standing) h) (declRules between-views)
+        fine-weight nameOf byName lineLength (λ d. leb (declSize d) 32768) (heavy (twice (twice declSize))) (heavy (twice (twice declSize)))
+            (x .standing) (y .standing) R Q (all-map (λ d p. le-leb (declSize d) 32768 p) (x .standing) h) (declRules between-views)
             (λ d. decl-weight _ _ d _ (omega arith)) (λ d. decl-weight _ _ d _ (omega arith))
-            (λ d e p. decls-weight between-views S T d e (leb-true (declSize d) 32768 p)),
-        total-heavy declSize (x .standing),
-        total-heavy declSize (y .standing),
+            (λ d e p. decls-weight between-views light S T d e (leb-true (declSize d) 32768 p)),
+        total-heavy (twice (twice declSize)) (x .standing),
+        total-heavy (twice (twice declSize)) (y .standing),
+        total-twice (twice declSize) (x .standing),
+        total-twice (twice declSize) (y .standing),
+        total-twice declSize (x .standing),
+        total-twice declSize (y .standing),
       ))

@@ -1,18 +1,20 @@
--- Both calls over byte lists, in stages: accept each image; refuse the pair; the changes; what is made of them. Assumes nothing.
+-- The calls over byte lists, in stages: accept an image and judge it alone; judge the pair; compare a view of each by a reading; make the
+-- verdict and the text. The stages are said once, over what a verdict is made of. Assumes nothing.
 use mathlib.Core.Bool.{cond}
-use mathlib.Core.List.{List, [], _∷_, _++_}
+use mathlib.Core.Option.{Option, none, some, orElse}
+use mathlib.Core.List.{List, [], _∷_}
 use Prim.Native.Nat.{ℕ, zero, suc}
-use lib.Dec.{leb}
-use lib.ListN.{length, getD, drop}
+use lib.ListN.{length}
 use Rattle.image.specs.Schema.{Schema}
 use Rattle.image.specs.Parse.{Parsed, ok, no}
 use Rattle.image.specs.Image.{readImage}
 use Rattle.rules.specs.Survivors.{View, viewOf}
-use Rattle.rules.specs.Types.{Reading, sameType}
+use Rattle.rules.specs.Types.{sameType}
 use Rattle.rules.specs.Changes.{Change, kindCount}
-use Rattle.rules.specs.Clauses.{changes}
+use Rattle.rules.specs.Clauses.{Reading, clausesBy, changes}
 use Rattle.rules.specs.Verdict.{bumpOf, resultOf, countOf, aliasPair}
 use Rattle.rules.specs.Report.{report}
+use Rattle.rules.specs.Outcome.{Outcome, refused, answered, select, fit, textLength, written}
 
 -- the sides: none 0, old 1, new 2, both 3
 abbrev pub oldSide : ℕ
@@ -24,76 +26,113 @@ newSide = 2
 abbrev pub bothSides : ℕ
 bothSides = 3
 
--- a refusal with its number and side, or the changes
-pub data Outcome : Type 0 where
-  refused : ℕ → ℕ → Outcome
-  compared : List Change → Outcome
+-- ---- what a verdict is made of
 
--- "Then 11", else the changes of the clauses
-unfoldable pub comparePair : Reading → View → View → Outcome
-comparePair same old new = cond (aliasPair old new) (refused 11 bothSides) (compared (changes same old new))
+-- why images that are accepted get no verdict
+pub record Fault : Type 0 where
+  pub number : ℕ
+  pub side : ℕ
 
--- "old before new; in each 1 .. Then 11". What is compared of a schema, and how types are read, are handed in.
-module _ (view : Schema → View) (same : Reading) where
-  unfoldable pub acceptNew : View → Parsed Schema → Outcome
-  acceptNew old (ok s n) = comparePair same old (view s)
-  acceptNew old (no k) = refused k newSide
+abbrev pub fault : ℕ → ℕ → Fault
+fault number side = record { number = number; side = side }
 
-  unfoldable pub acceptOld : Parsed Schema → Parsed Schema → Outcome
-  acceptOld (ok s n) new = acceptNew (view s) new
-  acceptOld (no k) new = refused k oldSide
+-- a check of two schemas: its fault, if it finds one
+abbrev pub Check : Type 0
+Check = Schema → Schema → Option Fault
 
-  unfoldable pub outcome : List ℕ → List ℕ → Outcome
-  outcome old new = acceptOld (readImage old) (readImage new)
+pub record Policy : Type 0 where
+  -- the check of one image, after its 1 to 10 and before the other is read: the number of its fault, if it finds one
+  pub alone : Schema → Option ℕ
+  -- the checks of the pair, in their order
+  pub pair : List Check
+  -- what is compared of a schema
+  pub view : Schema → View
+  -- and how
+  pub reading : Reading
 
--- survivors are compared, and types are read as document 01 says
-unfoldable pub checked : List ℕ → List ℕ → Outcome
-checked old new = outcome viewOf sameType old new
-
--- ---- the verdict call
+-- ---- the stages
 
 -- so many counts, from a kind on
 unfoldable pub counts : ℕ → ℕ → List Change → List ℕ
 counts zero kind cs = []
 counts (suc n) kind cs = countOf kind cs ∷ counts n (suc kind) cs
 
--- by selector: "0 the number, 1 the side .., 2 the bump .., 3 the result .., 4 the length, from 5 the counts in the order of `ChangeKind`"
--- "A refusal is number and side .., with bump Major, result Breaking, all counts and length 0"
-unfoldable pub selected : Outcome → List ℕ
-selected (refused number side) = number ∷ side ∷ 2 ∷ 1 ∷ []
-selected (compared cs) = 0 ∷ 0 ∷ bumpOf cs ∷ resultOf cs ∷ length (report cs) ∷ counts kindCount 0 cs
+-- what is told of changes: "the bump .., the result .., and the count for each of the .. names of `ChangeKind`"; the text is the report
+abbrev pub compared : List Change → Outcome
+compared cs =
+    answered (record { bump = bumpOf cs; result = resultOf cs; text = report cs; counts = counts kindCount 0 cs })
 
--- "a selector beyond them gives 0"
-unfoldable pub select : Outcome → ℕ → ℕ
-select o selector = getD (selected o) selector 0
+-- the fault of the first check that finds one
+unfoldable pub firstFault : List Check → Schema → Schema → Option Fault
+firstFault [] x y = none
+firstFault (c ∷ cs) x y = orElse (c x y) (firstFault cs x y)
 
-unfoldable pub verdictOf : List ℕ → List ℕ → ℕ → ℕ
-verdictOf old new selector = select (checked old new) selector
+-- refused with a fault, else what comes after
+unfoldable pub judged : Option Fault → Outcome → Outcome
+judged none o = o
+judged (some f) o = refused (f .number) (f .side)
 
--- ---- the report call, with a buffer
+-- an image alone has its own side
+unfoldable pub onSide : ℕ → Option ℕ → Option Fault
+onSide side none = none
+onSide side (some number) = some (fault number side)
 
--- "Then 11, then 12 (report only)": 12, "report longer than its buffer"
-unfoldable pub fit : ℕ → Outcome → Outcome
-fit room (refused number side) = refused number side
-fit room (compared cs) = cond (leb (length (report cs)) room) (compared cs) (refused 12 bothSides)
+-- "old before new; in each 1 .. Then 11"
+module _ (p : Policy) where
+  unfoldable pub comparePair : Schema → Schema → Outcome
+  comparePair x y = judged (firstFault (p .pair) x y) (compared (changes (p .reading) (p .view x) (p .view y)))
 
--- with a buffer of so many bytes
-unfoldable pub reported : List ℕ → List ℕ → ℕ → Outcome
-reported old new room = fit room (checked old new)
+  unfoldable pub acceptNew : Schema → Parsed Schema → Outcome
+  acceptNew x (ok y n) = judged (onSide newSide (p .alone y)) (comparePair x y)
+  acceptNew x (no k) = refused k newSide
 
--- "Its report call returns the length, 0 if refused."
-unfoldable pub reportLength : Outcome → ℕ
-reportLength (refused number side) = 0
-reportLength (compared cs) = length (report cs)
+  unfoldable pub acceptOld : Parsed Schema → Parsed Schema → Outcome
+  acceptOld (ok x n) new = judged (onSide oldSide (p .alone x)) (acceptNew x new)
+  acceptOld (no k) new = refused k oldSide
 
--- what it leaves in the buffer: "Bytes past the length stay"; "an untouched buffer"
-unfoldable pub written : Outcome → List ℕ → List ℕ
-written (refused number side) out = out
-written (compared cs) out = report cs ++ drop (length (report cs)) out
+  unfoldable pub outcome : List ℕ → List ℕ → Outcome
+  outcome old new = acceptOld (readImage old) (readImage new)
 
--- what it returns, and what it leaves in the buffer, by the buffer that it is lent
+  -- the verdict call, by its selector
+  unfoldable pub verdictBy : List ℕ → List ℕ → ℕ → ℕ
+  verdictBy old new selector = select (outcome old new) selector
+
+  -- the report call, with a buffer of so many bytes: "Then 11, then 12 (report only)", "11 and 12: both"
+  unfoldable pub reportBy : List ℕ → List ℕ → ℕ → Outcome
+  reportBy old new room = fit bothSides room (outcome old new)
+
+  -- what it returns, and what it leaves in the buffer, by the buffer that it is lent
+  abbrev pub returnedBy : List ℕ → List ℕ → List ℕ → ℕ
+  returnedBy old new out = textLength (reportBy old new (length out))
+
+  abbrev pub leavesBy : List ℕ → List ℕ → List ℕ → List ℕ
+  leavesBy old new out = written (reportBy old new (length out)) out
+
+-- ---- the verdict of document 01
+
+-- 11: "survivors of one name are generic aliases in both images"
+unfoldable pub aliasCheck : (Schema → View) → Check
+aliasCheck view x y = cond (aliasPair (view x) (view y)) (some (fault 11 bothSides)) none
+
+-- types are read as document 01 says
+abbrev pub plainReading : Reading
+plainReading = clausesBy sameType
+
+-- no check of one image alone; 11 of the pair; survivors are compared, by the clauses and nothing else
+abbrev pub plain : Policy
+plain = record { alone = λ s. none; pair = aliasCheck viewOf ∷ []; view = viewOf; reading = plainReading }
+
+abbrev pub checked : List ℕ → List ℕ → Outcome
+checked = outcome plain
+
+abbrev pub verdictOf : List ℕ → List ℕ → ℕ → ℕ
+verdictOf = verdictBy plain
+
+abbrev pub reported : List ℕ → List ℕ → ℕ → Outcome
+reported = reportBy plain
+
 abbrev pub returned : List ℕ → List ℕ → List ℕ → ℕ
-returned old new out = reportLength (reported old new (length out))
+returned = returnedBy plain
 
 abbrev pub leaves : List ℕ → List ℕ → List ℕ → List ℕ
-leaves old new out = written (reported old new (length out)) out
+leaves = leavesBy plain

@@ -1,5 +1,5 @@
 -- The eight clauses of document 01, "Clauses and verdict", named as the functions of compat.rs that they stand for. What they compare is
--- handed in: the views of the two schemas, and how types are read. Clauses 2 and 3 stand last, since they call on 4 to 8. Assumes nothing.
+-- handed in: the views of the two schemas, and how these are read. Clauses 2 and 3 stand last, since they call on 4 to 8. Assumes nothing.
 use mathlib.Core.Bool.{Bool, cond, not, _&&_, Bool·beq}
 use mathlib.Core.Option.{Option, none, some}
 use mathlib.Core.List.{List, [], _∷_, _++_, flatMap}
@@ -11,7 +11,7 @@ use Rattle.image.specs.Schema.{Name, Marks, Encoding, Ty, Field, Variant, Decl}
 use Rattle.image.specs.Words.{bytes, kindWord}
 use Rattle.rules.specs.Equal.{sameOption, sameName, sameNames}
 use Rattle.rules.specs.Survivors.{Registry, nameOf, ordinalOf, fieldMap, variantOrdinal, variantMap, View}
-use Rattle.rules.specs.Types.{Reading, resolve}
+use Rattle.rules.specs.Types.{resolve}
 use Rattle.text.specs.Decimal.{decimal}
 use Rattle.rules.specs.Text.{joined, boolWord, showType, showEncoding}
 use Rattle.rules.specs.Changes.{Bump, patch, minor, major, Change, change, only, quoted, numbered, fromTo, FieldAdded, FieldRemoved, FieldTypeChanged, FieldRenamed, FieldDeprecated, FieldEncodingChanged, VariantAdded, VariantRemoved, DeclarationAdded, DeclarationRemoved, DeclarationKindChanged, NamespaceChanged, NonExhaustiveChanged, FlagsBitAdded, FlagsBitRemoved}
@@ -26,20 +26,36 @@ compareNamespaces old new =
     only (not (sameNames old new))
     (change NamespaceChanged major [] none (bytes "namespace changed" ++ fromTo (showNamespace old) (showNamespace new)))
 
--- ---- a type that changed: of a field (clause 4) or of a newtype (clause 8)
+-- ---- how two schemas are read
 
--- how types are read, with the registries of the old and of the new image
-pub record Reader : Type 0 where
-  pub same : Reading
+-- How types are read, and what is reported besides the clauses: of two declarations of one kind, and of two variants of a union.
+pub record Reading : Type 0 where
+  -- whether the type of an old schema and that of a new one are equal, both resolved
+  pub same : Ty → Ty → Bool
+  -- of two declarations, before their clause and after it
+  pub first : Decl → Decl → List Change
+  pub last : Decl → Decl → List Change
+  -- of two variants, after their fields, under the name of clause 7
+  pub lastIn : Name → Variant → Variant → List Change
+
+-- types are read so, and nothing is reported besides the clauses
+abbrev pub clausesBy : (Ty → Ty → Bool) → Reading
+clausesBy same = record { same = same; first = λ d e. []; last = λ d e. []; lastIn = λ n v w. [] }
+
+-- what a clause is told besides what it compares: how, and with which registries, of the old schema and of the new
+pub record Context : Type 0 where
+  pub reading : Reading
   pub old : Registry
   pub new : Registry
 
-abbrev pub reader : Reading → Registry → Registry → Reader
-reader same old new = record { same = same; old = old; new = new }
+abbrev pub context : Reading → Registry → Registry → Context
+context reading old new = record { reading = reading; old = old; new = new }
 
-unfoldable pub compareTypes : Reader → Name → Option Name → List ℕ → Ty → Ty → List Change
+-- ---- a type that changed: of a field (clause 4) or of a newtype (clause 8)
+
+unfoldable pub compareTypes : Context → Name → Option Name → List ℕ → Ty → Ty → List Change
 compareTypes r d field what t u =
-    only (not (r .same (resolve (r .old) t) (resolve (r .new) u)))
+    only (not (r .reading .same (resolve (r .old) t) (resolve (r .new) u)))
     (change FieldTypeChanged major d field
     (what ++ (bytes " type changed" ++ fromTo (showType (resolve (r .old) t)) (showType (resolve (r .new) u)))))
 
@@ -70,25 +86,25 @@ compareDeprecated d field target old new =
     only (not (old .deprecated) && new .deprecated)
     (change FieldDeprecated patch d field (target ++ bytes " was marked @deprecated"))
 
-unfoldable pub compareFields : Reader → Name → Field → Field → List Change
+unfoldable pub compareFields : Context → Name → Field → Field → List Change
 compareFields r d f g =
     compareFieldNames d f g
     ++ (compareTypes r d (some (g .name)) (fieldText g) (f .type) (g .type)
     ++ (compareEncodings d f g
     ++ compareDeprecated d (some (g .name)) (bytes "field " ++ quoted (g .name)) (f .marks) (g .marks)))
 
-unfoldable pub fieldRules : Reader → Name → Rules Field Change
+unfoldable pub fieldRules : Context → Name → Rules Field Change
 fieldRules r d = record {
   gone = λ f. change FieldRemoved major d (some (f .name)) (fieldText f ++ bytes " was removed") ∷ [];
   came = λ f. change FieldAdded major d (some (f .name)) (fieldText f ++ bytes " was added") ∷ [];
   kept = λ f g. compareFields r d f g;
 }
 
-unfoldable pub compareFieldSets : Reader → Name → List Field → List Field → List Change
+unfoldable pub compareFieldSets : Context → Name → List Field → List Field → List Change
 compareFieldSets r d old new = compare ordinalOf ltb (fieldRules r d) (fieldMap old) (fieldMap new)
 
 -- Message: then its own `FieldDeprecated`.
-unfoldable pub compareMessages : Reader → Name → Decl → Decl → List Change
+unfoldable pub compareMessages : Context → Name → Decl → Decl → List Change
 compareMessages r d old new =
     compareFieldSets r d (old .fields) (new .fields)
     ++ compareDeprecated d none (bytes "declaration") (old .marks) (new .marks)
@@ -143,25 +159,25 @@ compareFlags d old new = compare variantOrdinal ltb (flagsRules d) (variantMap (
 unfoldable pub variantDecl : Name → Variant → Name
 variantDecl d v = d ++ (bytes "::" ++ v .name)
 
-unfoldable pub unionRules : Reader → Name → Rules Variant Change
+unfoldable pub unionRules : Context → Name → Rules Variant Change
 unionRules r d = record {
   gone = variantGone d;
   came = variantCame minor d;
-  kept = λ v w. compareFieldSets r (variantDecl d v) (v .fields) (w .fields);
+  kept = λ v w. compareFieldSets r (variantDecl d v) (v .fields) (w .fields) ++ r .reading .lastIn (variantDecl d v) v w;
 }
 
-unfoldable pub compareUnions : Reader → Name → Decl → Decl → List Change
+unfoldable pub compareUnions : Context → Name → Decl → Decl → List Change
 compareUnions r d old new = compare variantOrdinal ltb (unionRules r d) (variantMap (old .variants)) (variantMap (new .variants))
 
 -- ---- 8. Newtype: `FieldTypeChanged` Major.
 
-unfoldable pub compareNewtypes : Reader → Name → Decl → Decl → List Change
+unfoldable pub compareNewtypes : Context → Name → Decl → Decl → List Change
 compareNewtypes r d old new = compareTypes r d none (bytes "newtype " ++ (quoted d ++ bytes " inner")) (old .inner) (new .inner)
 
 -- ---- 3. Per shared name: kinds differ, `DeclarationKindChanged` Major and no more. Config, trait, impl: silent; so is a generic alias, of
 -- which a pair is refused.
 
-unfoldable pub compareKind : ℕ → Reader → Decl → Decl → List Change
+unfoldable pub compareKind : ℕ → Context → Decl → Decl → List Change
 compareKind zero r old new = compareMessages r (old .name) old new
 compareKind (suc zero) r old new = compareEnums (old .name) old new
 compareKind (suc (suc zero)) r old new = compareFlags (old .name) old new
@@ -174,15 +190,19 @@ kindChanged old new =
     change DeclarationKindChanged major (old .name) none
     (quoted (old .name) ++ (bytes " changed" ++ fromTo (kindWord (old .kind)) (kindWord (new .kind)))) ∷ []
 
-unfoldable pub compareDecls : Reader → Decl → Decl → List Change
-compareDecls r old new = cond (eqb (old .kind) (new .kind)) (compareKind (old .kind) r old new) (kindChanged old new)
+-- of one kind: its clause, between what is reported besides
+unfoldable pub compareAlike : Context → Decl → Decl → List Change
+compareAlike r old new = r .reading .first old new ++ (compareKind (old .kind) r old new ++ r .reading .last old new)
+
+unfoldable pub compareDecls : Context → Decl → Decl → List Change
+compareDecls r old new = cond (eqb (old .kind) (new .kind)) (compareAlike r old new) (kindChanged old new)
 
 -- ---- 2. `DeclarationRemoved` Major, then `DeclarationAdded` Minor.
 
 unfoldable pub declText : Decl → List ℕ
 declText d = kindWord (d .kind) ++ (bytes " " ++ quoted (d .name))
 
-unfoldable pub declRules : Reader → Rules Decl Change
+unfoldable pub declRules : Context → Rules Decl Change
 declRules r = record {
   gone = λ d. change DeclarationRemoved major (d .name) none (declText d ++ bytes " was removed") ∷ [];
   came = λ d. change DeclarationAdded minor (d .name) none (declText d ++ bytes " was added") ∷ [];
@@ -192,9 +212,9 @@ declRules r = record {
 -- ---- all clauses, in report order
 
 unfoldable pub changes : Reading → View → View → List Change
-changes same old new =
+changes reading old new =
     compareNamespaces (old .namespace) (new .namespace)
-    ++ compare nameOf before (declRules (reader same (old .registry) (new .registry))) (old .standing) (new .standing)
+    ++ compare nameOf before (declRules (context reading (old .registry) (new .registry))) (old .standing) (new .standing)
 
 -- ---- "The types compared in an image are those of surviving newtypes and of surviving fields in surviving messages and in surviving
 -- variants of surviving unions"

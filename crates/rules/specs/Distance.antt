@@ -46,8 +46,8 @@ module _ (verdict : Image → Image → ℕ → ℕ) where
   distance a b = verdict a b 2
 
   -- the count of a kind of change
-  unfoldable pub counted : ℕ → Image → Image → ℕ
-  counted kind a b = verdict a b (5 + kind)
+  unfoldable pub countBetween : ℕ → Image → Image → ℕ
+  countBetween kind a b = verdict a b (5 + kind)
 
   -- each image of a list against the next gets a verdict
   unfoldable pub Steps : Image → List Image → Type 0
@@ -62,11 +62,11 @@ module _ (verdict : Image → Image → ℕ → ℕ) where
   -- "each of the counts of removed declarations, fields, variants and flag bits one way equals the count of the same added the other way.
   -- All other counts, except that of deprecations, are the same both ways."
   pub record Swapped (a b : Image) : Type 0 where
-    pub declarations : counted DeclarationRemoved a b ≡ counted DeclarationAdded b a
-    pub fields : counted FieldRemoved a b ≡ counted FieldAdded b a
-    pub variants : counted VariantRemoved a b ≡ counted VariantAdded b a
-    pub bits : counted FlagsBitRemoved a b ≡ counted FlagsBitAdded b a
-    pub others : All (λ kind. counted kind a b ≡ counted kind b a) otherKinds
+    pub declarations : countBetween DeclarationRemoved a b ≡ countBetween DeclarationAdded b a
+    pub fields : countBetween FieldRemoved a b ≡ countBetween FieldAdded b a
+    pub variants : countBetween VariantRemoved a b ≡ countBetween VariantAdded b a
+    pub bits : countBetween FlagsBitRemoved a b ≡ countBetween FlagsBitAdded b a
+    pub others : All (λ kind. countBetween kind a b ≡ countBetween kind b a) otherKinds
 
   -- `odd` says of which images the distance to themselves is not 0.
   pub record DistanceRule (odd : Image → Bool) : Type 0 where

@@ -1,5 +1,5 @@
 -- What is right, in the order of document 01: Survivors, Types, Text (how types are shown), Changes, Clauses (the eight clauses),
--- Verdict, Report; Answer: both calls over byte lists. Equal: tests of equality.
+-- Verdict, Report; Outcome, Answer: the calls over byte lists. Equal: tests of equality.
 -- Statements that are proved of them: Refusals (when each number is given), Distance (demand 3), Edges (document 01's edges), Pinned (what
 -- the Rust answered).
 pub mod Equal
@@ -10,6 +10,7 @@ pub mod Changes
 pub mod Clauses
 pub mod Verdict
 pub mod Report
+pub mod Outcome
 pub mod Answer
 pub mod Refusals
 pub mod Distance

@@ -8,8 +8,9 @@ use Prim.Native.Char.{Char, code}
 use lib.Dec.{leb}
 use Rattle.image.specs.Words.{bytes}
 use Rattle.rules.specs.Changes.{DeclarationAdded, DeclarationRemoved}
-use Rattle.rules.specs.Answer.{checked, selected, written, verdictOf}
-use Rattle.rules.specs.Distance.{Verdict, distance, counted, Steps}
+use Rattle.rules.specs.Outcome.{selected, written}
+use Rattle.rules.specs.Answer.{checked, verdictOf}
+use Rattle.rules.specs.Distance.{Verdict, distance, countBetween, Steps}
 
 -- ---- images in hexadecimal
 
@@ -198,5 +199,5 @@ pub record Pinned : Type 0 where
   -- a swap with different bumps each way
   pub there : distance verdictOf nothing config ≡ 1
   pub back : distance verdictOf config nothing ≡ 2
-  pub added : counted verdictOf DeclarationAdded nothing config ≡ 1
-  pub removed : counted verdictOf DeclarationRemoved config nothing ≡ 1
+  pub added : countBetween verdictOf DeclarationAdded nothing config ≡ 1
+  pub removed : countBetween verdictOf DeclarationRemoved config nothing ≡ 1

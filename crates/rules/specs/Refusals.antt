@@ -2,7 +2,7 @@
 -- refused, and that its numbers are 1 to 10, is said by the crate refusals. Assumes nothing.
 use mathlib.Core.Path.{_≡_}
 use mathlib.Core.Logic.{_↔_}
-use mathlib.Core.Option.{some}
+use mathlib.Core.Option.{none, some}
 use mathlib.Core.List.{List}
 use Prim.Native.Nat.{ℕ, _≤_, _<_}
 use Rattle.maps.specs.Keyed.{lookup}
@@ -11,10 +11,70 @@ use Rattle.image.specs.Schema.{Name, Decl, Schema}
 use Rattle.image.specs.Parse.{ok, no}
 use Rattle.image.specs.Image.{readImage}
 use Rattle.rules.specs.Survivors.{nameOf, declarations}
-use Rattle.rules.specs.Answer.{select, verdictOf, reported, reportLength, written}
+use Rattle.rules.specs.Clauses.{changes}
+use Rattle.rules.specs.Outcome.{Outcome, refused, select, textLength, written}
+use Rattle.rules.specs.Answer.{oldSide, newSide, Fault, Policy, compared, firstFault, outcome, verdictBy, reportBy, verdictOf, reported}
+
+-- "A refusal is number and side .., with bump Major, result Breaking, all counts and length 0": by selector
+pub record Refusal (answer : ℕ → ℕ) : Type 0 where
+  pub bump : answer 2 ≡ 2
+  pub result : answer 3 ≡ 1
+  pub rest : (n : ℕ) → 4 ≤ n → answer n ≡ 0
+
+-- ---- of any verdict
+
+-- the image is accepted, and passes the check of one image
+pub record Passes (p : Policy) (image : List ℕ) (x : Schema) : Type 0 where
+  pub end : ℕ
+  pub read : readImage image ≡ ok x end
+  pub alone : p .alone x ≡ none
+
+-- where two images are decided, and to what outcome
+pub data Decided (p : Policy) (old new : List ℕ) : Outcome → Type 0 where
+  -- 1 to 10, "old before new", and after them the check of one image
+  oldRefused : {k : ℕ} → readImage old ≡ no k → Decided p old new (refused k oldSide)
+  oldAlone : {x : Schema} {end k : ℕ} → readImage old ≡ ok x end → p .alone x ≡ some k → Decided p old new (refused k oldSide)
+  newRefused : {x : Schema} {k : ℕ} → Passes p old x → readImage new ≡ no k → Decided p old new (refused k newSide)
+  newAlone : {x y : Schema} {end k : ℕ} → Passes p old x → readImage new ≡ ok y end → p .alone y ≡ some k
+      → Decided p old new (refused k newSide)
+  -- the checks of the pair
+  pairRefused : {x y : Schema} {f : Fault} → Passes p old x → Passes p new y → firstFault (p .pair) x y ≡ some f
+      → Decided p old new (refused (f .number) (f .side))
+  verdict : {x y : Schema} → Passes p old x → Passes p new y → firstFault (p .pair) x y ≡ none
+      → Decided p old new (compared (changes (p .reading) (p .view x) (p .view y)))
+
+-- a number that neither says that there is a verdict nor that a buffer is full
+abbrev pub Own : ℕ → Type 0
+Own k = (k ≡ 0 → ⊥) × (k ≡ 12 → ⊥)
+
+-- the numbers of a policy's checks are such
+pub record Numbered (p : Policy) : Type 0 where
+  pub alone : (x : Schema) (k : ℕ) → p .alone x ≡ some k → Own k
+  pub pair : (x y : Schema) (f : Fault) → firstFault (p .pair) x y ≡ some f → Own (f .number)
+
+pub record PolicyRefusals (p : Policy) (old new : List ℕ) : Type 0 where
+  -- an outcome is that of the two images exactly if they are decided so
+  pub exactly : (o : Outcome) → (outcome p old new ≡ o) ↔ Decided p old new o
+  -- "A verdict has number 0 and side none."
+  pub noSide : verdictBy p old new 0 ≡ 0 → verdictBy p old new 1 ≡ 0
+  pub refusal : (verdictBy p old new 0 ≡ 0 → ⊥) → Refusal (verdictBy p old new)
+
+-- of the report call, with a buffer of so many bytes
+pub record ReportRefusals (p : Policy) (old new : List ℕ) (room : ℕ) : Type 0 where
+  -- 12: "report longer than its buffer"
+  pub full : (select (reportBy p old new room) 0 ≡ 12) ↔ ((verdictBy p old new 0 ≡ 0) × (room < verdictBy p old new 4))
+  pub bothSides : select (reportBy p old new room) 0 ≡ 12 → select (reportBy p old new room) 1 ≡ 3
+  -- otherwise all is as in the verdict
+  pub fits : (select (reportBy p old new room) 0 ≡ 12 → ⊥) → (n : ℕ) → select (reportBy p old new room) n ≡ verdictBy p old new n
+  pub refusal : (select (reportBy p old new room) 0 ≡ 0 → ⊥) → Refusal (select (reportBy p old new room))
+  -- "Its report call returns the length, 0 if refused", and leaves "an untouched buffer"
+  pub nothing : (select (reportBy p old new room) 0 ≡ 0 → ⊥) → textLength (reportBy p old new room) ≡ 0
+  pub untouched : (select (reportBy p old new room) 0 ≡ 0 → ⊥) → (out : List ℕ) → written (reportBy p old new room) out ≡ out
+
+-- ---- of the verdict of document 01
 
 -- both images are accepted, and P holds of what they hold
-pub record Accepted (old new : List ℕ) (P : Schema → Schema → Type 0) : Type 0 where
+pub record AcceptedPair (old new : List ℕ) (P : Schema → Schema → Type 0) : Type 0 where
   pub oldSchema : Schema
   pub newSchema : Schema
   pub oldEnd : ℕ
@@ -42,18 +102,12 @@ pub record AliasPair (old new : Schema) : Type 0 where
   pub inOld : Alias name old
   pub inNew : Alias name new
 
--- "A refusal is number and side .., with bump Major, result Breaking, all counts and length 0": by selector
-pub record Refusal (answer : ℕ → ℕ) : Type 0 where
-  pub bump : answer 2 ≡ 2
-  pub result : answer 3 ≡ 1
-  pub rest : (n : ℕ) → 4 ≤ n → answer n ≡ 0
-
 -- of the verdict call
 pub record VerdictRefusals (old new : List ℕ) : Type 0 where
   -- "Two images get one exactly if none of 1 to 11 applies to them": the number is 0
-  pub verdict : (verdictOf old new 0 ≡ 0) ↔ Accepted old new (λ x y. AliasPair x y → ⊥)
+  pub verdict : (verdictOf old new 0 ≡ 0) ↔ AcceptedPair old new (λ x y. AliasPair x y → ⊥)
   -- 11
-  pub aliasPair : (verdictOf old new 0 ≡ 11) ↔ Accepted old new AliasPair
+  pub aliasPair : (verdictOf old new 0 ≡ 11) ↔ AcceptedPair old new AliasPair
   -- 1 to 10, "old before new"
   pub oldRefused : (k : ℕ) → ((verdictOf old new 0 ≡ k) × (verdictOf old new 1 ≡ 1)) ↔ (readImage old ≡ no k)
   pub newRefused : (k : ℕ) → ((verdictOf old new 0 ≡ k) × (verdictOf old new 1 ≡ 2)) ↔ NewRefused old new k
@@ -61,15 +115,6 @@ pub record VerdictRefusals (old new : List ℕ) : Type 0 where
   pub noSide : verdictOf old new 0 ≡ 0 → verdictOf old new 1 ≡ 0
   pub bothSides : verdictOf old new 0 ≡ 11 → verdictOf old new 1 ≡ 3
   pub refusal : (verdictOf old new 0 ≡ 0 → ⊥) → Refusal (verdictOf old new)
-
--- of the report call, with a buffer of so many bytes
-pub record ReportRefusals (old new : List ℕ) (room : ℕ) : Type 0 where
-  -- 12: "report longer than its buffer"
-  pub full : (select (reported old new room) 0 ≡ 12) ↔ ((verdictOf old new 0 ≡ 0) × (room < verdictOf old new 4))
-  pub bothSides : select (reported old new room) 0 ≡ 12 → select (reported old new room) 1 ≡ 3
-  -- otherwise all is as in the verdict
-  pub fits : (select (reported old new room) 0 ≡ 12 → ⊥) → (n : ℕ) → select (reported old new room) n ≡ verdictOf old new n
-  pub refusal : (select (reported old new room) 0 ≡ 0 → ⊥) → Refusal (select (reported old new room))
-  -- "Its report call returns the length, 0 if refused", and leaves "an untouched buffer"
-  pub nothing : (select (reported old new room) 0 ≡ 0 → ⊥) → reportLength (reported old new room) ≡ 0
-  pub untouched : (select (reported old new room) 0 ≡ 0 → ⊥) → (out : List ℕ) → written (reported old new room) out ≡ out
+  -- the number is one of 0 to 11, and the report's, with a buffer of so many bytes, one of 0 to 12
+  pub most : verdictOf old new 0 ≤ 11
+  pub mostReported : (room : ℕ) → select (reported old new room) 0 ≤ 12

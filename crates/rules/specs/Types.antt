@@ -48,10 +48,6 @@ sameType (two l t w) (leaf m) = false
 sameType (two l t w) (one m u) = false
 sameType (two l t w) (two m u v) = equalLabel l m && (sameType t u && sameType w v)
 
--- how resolved types are read: whether the type of an old image and that of a new one are equal
-abbrev pub Reading : Type 0
-Reading = Ty → Ty → Bool
-
 -- "a type holds every node of its tree, the root included, and a named node is not entered": whether one is a vector, quaternion or matrix
 unfoldable pub holdsVector : Ty → Bool
 holdsVector (leaf l) = vector (l .tag)
