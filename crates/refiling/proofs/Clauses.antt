@@ -2,7 +2,7 @@
 use mathlib.Core.Path.{_≡_, refl, sym, ap, _∙_}
 use mathlib.Core.Bool.{Bool, true, false, cond}
 use mathlib.Core.Option.{Option, none, some}
-use mathlib.Core.List.{List, [], Forall₂}
+use mathlib.Core.List.{List, [], _++_, Forall₂}
 use Prim.Native.Nat.{ℕ, zero, suc}
 use lib.Dec.{eqb, ltb}
 use borrow.Author.Tests.{eqb-true}
@@ -14,9 +14,9 @@ use Rattle.maps.proofs.Reorderings.{reordered-all}
 use Rattle.maps.proofs.Alike.{survivors-once, compare-alike}
 use Rattle.image.specs.Schema.{Name, Label, label, Ty, Field, Variant, Decl}
 use Rattle.rules.specs.Survivors.{Registry, declOf, nameOf, ordinalOf, fieldMap, variantOrdinal, variantMap}
-use Rattle.rules.specs.Types.{Reading, nameIn, resolveLabel, resolve}
+use Rattle.rules.specs.Types.{nameIn, resolveLabel, resolve}
 use Rattle.rules.specs.Changes.{Bump, Change}
-use Rattle.rules.specs.Clauses.{Reader, reader, compareTypes, fieldText, compareFieldNames, compareEncodings, compareDeprecated, compareFields, fieldRules, compareFieldSets, compareMessages, variantText, variantGone, variantCame, enumRules, compareEnums, bitText, flagsRules, compareFlags, variantDecl, unionRules, compareUnions, compareNewtypes, compareKind, kindChanged, compareDecls, declText, declRules}
+use Rattle.rules.specs.Clauses.{clausesBy, Context, context, compareTypes, fieldText, compareFieldNames, compareEncodings, compareDeprecated, compareFields, fieldRules, compareFieldSets, compareMessages, variantText, variantGone, variantCame, enumRules, compareEnums, bitText, flagsRules, compareFlags, variantDecl, unionRules, compareUnions, compareNewtypes, compareKind, kindChanged, compareAlike, compareDecls, declText, declRules}
 use Rattle.refiling.specs.Refiling.{Impls, NumbersOnce, Unresolvable, Resolvable, RefiledId, renumbered, unresolvable, RefiledLabel, named, other, RefiledType, aLeaf, aOne, aTwo, RefiledField, RefiledVariant, RefiledDecl, Renumbered}
 
 -- ---- ids, types
@@ -103,13 +103,13 @@ module _ {R S : Registry} {to : ℕ → ℕ} {d e : Decl} where
 
 -- ---- the clauses, of an old and of a new side that are each filed anew
 
-module _ (same : Reading) {R R′ S S′ : Registry} {to from to′ from′ : ℕ → ℕ} (M : Renumbered R R′ to from) (N : Renumbered S S′ to′ from′) where
-  -- the readers before and after
-  abbrev first : Reader
-  first = reader same R S
+module _ (same : Ty → Ty → Bool) {R R′ S S′ : Registry} {to from to′ from′ : ℕ → ℕ} (M : Renumbered R R′ to from) (N : Renumbered S S′ to′ from′) where
+  -- before and after
+  abbrev first : Context
+  first = context (clausesBy same) R S
 
-  abbrev second : Reader
-  second = reader same R′ S′
+  abbrev second : Context
+  second = context (clausesBy same) R′ S′
 
   -- what became what, on the old side and on the new
   abbrev OldField : Field → Field → Type 0
@@ -196,8 +196,9 @@ module _ (same : Reading) {R R′ S S′ : Registry} {to from to′ from′ : �
     unions-same =
         variants-same (unionRules first name) (unionRules second name) (variant-gone name) (variant-came _ name)
         (λ v v′ w w′ x y.
-        fieldSets-same (variantDecl name v) (v .fields) (v′ .fields) (w .fields) (w′ .fields) (x .1) (y .1) (x .0 .fields) (y .0 .fields)
-        ∙ ap (λ z. compareFieldSets second z (v′ .fields) (w′ .fields)) (variant-decl name v v′ x))
+        ap (λ (z : List Change). z ++ []) (fieldSets-same (variantDecl name v) (v .fields) (v′ .fields) (w .fields) (w′ .fields) (x .1) (y .1)
+        (x .0 .fields) (y .0 .fields)
+        ∙ ap (λ z. compareFieldSets second z (v′ .fields) (w′ .fields)) (variant-decl name v v′ x)))
         d d′ e e′ m n a b
 
     newtypes-same : compareNewtypes first name d e ≡ compareNewtypes second name d′ e′
@@ -225,7 +226,7 @@ module _ (same : Reading) {R R′ S S′ : Registry} {to from to′ from′ : �
   NewDecl = LikeDecl S S′ to′
 
   -- impls are silent
-  impl-silent : (r : Reader) (d e : Decl) (k : ℕ) → k ≡ 8 → compareKind k r d e ≡ []
+  impl-silent : (r : Context) (d e : Decl) (k : ℕ) → k ≡ 8 → compareKind k r d e ≡ []
   unfolding compareKind
   impl-silent r d e k p = rw p
 
@@ -242,15 +243,16 @@ module _ (same : Reading) {R R′ S S′ : Registry} {to from to′ from′ : �
   changed-same d d′ e e′ a b = cc (like-name a, like-kind a, like-kind b)
 
   decls-same : (d d′ e e′ : Decl) → OldDecl d d′ → NewDecl e e′ → compareDecls first d e ≡ compareDecls second d′ e′
-  unfolding compareDecls
+  unfolding compareDecls compareAlike
   decls-same d d′ e e′ a b =
-      ap (cond (eqb (d .kind) (e .kind)) (compareKind (d .kind) first d e)) (changed-same d d′ e e′ a b)
+      ap (cond (eqb (d .kind) (e .kind)) (compareKind (d .kind) first d e ++ [])) (changed-same d d′ e e′ a b)
       ∙ go (eqb (d .kind) (e .kind)) refl
       ∙ cc (like-kind a, like-kind b)
     where
       go : (t : Bool) → eqb (d .kind) (e .kind) ≡ t
-          → cond t (compareKind (d .kind) first d e) (kindChanged d′ e′) ≡ cond t (compareKind (d .kind) second d′ e′) (kindChanged d′ e′)
-      go true p = kind-same d d′ e e′ a b (eqb-true (d .kind) (e .kind) p)
+          → cond t (compareKind (d .kind) first d e ++ []) (kindChanged d′ e′)
+          ≡ cond t (compareKind (d .kind) second d′ e′ ++ []) (kindChanged d′ e′)
+      go true p = ap (λ (z : List Change). z ++ []) (kind-same d d′ e e′ a b (eqb-true (d .kind) (e .kind) p))
       go false p = refl
 
   decl-gone : (d d′ : Decl) → OldDecl d d′ → declRules first .gone d ≡ declRules second .gone d′

@@ -6,8 +6,9 @@ use lib.ListN.{length, take}
 use Rattle.image.specs.Schema.{Schema}
 use Rattle.image.specs.Parse.{ok}
 use Rattle.image.specs.Image.{readImage}
-use Rattle.rules.specs.Types.{sameType}
-use Rattle.rules.specs.Answer.{Outcome, acceptNew, acceptOld, outcome, checked, select, verdictOf, fit, reported, reportLength, written}
+use Rattle.rules.specs.Outcome.{Outcome, select, fit, textLength, written}
+use Rattle.rules.specs.Answer.{bothSides, judged, onSide, acceptNew, acceptOld, outcome, verdictBy, reportBy, plain, checked}
+use Rattle.rules.proofs.Answer.{plain-numbered}
 use Rattle.rules.proofs.Calls.{room-enough, same-text}
 use Rattle.refiling.specs.Refiling.{ListedOnce, Refiled, RefiledImage, Holds, SameAnswers, FilingOrder}
 use Rattle.refiling.proofs.Standing.{changes-refiled, pair-refiled}
@@ -16,30 +17,30 @@ use Rattle.refiling.proofs.Repeats.{no-repeats-listed, entries-once-lis
 module _ (old new old′ new′ : List ℕ) where
   -- all that the calls answer is made of the outcome
   same-answers : checked old new ≡ checked old′ new′ → SameAnswers old new old′ new′
-  unfolding verdictOf reported
+  unfolding verdictBy reportBy
   same-answers e = record {
     outcome = e;
     verdict = λ selector. ap (λ o. select o selector) e;
     returns = λ out. ap (returnedOf out) e;
     buffer = λ out. ap (leavesOf out) e;
-    lengths = λ out out′ h h′. room-enough old new out h ∙ (sym (room-enough old new out′ (held out′ h′)) ∙ ap (returnedOf out′) e);
-    report = λ out out′ h h′. same-text old new out out′ h (held out′ h′) ∙ ap (λ o. take (returnedOf out′ o) (leavesOf out′ o)) e;
+    lengths = λ out out′ h h′. room-enough plain plain-numbered old new out h ∙ (sym (room-enough plain plain-numbered old new out′ (held out′ h′)) ∙ ap (returnedOf out′) e);
+    report = λ out out′ h h′. same-text plain plain-numbered old new out out′ h (held out′ h′) ∙ ap (λ o. take (returnedOf out′ o) (leavesOf out′ o)) e;
   }
     where
       held : (out : List ℕ) → Holds old′ new′ out → Holds old new out
       held out h = rw (ap (λ o. select o 4) e) h
 
       returnedOf : List ℕ → Outcome → ℕ
-      returnedOf out o = reportLength (fit (length out) o)
+      returnedOf out o = textLength (fit bothSides (length out) o)
 
       leavesOf : List ℕ → Outcome → List ℕ
-      leavesOf out o = written (fit (length out) o) out
+      leavesOf out o = written (fit bothSides (length out) o) out
 
   listed-once : RefiledImage ListedOnce old old′ → RefiledImage ListedOnce new new′ → SameAnswers old new old′ new′
-  unfolding checked outcome acceptOld acceptNew
+  unfolding outcome acceptOld acceptNew onSide judged
   listed-once a b =
       same-answers
-      (rw (a .beforeRead, a .afterRead, b .beforeRead, b .afterRead) (pair-refiled (a .holds) (b .holds) (a .refiled) (b .refiled) sameType))
+      (rw (a .beforeRead, a .afterRead, b .beforeRead, b .afterRead) (pair-refiled (a .holds) (b .holds) (a .refiled) (b .refiled)))
 
 -- two accepted images, by what they hold
 pub refiled-image : {P : Schema → Type 0} {a b : List ℕ} {s t : Schema} {m n : ℕ} → readImage a ≡ ok s m → readImage b ≡ ok t n → P s → Refiled s t
@@ -64,5 +65,5 @@ filing-order = record {
   noRepeats = λ old new old′ new′ a b. listed-once old new old′ new′ (less no-repeats-listed a) (less no-repeats-listed b);
   entriesOnce = λ old new old′ new′ a b. listed-once old new old′ new′ (less entries-once-listed a) (less entries-once-listed b);
   listedOnce = listed-once;
-  anyReading = λ same old new old′ new′ o n a b. changes-refiled o n a b same;
+  anyTypes = λ same old new old′ new′ o n a b. changes-refiled o n a b same;
 }

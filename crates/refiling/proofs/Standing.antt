@@ -11,12 +11,12 @@ use Rattle.maps.specs.Reordered.{Put, here, later, Reordered, nothing, each, Ea
 use Rattle.maps.proofs.Names.{byName}
 use Rattle.maps.proofs.Reorderings.{In, each-two, reordered-map, reordered-all}
 use Rattle.maps.proofs.Alike.{Both, neither, these, survivors-alike, lookup-alike}
-use Rattle.image.specs.Schema.{Decl, Schema}
+use Rattle.image.specs.Schema.{Ty, Decl, Schema}
 use Rattle.rules.specs.Survivors.{Registry, declOf, resolved, listed, nameOf, declarations, viewOf}
-use Rattle.rules.specs.Types.{Reading}
-use Rattle.rules.specs.Clauses.{changes}
+use Rattle.rules.specs.Types.{sameType}
+use Rattle.rules.specs.Clauses.{clausesBy, changes}
 use Rattle.rules.specs.Verdict.{alias, isAlias, any, aliasPair}
-use Rattle.rules.specs.Answer.{comparePair}
+use Rattle.rules.specs.Answer.{firstFault, comparePair, aliasCheck, plain}
 use Rattle.refiling.specs.Refiling.{Impls, NumbersOnce, ListedOnce, Unresolvable, RefiledId, renumbered, unresolvable, RefiledDecl, Renumbered, Refiled}
 use Rattle.refiling.proofs.Clauses.{moved, impls-turn, LikeDecl, refiled, impls, like-name, like-kind, all-same}
 
@@ -96,7 +96,8 @@ alias-found w d e x = cc (alias-same x, like-name x, isAlias-same (lookup-alike 
 
 module _ {old old′ new new′ : Schema} (o : ListedOnce old) (n : ListedOnce new) (a : Refiled old old′) (b : Refiled new new′) where
   -- for any way to read types
-  pub changes-refiled : (same : Reading) → changes same (viewOf old) (viewOf new) ≡ changes same (viewOf old′) (viewOf new′)
+  pub changes-refiled : (same : Ty → Ty → Bool)
+      → changes (clausesBy same) (viewOf old) (viewOf new) ≡ changes (clausesBy same) (viewOf old′) (viewOf new′)
   unfolding changes viewOf
   changes-refiled same =
       cc (a .namespace, b .namespace, all-same same (a .registry) (b .registry) (standing-alike old old′ o a) (standing-alike new new′ n b))
@@ -105,6 +106,6 @@ module _ {old old′ new new′ : Schema} (o : ListedOnce old) (n : ListedOnce n
   unfolding aliasPair viewOf
   alias-refiled = any-alike _ _ (alias-found (standing-alike new new′ n b)) (standing-alike old old′ o a)
 
-  pub pair-refiled : (same : Reading) → comparePair same (viewOf old) (viewOf new) ≡ comparePair same (viewOf old′) (viewOf new′)
-  unfolding comparePair
-  pair-refiled same = rw (alias-refiled, changes-refiled same)
+  pub pair-refiled : comparePair plain old new ≡ comparePair plain old′ new′
+  unfolding comparePair firstFault aliasCheck
+  pair-refiled = rw (alias-refiled, changes-refiled sameType)

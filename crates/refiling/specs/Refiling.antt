@@ -2,6 +2,7 @@
 -- the calls then. Assumes nothing.
 use mathlib.Core.Path.{_≡_}
 use mathlib.Core.Logic.{_⊎_}
+use mathlib.Core.Bool.{Bool}
 use mathlib.Core.Option.{none, some}
 use mathlib.Core.List.{List, [], _∷_}
 use Prim.Native.Nat.{ℕ, _≤_}
@@ -12,8 +13,7 @@ use Rattle.image.specs.Schema.{Name, Label, label, Ty, leaf, one, two, Field, V
 use Rattle.image.specs.Parse.{ok}
 use Rattle.image.specs.Image.{readImage}
 use Rattle.rules.specs.Survivors.{Registry, declOf, resolved, listed, ordinalOf, variantOrdinal, viewOf}
-use Rattle.rules.specs.Types.{Reading}
-use Rattle.rules.specs.Clauses.{changes}
+use Rattle.rules.specs.Clauses.{clausesBy, changes}
 use Rattle.rules.specs.Answer.{checked, verdictOf, returned, leaves}
 
 -- ---- "Take images in which no two resolvable declarations share a name, impls among themselves excepted, and no two numbers repeat within
@@ -164,5 +164,5 @@ pub record FilingOrder : Type 0 where
   pub noRepeats : Unaffected NoRepeats
   pub entriesOnce : Unaffected EntriesOnce
   pub listedOnce : Unaffected ListedOnce
-  pub anyReading : (same : Reading) (old new old′ new′ : Schema) → ListedOnce old → ListedOnce new → Refiled old old′ → Refiled new new′
-      → changes same (viewOf old) (viewOf new) ≡ changes same (viewOf old′) (viewOf new′)
+  pub anyTypes : (same : Ty → Ty → Bool) (old new old′ new′ : Schema) → ListedOnce old → ListedOnce new → Refiled old old′ → Refiled new new′
+      → changes (clausesBy same) (viewOf old) (viewOf new) ≡ changes (clausesBy same) (viewOf old′) (viewOf new′)
