@@ -6,17 +6,14 @@ use details::put_detail;
 use details::words::BUMPS;
 use details::words::RESULTS;
 use details::words::put_word;
-use tally::Bump;
 use tally::Tally;
 use text::Mode;
 use text::put_byte;
 use text::put_number;
 use text::start_in;
-ghost use mathlib.Core.Path.{_≡_};
 ghost use mathlib.Core.List.{[], _∷_};
 ghost use Prim.Native.Nat.{_≤_};
 ghost use lib.ListN.{length};
-ghost use Rattle.rules.specs.Verdict.{resultAt};
 ghost use Rattle.rules.specs.Report.{changeLine};
 ghost use Rattle.text.specs.Text.{Space, Puts};
 ghost use Rattle.tally.specs.Reporting.{Ready, Ran};
@@ -55,23 +52,14 @@ pub fn emit(mode: Mode, old: &[u8], new: &[u8], out: &mut [u8], t: Tally, site: 
     t.counted(kind, bump, n)
 }
 
-// "the result (Breaking exactly at Major)": Breaking 1, Compatible 0, also the places of their words.
-pub fn result_of(bump: Bump) -> usize
-    ensures { λ r. ⌜ r ≡ resultAt (bump .level) ⌝ }
-{
-    if bump.level == 2 {
-        return 1;
-    }
-    0
-}
-
 // From the start of the part of the buffer that it is lent.
 fn put_result(mode: Mode, out: &mut [u8], t: Tally) -> usize
     requires { ⌜ (t .bump .level ≤ 2) × Space mode (now out) 0 (length (lastLineOf t)) ⌝ }
     ensures { λ r. ⌜ Puts mode (now (out .entry)) 0 (lastLineOf t) r (now (out .exit)) ⌝ }
 {
     let level = t.bump.level as usize;
-    let result = result_of(t.bump);
+    let bump = t.bump;
+    let result = bump.result();
     let at = put_word(mode, out, 0, RESULTS + result);
     let at = put_byte(mode, out, at, b';');
     let at = put_word(mode, out, at, BUMPS + level);

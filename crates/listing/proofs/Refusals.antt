@@ -7,17 +7,17 @@ use Prim.Native.Nat.{ℕ, zero, suc, _≤_, _<_}
 use native.Mathlib.Omega.{arith}
 use borrow.Author.Tests.{le-leb, lt-leb}
 use lib.Dec.{leb}
-use lib.ListN.{length, getD}
+use lib.ListN.{length, getD, replicate}
 use Rattle.image.specs.Schema.{Decl, Schema}
 use Rattle.parts.specs.Promise.{Accepted, schemaOf}
 use Rattle.parts.proofs.Promise.{accepted-read}
-use Rattle.rules.proofs.Answer.{Single}
-use Rattle.listing.specs.Listing.{entryText, linesFrom, listing, Outcome, refused, listed, accept, fit, outcome, selected, listingVerdict, listingLength, written}
+use Rattle.rules.specs.Changes.{kindCount}
+use Rattle.rules.specs.Outcome.{Outcome, refused, textOnly, selected, select, fit}
+use Rattle.rules.specs.Answer.{oldSide}
+use Rattle.rules.proofs.Outcomes.{not-answered, nothing-told, nothing-written, length-selected}
+use Rattle.listing.specs.Listing.{entryText, linesFrom, listing, accept, outcome, listingVerdict}
 use Rattle.listing.specs.Refusals.{Holds, RefusedBy, ListingRefusals}
 use Rattle.listing.proofs.Outcomes.{Case, turned, full, fits, case}
-
-abbrev select : Outcome → ℕ → ℕ
-select o n = getD (selected o) n 0
 
 -- entries that are all empty
 lines-none : (id : ℕ) (R : List (Option Decl)) → ((j : ℕ) → getD R j none ≡ none) → linesFrom id R ≡ []
@@ -29,42 +29,20 @@ listing-none : (x : Schema) → ((id : ℕ) → getD (x .registry) id none ≡ n
 unfolding listing
 listing-none x h = lines-none _ (x .registry) h
 
--- the values of a refusal, past the side
-past-side : (k n : ℕ) → 2 ≤ n → select (refused k) n ≡ 0
-unfolding selected
-past-side k zero h = absurd (omega arith)
-past-side k (suc zero) h = absurd (omega arith)
-past-side k (suc (suc zero)) h = refl
-past-side k (suc (suc (suc zero))) h = refl
-past-side k (suc (suc (suc (suc zero)))) h = refl
-past-side k (suc (suc (suc (suc (suc n))))) h = refl
+-- of what is answered there is a length
+zeros : (n k : ℕ) → getD {A = ℕ} (replicate n 0) k 0 ≡ 0
+zeros zero k = refl
+zeros (suc n) zero = refl
+zeros (suc n) (suc k) = zeros n k
 
--- what has another number than 0 is a refusal
-turned-back : (o : Outcome) → (select o 0 ≡ 0 → ⊥) → (k : ℕ) × (o ≡ refused k)
-unfolding selected
-turned-back (refused k) n = (k, refl)
-turned-back (listed text) n = absurd (n refl)
-
-module _ (o : Outcome) (n : select o 0 ≡ 0 → ⊥) where
-  old-side : select o 1 ≡ 1
-  unfolding selected
-  old-side = rw (turned-back o n .1)
-
-  rest-zero : (i : ℕ) → 2 ≤ i → select o i ≡ 0
-  rest-zero i h = rw (turned-back o n .1) (past-side (turned-back o n .0) i h)
-
-  nothing-told : listingLength o ≡ 0
-  unfolding listingLength
-  nothing-told = rw (turned-back o n .1)
-
-  nothing-written : (out : List ℕ) → written o out ≡ out
-  unfolding written
-  nothing-written out = rw (turned-back o n .1)
-
-same-length : (o : Outcome) → listingLength o ≡ select o 4
-unfolding selected listingLength
-same-length (refused k) = refl
-same-length (listed text) = refl
+rest-zero : (text : List ℕ) (n : ℕ) → (n ≡ 4 → ⊥) → select (textOnly text) n ≡ 0
+unfolding select selected
+rest-zero text zero h = refl
+rest-zero text (suc zero) h = refl
+rest-zero text (suc (suc zero)) h = refl
+rest-zero text (suc (suc (suc zero))) h = refl
+rest-zero text (suc (suc (suc (suc zero)))) h = absurd (h refl)
+rest-zero text (suc (suc (suc (suc (suc n))))) h = zeros kindCount n
 
 module _ (s : List ℕ) (room : ℕ) where
   -- ---- what a number says of the image
@@ -73,71 +51,84 @@ module _ (s : List ℕ) (room : ℕ) where
   holds g h = let r = accepted-read s g in record { schema = schemaOf s; end = r .0; read = r .1; holds = h }
 
   zero-only : {o : Outcome} → Case s room o → select o 0 ≡ 0 → Holds s (λ x. length (listing x) ≤ room)
-  unfolding selected
+  unfolding select selected
   zero-only (turned l p) z = absurd (omega arith)
   zero-only (full g l) z = absurd (omega arith)
   zero-only (fits g l) z = holds g l
 
   full-only : {o : Outcome} → Case s room o → select o 0 ≡ 12 → Holds s (λ x. room < length (listing x))
-  unfolding selected
+  unfolding select selected
   full-only (turned l p) z = absurd (omega arith)
   full-only (full g l) z = holds g l
   full-only (fits g l) z = absurd (omega arith)
 
-  number-only : (k : ℕ) {o : Outcome} → Case s room o → Single k × (select o 0 ≡ k) → RefusedBy s k
-  unfolding selected
+  number-only : (k : ℕ) {o : Outcome} → Case s room o → ((1 ≤ k) × (k ≤ 10)) × (select o 0 ≡ k) → RefusedBy s k
+  unfolding select selected
   number-only k (turned l p) z = rw (z .1) at p
   number-only k (full g l) z = absurd (omega arith)
   number-only k (fits g l) z = absurd (omega arith)
 
   only-these : {o : Outcome} → Case s room o → (select o 0 ≡ 12 → ⊥) → select o 0 ≤ 10
-  unfolding selected
+  unfolding select selected
   only-these (turned l p) n = omega arith
   only-these (full g l) n = absurd (n refl)
   only-these (fits g l) n = omega arith
 
   no-side : {o : Outcome} → Case s room o → select o 0 ≡ 0 → select o 1 ≡ 0
-  unfolding selected
+  unfolding select selected
   no-side (turned l p) z = absurd (omega arith)
   no-side (full g l) z = absurd (omega arith)
   no-side (fits g l) z = refl
 
+  old-side : {o : Outcome} → Case s room o → (select o 0 ≡ 0 → ⊥) → select o 1 ≡ 1
+  unfolding select selected
+  old-side (turned l p) n = refl
+  old-side (full g l) n = refl
+  old-side (fits g l) n = absurd (n refl)
+
+  rest-none : {o : Outcome} → Case s room o → select o 0 ≡ 0 → (n : ℕ) → (n ≡ 4 → ⊥) → select o n ≡ 0
+  unfolding select selected
+  rest-none (turned l p) z n h = absurd (omega arith)
+  rest-none (full g l) z n h = absurd (omega arith)
+  rest-none (fits g l) z n h = rest-zero (listing (schemaOf s)) n h
+
   -- ---- the number of an image
 
-  number-given : (k : ℕ) {o : Outcome} → Case s room o → RefusedBy s k → Single k × (select o 0 ≡ k)
-  unfolding selected
+  number-given : (k : ℕ) {o : Outcome} → Case s room o → RefusedBy s k → ((1 ≤ k) × (k ≤ 10)) × (select o 0 ≡ k)
+  unfolding select selected
   number-given k (turned {k = j} l p) e = let q : j ≡ k = cc in (omega arith, q)
   number-given k (full g l) e = absurd (let r = accepted-read s g .1 in let z : _≡_ {A = ℕ} 0 1 = cc in omega arith)
   number-given k (fits g l) e = absurd (let r = accepted-read s g .1 in let z : _≡_ {A = ℕ} 0 1 = cc in omega arith)
 
   module _ {P : Schema → Type 0} (a : Holds s P) where
-    held-is : outcome s room ≡ cond (leb (length (listing (a .schema))) room) (listed (listing (a .schema))) (refused 12)
+    held-is : outcome s room ≡ cond (leb (length (listing (a .schema))) room) (textOnly (listing (a .schema))) (refused 12 oldSide)
     unfolding outcome accept fit
     held-is = rw (a .read)
 
   zero-given : Holds s (λ x. length (listing x) ≤ room) → select (outcome s room) 0 ≡ 0
-  unfolding selected
+  unfolding select selected
   zero-given a = rw (held-is a, le-leb (length (listing (a .schema))) room (a .holds))
 
   full-given : Holds s (λ x. room < length (listing x)) → select (outcome s room) 0 ≡ 12
-  unfolding selected
+  unfolding select selected
   full-given a = rw (held-is a, lt-leb (length (listing (a .schema))) room (a .holds))
 
-  empty-given : Holds s (λ x. (id : ℕ) → getD (x .registry) id none ≡ none) → outcome s room ≡ listed []
+  empty-given : Holds s (λ x. (id : ℕ) → getD (x .registry) id none ≡ none) → outcome s room ≡ textOnly []
   empty-given a = held-is a ∙ rw (listing-none (a .schema) (a .holds), le-leb 0 room (omega arith))
 
 pub listing-refusals : (image : List ℕ) (room : ℕ) → ListingRefusals image room
-unfolding listingVerdict selected
+unfolding listingVerdict select selected
 listing-refusals s room = record {
   accepted = (zero-only s room (case s room), zero-given s room);
   full = (full-only s room (case s room), full-given s room);
   refused = λ k. (number-only s room k (case s room), number-given s room k (case s room));
   only = only-these s room (case s room);
   noSide = no-side s room (case s room);
-  oldSide = old-side (outcome s room);
-  rest = rest-zero (outcome s room);
+  oldSide = old-side s room (case s room);
+  refusal = not-answered (outcome s room);
+  rest = rest-none s room (case s room);
   nothing = nothing-told (outcome s room);
   untouched = nothing-written (outcome s room);
-  same = same-length (outcome s room);
+  same = length-selected (outcome s room);
   empty = λ a. (rw (empty-given s room a), rw (empty-given s room a));
 }

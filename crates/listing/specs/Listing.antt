@@ -1,15 +1,16 @@
 -- The contents listing of one image: document 01, "From Rust shapes". Assumes nothing.
-use mathlib.Core.Bool.{cond}
+use mathlib.Core.Path.{_≡_}
 use mathlib.Core.Option.{Option, none, some}
 use mathlib.Core.List.{List, [], _∷_, _++_}
 use Prim.Native.Nat.{ℕ, suc}
-use lib.Dec.{leb}
-use lib.ListN.{length, getD, drop}
+use lib.ListN.{length}
 use Rattle.image.specs.Schema.{Name, Decl, Schema}
 use Rattle.image.specs.Words.{bytes, kindWord}
 use Rattle.image.specs.Parse.{Parsed, ok, no}
 use Rattle.image.specs.Image.{readImage}
 use Rattle.text.specs.Decimal.{decimal}
+use Rattle.rules.specs.Outcome.{Outcome, refused, textOnly, select, fit, textLength, written}
+use Rattle.rules.specs.Answer.{oldSide}
 
 -- ---- the text
 
@@ -33,47 +34,21 @@ linesFrom id (e ∷ es) = entryText id e ++ linesFrom (suc id) es
 unfoldable pub listing : Schema → List ℕ
 listing x = linesFrom 0 (x .registry)
 
--- ---- refused, by its number, or listed
+-- ---- an image and a buffer
 
-pub data Outcome : Type 0 where
-  refused : ℕ → Outcome
-  listed : List ℕ → Outcome
-
--- "for one accepted image"; 1 to 10
+-- "for one accepted image"; "by 1 to 10 .., always with side old"
 unfoldable pub accept : Parsed Schema → Outcome
-accept (ok x n) = listed (listing x)
-accept (no k) = refused k
+accept (ok x n) = textOnly (listing x)
+accept (no k) = refused k oldSide
 
 -- 12: longer than the buffer, which has room for so many bytes
-unfoldable pub fit : ℕ → Outcome → Outcome
-fit room (refused k) = refused k
-fit room (listed text) = cond (leb (length text) room) (listed text) (refused 12)
-
 unfoldable pub outcome : List ℕ → ℕ → Outcome
-outcome image room = fit room (accept (readImage image))
+outcome image room = fit oldSide room (accept (readImage image))
 
--- ---- the verdict call
-
--- by selector: "0 the number, 1 the side .., 4 the length"; others 0
-abbrev pub values : ℕ → ℕ → ℕ → List ℕ
-values number side size = number ∷ side ∷ 0 ∷ 0 ∷ size ∷ []
-
--- "always with side old", which is 1
-unfoldable pub selected : Outcome → List ℕ
-selected (refused k) = values k 1 0
-selected (listed text) = values 0 0 (length text)
-
+-- the verdict call, by selector: "0 the number, 1 the side .., 4 the length", and of a refusal bump and result "as the report does"; else 0
 unfoldable pub listingVerdict : List ℕ → ℕ → ℕ → ℕ
-listingVerdict image room selector = getD (selected (outcome image room)) selector 0
+listingVerdict image room selector = select (outcome image room) selector
 
--- ---- the listing call
-
--- the length, 0 if refused
-unfoldable pub listingLength : Outcome → ℕ
-listingLength (refused k) = 0
-listingLength (listed text) = length text
-
--- what it leaves in the buffer: bytes past the length stay, and a refusal leaves the buffer untouched
-unfoldable pub written : Outcome → List ℕ → List ℕ
-written (refused k) out = out
-written (listed text) out = text ++ drop (length text) out
+-- the listing call with the buffer out: what it returns, and the buffer
+abbrev pub Wrote : List ℕ → List ℕ → ℕ → List ℕ → Type 0
+Wrote image out r out′ = (r ≡ textLength (outcome image (length out))) × (out′ ≡ written (outcome image (length out)) out)

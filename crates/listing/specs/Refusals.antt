@@ -9,7 +9,9 @@ use lib.ListN.{length, getD}
 use Rattle.image.specs.Schema.{Schema}
 use Rattle.image.specs.Parse.{ok, no}
 use Rattle.image.specs.Image.{readImage}
-use Rattle.listing.specs.Listing.{listing, outcome, listingVerdict, listingLength, written}
+use Rattle.rules.specs.Outcome.{textLength, written}
+use Rattle.rules.specs.Refusals.{Refusal}
+use Rattle.listing.specs.Listing.{listing, outcome, listingVerdict}
 
 -- the image is accepted, and P holds of what it holds
 pub record Holds (image : List ℕ) (P : Schema → Type 0) : Type 0 where
@@ -34,11 +36,13 @@ pub record ListingRefusals (image : List ℕ) (room : ℕ) : Type 0 where
   -- "number 0 and side none"; a refusal "always with side old"
   pub noSide : listingVerdict image room 0 ≡ 0 → listingVerdict image room 1 ≡ 0
   pub oldSide : (listingVerdict image room 0 ≡ 0 → ⊥) → listingVerdict image room 1 ≡ 1
-  -- a refusal has "length 0", as all other values are; the listing call returns 0, and leaves "an untouched buffer"
-  pub rest : (listingVerdict image room 0 ≡ 0 → ⊥) → (n : ℕ) → 2 ≤ n → listingVerdict image room n ≡ 0
-  pub nothing : (listingVerdict image room 0 ≡ 0 → ⊥) → listingLength (outcome image room) ≡ 0
+  -- a refusal is one as of two images: "bump Major, result Breaking, all counts and length 0"; an answer has a length and no more
+  pub refusal : (listingVerdict image room 0 ≡ 0 → ⊥) → Refusal (listingVerdict image room)
+  pub rest : listingVerdict image room 0 ≡ 0 → (n : ℕ) → (n ≡ 4 → ⊥) → listingVerdict image room n ≡ 0
+  -- of a refusal the listing call returns 0, and leaves "an untouched buffer"
+  pub nothing : (listingVerdict image room 0 ≡ 0 → ⊥) → textLength (outcome image room) ≡ 0
   pub untouched : (listingVerdict image room 0 ≡ 0 → ⊥) → (out : List ℕ) → written (outcome image room) out ≡ out
   -- both calls give one length, and "with no such entry the length is 0", which fits any buffer
-  pub same : listingLength (outcome image room) ≡ listingVerdict image room 4
+  pub same : textLength (outcome image room) ≡ listingVerdict image room 4
   pub empty : Holds image (λ x. (id : ℕ) → getD (x .registry) id none ≡ none)
       → (listingVerdict image room 0 ≡ 0) × (listingVerdict image room 4 ≡ 0)

@@ -6,36 +6,21 @@ use crate::body::put_entry;
 use parts::entries::entry_count;
 use reader::Acceptance;
 use reader::read_image;
+use tally::Tally;
 use text::Mode;
 use text::start_in;
+use verdicts::Verdict;
 ghost use mathlib.Core.Path.{_≡_};
 ghost use mathlib.Core.Option.{none};
 ghost use Prim.Native.Nat.{_<_};
 ghost use lib.ListN.{length, getD};
 ghost use Rattle.parts.specs.Promise.{Accepted, schemaOf};
 ghost use Rattle.text.specs.Text.{Space, Puts};
-ghost use Rattle.listing.specs.Listing.{entryText, listing, outcome, listingVerdict, listingLength, written};
-ghost use Rattle.listing.specs.Answers.{refusal, answerOf, selectIn};
+ghost use Rattle.verdicts.specs.Verdicts.{verdictIs};
+ghost use Rattle.listing.specs.Listing.{entryText, listing, outcome, Wrote};
 
 // The side of a refusal.
 const OLD: u8 = 1;
-
-// A refusal, by its number and side; or number 0, side none, and the listing's length.
-pub struct Answer {
-    pub number: u8,
-    pub side: u8,
-    pub length: usize,
-}
-
-fn refused(number: u8) -> Answer
-    ensures { λ r. ⌜ r ≡ refusal number ⌝ }
-{
-    Answer {
-        number: number,
-        side: OLD,
-        length: 0,
-    }
-}
 
 // The line of an entry, after the lines before it; nothing for an empty entry.
 fn put_one(mode: Mode, image: &[u8], out: &mut [u8], at: usize, id: usize) -> usize
@@ -70,61 +55,35 @@ fn put_listing(mode: Mode, image: &[u8], out: &mut [u8]) -> usize
 }
 
 // 12, or the listing's length. Nothing is written.
-fn measured(image: &[u8], room: usize) -> Answer
+fn measured(image: &[u8], room: usize) -> Verdict
     requires { ⌜ Accepted (now image) ⌝ }
-    ensures { λ r. ⌜ r ≡ answerOf (outcome (now (image .entry)) room) ⌝ }
+    ensures { λ r. ⌜ r ≡ verdictIs (outcome (now (image .entry)) room) ⌝ }
 {
     let mut none = [0u8; 1];
     let length = put_listing(Mode::Measure, image, &mut none);
     if room < length {
-        return refused(12);
+        return Verdict::refused(12, OLD);
     }
-    Answer {
-        number: 0,
-        side: 0,
-        length: length,
-    }
+    Verdict::of_tally(Tally::empty(), length)
 }
 
 // What is said of an image and a buffer of so many bytes.
-pub fn checked(image: &[u8], room: usize) -> Answer
-    ensures { λ r. ⌜ r ≡ answerOf (outcome (now (image .entry)) room) ⌝ }
+pub fn checked(image: &[u8], room: usize) -> Verdict
+    ensures { λ r. ⌜ r ≡ verdictIs (outcome (now (image .entry)) room) ⌝ }
 {
     match read_image(image) {
         Acceptance::Accepted => measured(image, room),
-        Acceptance::Rejected(number) => refused(number),
-    }
-}
-
-// "0 the number, 1 the side .., 4 the length"; others 0.
-fn select(answer: Answer, selector: u64) -> u64
-    ensures { λ r. ⌜ r ≡ selectIn answer selector ⌝ }
-{
-    match selector {
-        0 => answer.number as u64,
-        1 => answer.side as u64,
-        4 => answer.length as u64,
-        _ => 0,
+        Acceptance::Rejected(number) => Verdict::refused(number, OLD),
     }
 }
 
 // The listing's length, 0 if refused; the listing stands at the start of the buffer.
-#[no_mangle]
-pub extern "C" fn vexil_compat_listing(image: &[u8], out: &mut [u8]) -> u64
-    ensures { λ r. ⌜ (r ≡ listingLength (outcome (now (image .entry)) (length (now (out .entry))))) × (now (out .exit) ≡ written (outcome (now (image .entry)) (length (now (out .entry)))) (now (out .entry))) ⌝ }
+pub fn write_listing(image: &[u8], out: &mut [u8]) -> usize
+    ensures { λ r. ⌜ Wrote (now (image .entry)) (now (out .entry)) r (now (out .exit)) ⌝ }
 {
-    let a = checked(image, out.len());
-    if a.number != 0 {
+    let v = checked(image, out.len());
+    if v.number != 0 {
         return 0;
     }
-    put_listing(Mode::Write, image, out) as u64
-}
-
-// One value of the answer for a buffer of so many bytes, by its selector.
-#[no_mangle]
-pub extern "C" fn vexil_compat_listing_verdict(image: &[u8], out_len: u64, selector: u64) -> u64
-    ensures { λ r. ⌜ r ≡ listingVerdict (now (image .entry)) «out_len» selector ⌝ }
-{
-    let a = checked(image, out_len as usize);
-    select(a, selector)
+    put_listing(Mode::Write, image, out)
 }

@@ -4,7 +4,8 @@ use mathlib.Core.Bool.{cond}
 use mathlib.Core.List.{List, [], _∷_, _++_}
 use Prim.Native.Nat.{ℕ}
 use lib.Dec.{leb}
-use lib.ListN.{length, getD, drop}
+use lib.ListN.{length, getD, drop, replicate}
+use Rattle.rules.specs.Changes.{kindCount}
 
 -- what is told where nothing is refused: bump and result, 0 where the call has none; the text; the counts
 pub record Answer : Type 0 where
@@ -17,6 +18,10 @@ pub record Answer : Type 0 where
 pub data Outcome : Type 0 where
   refused : ℕ → ℕ → Outcome
   answered : Answer → Outcome
+
+-- an answer that is a text and no more
+abbrev pub textOnly : List ℕ → Outcome
+textOnly text = answered (record { bump = 0; result = 0; text = text; counts = replicate kindCount 0 })
 
 -- ---- the verdict call
 

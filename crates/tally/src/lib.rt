@@ -1,6 +1,7 @@
 // The tally of changes: a count for each kind, the bump, the length of the lines, and how many changes there are.
 ghost use mathlib.Core.Path.{_≡_};
 ghost use Prim.Native.Nat.{max};
+ghost use Rattle.rules.specs.Verdict.{resultAt};
 ghost use Rattle.tally.specs.Tallies.{Countable, counted, noChange};
 
 // How many kinds are counted.
@@ -25,6 +26,16 @@ impl Bump {
         } else {
             self
         }
+    }
+
+    // "the result (Breaking exactly at Major)": Breaking 1, Compatible 0, also the places of their words.
+    pub fn result(self) -> usize
+        ensures { λ r. ⌜ r ≡ resultAt (self .level) ⌝ }
+    {
+        if self.level == 2 {
+            return 1;
+        }
+        0
     }
 }
 

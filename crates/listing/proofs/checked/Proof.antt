@@ -1,8 +1,9 @@
 -- `listing::checked` meets its contract: the image's refusal, or what is measured. Assumes nothing.
 use mathlib.Core.Path.{_∙_}
 use Rattle.parts.proofs.Promise.{accepted, rejected-read}
-use Rattle.listing.specs.Listing.{accept, fit, outcome}
-use Rattle.listing.specs.Answers.{answerOf}
+use Rattle.rules.specs.Outcome.{fit}
+use Rattle.verdicts.specs.Verdicts.{verdictIs}
+use Rattle.listing.specs.Listing.{accept, outcome}
 use borrow.Author.Needs.{needs}
 use Rattle.listing.proofs.checked.Statement.{statement}
 use Rattle.listing.proofs.checked.Tie as tie
@@ -26,7 +27,7 @@ returns : tie.Need-returns
 returns c = search needs
 
 returns-2 : tie.Need-returns-2
-unfolding outcome accept fit answerOf
+unfolding outcome accept fit verdictIs
 returns-2 c = c .refused .ensures ∙ rw (rejected-read (c .before .before .before .before .before .before .args .image .now) (c .before .before .before .before .read-image .ensures) (c .before .before .number .given .1))
 
 pub checked-spec : {M : Type 1} → statement M

@@ -17,10 +17,26 @@ refused-requires c κs = search needs
 returns : tie.Need-returns
 returns c = c .refused .ensures ∙ measured-full _ (c .before .before .before .before .before .before .pre) _ (c .before .before .before .put-listing .ensures) (c .before .if1 .taken)
 
+empty-requires : tie.Need-empty-requires
+empty-requires c κs = search needs
+
+of-tally-requires : tie.Need-of-tally-requires
+of-tally-requires c κs = search needs
+
 returns-2 : tie.Need-returns-2
-returns-2 c = measured-fits _ (c .before .before .before .before .before .pre) _ (c .before .before .put-listing .ensures) (c .if1 .left)
+returns-2 c =
+    let p = c .before .before .before .before in
+    c .of-tally .ensures
+    ∙ measured-fits _ (p .before .before .before .pre) _ (p .put-listing .ensures) (c .before .before .if1 .left) (c .before .empty .ensures)
 
 pub measured-spec : {M : Type 1} → statement M
 measured-spec =
     tie.close
-    (tie.spec slice-aggregate-put-listing put-listing-requires refused-requires returns returns-2)
+    (tie.spec
+    slice-aggregate-put-listing
+    put-listing-requires
+    refused-requires
+    returns
+    empty-requires
+    of-tally-requires
+    returns-2)

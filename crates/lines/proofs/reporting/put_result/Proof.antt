@@ -24,14 +24,14 @@ bump-there : (s : tie.Start) → s .args .t .bump .level < 3
 bump-there s = omega (arith, s .pre .0)
 
 -- the level that the result is of
-abbrev level : tie.After-result-of → ℕ
+abbrev level : tie.After-result → ℕ
 level c = c .before .before .before .args .t .bump .level
 
-result-there : (c : tie.After-result-of) → 21 + c .result-of .result < 32
-result-there c = omega (arith, c .result-of .ensures, result-most (level c))
+result-there : (c : tie.After-result) → 21 + c .result .result < 32
+result-there c = omega (arith, c .result .ensures, result-most (level c))
 
-result : (c : tie.After-result-of) → wordAt (21 + c .result-of .result) ≡ resultWord (resultAt (level c))
-result c = ap (λ r. wordAt (21 + r)) (c .result-of .ensures) ∙ result-word (resultAt (level c)) (result-most (level c))
+result : (c : tie.After-result) → wordAt (21 + c .result .result) ≡ resultWord (resultAt (level c))
+result c = ap (λ r. wordAt (21 + r)) (c .result .ensures) ∙ result-word (resultAt (level c)) (result-most (level c))
 
 abbrev text : tie.Start → List ℕ
 text s = lastLineOf (s .args .t)
@@ -126,8 +126,8 @@ put-byte-requires-3 c κs = owes-room (o₅ (c .before .before .before))
 cast-level : tie.Need-cast-level
 cast-level c = search needs
 
-result-of-requires : tie.Need-result-of-requires
-result-of-requires c κs = search needs
+result-requires : tie.Need-result-requires
+result-requires c κs = search needs
 
 add-put-word : tie.Need-add-put-word
 add-put-word c = omega (arith, result-there (c .before))
@@ -148,7 +148,7 @@ put-result-spec =
     tie.close
     (tie.spec
     cast-level
-    result-of-requires
+    result-requires
     add-put-word
     put-word-requires
     put-byte-requires

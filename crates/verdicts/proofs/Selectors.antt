@@ -1,4 +1,4 @@
--- What a selector gives of a verdict is what it gives of its outcome, and the verdict's length is the report's. Assumes nothing.
+-- What a selector gives of a verdict is what it gives of its outcome, and the verdict's length is the text's. Assumes nothing.
 use mathlib.Core.Path.{_≡_, refl, sym, ap, _∙_}
 use mathlib.Core.List.{[], _∷_}
 use Prim.Native.Nat.{ℕ, zero, suc, _+_, _-_, _≤_}
@@ -6,9 +6,9 @@ use native.Mathlib.Omega.{arith}
 use lib.ListN.{length, getD, replicate, List·getD-eq-default}
 use lib.Seq.{getD-append-add}
 use Rattle.rules.specs.Changes.{kindCount}
-use Rattle.rules.specs.Answer.{Outcome, refused, compared, selected, select, reportLength}
-use Rattle.compat.specs.Verdicts.{refusal, verdictIs, selectIn}
-use Rattle.compat.specs.declared.verdicts.Verdict.{Verdict}
+use Rattle.rules.specs.Outcome.{Outcome, refused, answered, selected, select, textLength}
+use Rattle.verdicts.specs.Verdicts.{refusedBy, verdictIs, selectIn}
+use Rattle.verdicts.specs.declared.Verdict.{Verdict}
 
 -- ---- from 5 on the counts
 
@@ -30,8 +30,8 @@ zeros zero k = refl
 zeros (suc n) zero = refl
 zeros (suc n) (suc k) = zeros n k
 
-refused-selected : (number side n : ℕ) → selectIn (refusal number side) n ≡ select (refused number side) n
-unfolding selectIn refusal select selected
+refused-selected : (number side n : ℕ) → selectIn (refusedBy number side) n ≡ select (refused number side) n
+unfolding selectIn refusedBy select selected
 refused-selected number side zero = refl
 refused-selected number side (suc zero) = refl
 refused-selected number side (suc (suc zero)) = refl
@@ -41,9 +41,9 @@ refused-selected number side (suc (suc (suc (suc n)))) = zeros (suc kindCount) n
 pub outcome-selected : (o : Outcome) (n : ℕ) → selectIn (verdictIs o) n ≡ select o n
 unfolding verdictIs selectIn select selected
 outcome-selected (refused number side) n = refused-selected number side n
-outcome-selected (compared cs) n = refl
+outcome-selected (answered a) n = refl
 
-pub outcome-length : (o : Outcome) → verdictIs o .length ≡ reportLength o
-unfolding verdictIs refusal reportLength
+pub outcome-length : (o : Outcome) → verdictIs o .length ≡ textLength o
+unfolding verdictIs refusedBy textLength
 outcome-length (refused number side) = refl
-outcome-length (compared cs) = refl
+outcome-length (answered a) = refl

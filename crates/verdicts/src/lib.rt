@@ -1,11 +1,11 @@
-// A verdict, made in two ways only: of a refusal, or of a tally.
-use lines::reporting::result_of;
+// A verdict, of two images or of one, made in two ways only: of a refusal, or of a tally.
 use tally::Bump;
 use tally::KINDS;
 use tally::Tally;
 ghost use mathlib.Core.Path.{_≡_};
-ghost use Rattle.compat.specs.Verdicts.{refusal, ofTally, selectIn};
+ghost use Rattle.verdicts.specs.Verdicts.{refusedBy, ofTally, selectIn};
 
+// What a call is asked for: the number and the side of a refusal, 0 if there is none; bump, result, the length of the text, counts.
 pub struct Verdict {
     pub number: u8,
     pub side: u8,
@@ -18,7 +18,7 @@ pub struct Verdict {
 impl Verdict {
     // "with bump Major, result Breaking, all counts and length 0"
     pub fn refused(number: u8, side: u8) -> Verdict
-        ensures { λ r. ⌜ r ≡ refusal number side ⌝ }
+        ensures { λ r. ⌜ r ≡ refusedBy number side ⌝ }
     {
         Verdict {
             number: number,
@@ -30,12 +30,12 @@ impl Verdict {
         }
     }
 
-    // Of a tally, and the length of the whole report.
+    // Of a tally, and the length of the whole text.
     pub fn of_tally(t: Tally, length: usize) -> Verdict
         ensures { λ r. ⌜ r ≡ ofTally t length ⌝ }
     {
         let bump = t.bump;
-        let result = result_of(bump);
+        let result = bump.result();
         let counts = t.counts;
         Verdict {
             number: 0,

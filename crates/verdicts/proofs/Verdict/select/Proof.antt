@@ -1,13 +1,13 @@
--- `compat::verdicts::Verdict::select` meets its contract, by the selector. Assumes nothing.
+-- `verdicts::Verdict::select` meets its contract, by the selector. Assumes nothing.
 use mathlib.Core.Path.{_≡_, sym, _∙_}
 use Prim.Native.Nat.{_≤_}
 use native.Mathlib.Omega.{arith}
 use lib.ListN.{length, length-map}
-use Rattle.compat.specs.Verdicts.{selectIn}
-use Rattle.compat.proofs.Selectors.{select-count, select-beyond}
+use Rattle.verdicts.specs.Verdicts.{selectIn}
+use Rattle.verdicts.proofs.Selectors.{select-count, select-beyond}
 use borrow.Author.Needs.{needs}
-use Rattle.compat.proofs.verdicts.Verdict.select.Statement.{statement}
-use Rattle.compat.proofs.verdicts.Verdict.select.Tie as tie
+use Rattle.verdicts.proofs.Verdict.select.Statement.{statement}
+use Rattle.verdicts.proofs.Verdict.select.Tie as tie
 
 -- the array has as many elements as there are kinds: owning the verdict says so, of its sixth field
 kinds : (s : tie.Start) → length (s .args .self .counts) ≡ 18

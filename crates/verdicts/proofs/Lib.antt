@@ -1,0 +1,2 @@
+-- Selectors: what a selector gives of a verdict.
+pub mod Selectors
