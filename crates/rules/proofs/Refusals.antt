@@ -18,9 +18,10 @@ use Rattle.image.specs.Image.{readImage}
 use Rattle.refusals.proofs.Refusals.{only-ten}
 use Rattle.maps.proofs.Tests.{no-both, both}
 use Rattle.rules.specs.Survivors.{nameOf, declarations, viewOf}
+use Rattle.rules.specs.Clauses.{changes}
 use Rattle.rules.specs.Verdict.{alias, isAlias, any, aliasPair}
 use Rattle.rules.specs.Outcome.{Outcome, refused, answered, selected, select}
-use Rattle.rules.specs.Answer.{bothSides, Fault, fault, Policy, firstFault, outcome, verdictBy, reportBy, plain, checked, verdictOf, reported}
+use Rattle.rules.specs.Answer.{bothSides, Fault, fault, Policy, compared, firstFault, outcome, verdictBy, reportBy, plainReading, plain, checked, reported}
 use Rattle.rules.specs.Refusals.{Passes, Decided, oldRefused, oldAlone, newRefused, newAlone, pairRefused, verdict, Numbered, PolicyRefusals, ReportRefusals, AcceptedPair, NewRefused, Alias, AliasPair, VerdictRefusals}
 use Rattle.rules.proofs.Outcomes.{not-answered, nothing-told, nothing-written, fit-full, fit-filled, fit-else}
 use Rattle.rules.proofs.Answer.{decided, decides, exactly, plain-fault, alias-fault, plain-numbered}
@@ -187,13 +188,19 @@ module _ (old new : List ℕ) where
     new-passes : Passes plain new (a .newSchema)
     new-passes = record { end = a .newEnd; read = a .newRead; alone = refl }
 
+  -- two images that get a verdict get that of the clauses
+  pub clauses-told : (a : AcceptedPair old new (λ x y. AliasPair x y → ⊥))
+      → checked old new ≡ compared (changes plainReading (viewOf (a .oldSchema)) (viewOf (a .newSchema)))
+  clauses-told a = go (firstFault (plain .pair) (a .oldSchema) (a .newSchema)) refl
+    where
+      go : (f : Option Fault) → firstFault (plain .pair) (a .oldSchema) (a .newSchema) ≡ f
+          → checked old new ≡ compared (changes plainReading (viewOf (a .oldSchema)) (viewOf (a .newSchema)))
+      go none e = decides plain old new (verdict (old-passes a) (new-passes a) e)
+      go (some f) e = absurd (a .holds (pair-found (a .oldSchema) (a .newSchema) (plain-fault _ _ _ e .0)))
+
   verdict-given : AcceptedPair old new (λ x y. AliasPair x y → ⊥) → select (checked old new) 0 ≡ 0
   unfolding select selected
-  verdict-given a = go (firstFault (plain .pair) (a .oldSchema) (a .newSchema)) refl
-    where
-      go : (f : Option Fault) → firstFault (plain .pair) (a .oldSchema) (a .newSchema) ≡ f → select (checked old new) 0 ≡ 0
-      go none e = ap (λ o. select o 0) (decides plain old new (verdict (old-passes a) (new-passes a) e))
-      go (some f) e = absurd (a .holds (pair-found (a .oldSchema) (a .newSchema) (plain-fault _ _ _ e .0)))
+  verdict-given a = ap (λ o. select o 0) (clauses-told a)
 
   alias-given : AcceptedPair old new AliasPair → select (checked old new) 0 ≡ 11
   unfolding select selected

@@ -1,0 +1,2 @@
+-- What is promised, on one page.
+pub mod Claims

@@ -1,0 +1,1 @@
+// What is promised of the calls, on one page: specs/Claims.antt. Definitions and theorems only.
