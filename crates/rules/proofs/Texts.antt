@@ -10,7 +10,9 @@ use lib.Dec.{eqb}
 use lib.ListN.{length, length-append}
 use Rattle.maps.specs.Lists.{largest, total}
 use Rattle.image.specs.Schema.{Name, Encoding, Label, label, Ty, leaf, one, two}
+use Rattle.image.specs.Kinds.{kindOf}
 use Rattle.image.specs.Words.{bytes, kindWord}
+use Rattle.image.proofs.Laws.Kinds.{word-short}
 use Rattle.rules.specs.Survivors.{Registry, declOf}
 use Rattle.rules.specs.Types.{nameIn, resolveLabel, resolve}
 use Rattle.text.proofs.Numbers.{decimal-length}
@@ -29,8 +31,8 @@ word-length (w ∷ ws) zero = omega arith
 word-length (w ∷ ws) (suc i) = omega (arith, word-length ws i)
 
 pub kind-length : (k : ℕ) → length (kindWord k) ≤ 13
-unfolding kindWord bytes word largest
-kind-length k = word-length ("message" ∷ "enum" ∷ "flags" ∷ "union" ∷ "newtype" ∷ "config" ∷ "generic_alias" ∷ "trait" ∷ "impl" ∷ []) k
+unfolding kindWord
+kind-length k = word-short (kindOf k)
 
 pub bool-length : (b : Bool) → length (boolWord b) ≤ 5
 unfolding boolWord bytes
