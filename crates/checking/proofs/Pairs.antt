@@ -10,7 +10,7 @@ use Rattle.maps.specs.Orders.{before}
 use Rattle.maps.specs.Keyed.{lookup}
 use Rattle.maps.specs.Compare.{between}
 use Rattle.image.specs.Schema.{Name, Decl}
-use Rattle.parts.specs.Promise.{declIn, declOf}
+use Rattle.parts.specs.Promise.{declIn, entryDecl}
 use Rattle.parts.specs.declared.Entry.{Entry}
 use Rattle.parts.specs.declared.Entry.the-variants.{Body, Unresolvable}
 use Rattle.rules.specs.Survivors.{nameOf, viewOf}
@@ -23,17 +23,17 @@ use Rattle.checking.specs.Decls.{standing, bothAliases, aliasesAt}
 -- ---- an entry
 
 module _ (s : List ℕ) {r : Entry} where
-  pub no-alias : r ≡ Unresolvable → false ≡ isAlias (declOf s r)
-  unfolding declOf isAlias
+  pub no-alias : r ≡ Unresolvable → false ≡ isAlias (entryDecl s r)
+  unfolding entryDecl isAlias
   no-alias e = rw e
 
-  pub alias-kind : {at : ℕ} → r ≡ Body at → {kind : ℕ} → kind ≡ declIn s at .kind → eqb kind 6 ≡ isAlias (declOf s r)
-  unfolding declOf isAlias alias
+  pub alias-kind : {at : ℕ} → r ≡ Body at → {kind : ℕ} → kind ≡ declIn s at .kind → eqb kind 6 ≡ isAlias (entryDecl s r)
+  unfolding entryDecl isAlias alias
   alias-kind e k = rw (e, k)
 
 -- ---- one name
 
-module _ (old new : List ℕ) {name : Name} {r : Entry} (h : Survives old name r) {a : Bool} (p : a ≡ isAlias (declOf old r)) where
+module _ (old new : List ℕ) {name : Name} {r : Entry} (h : Survives old name r) {a : Bool} (p : a ≡ isAlias (entryDecl old r)) where
   first : a ≡ isAlias (lookup nameOf before name (standing old new Side.Old))
   first = p ∙ ap isAlias (h .value)
 
@@ -41,7 +41,7 @@ module _ (old new : List ℕ) {name : Name} {r : Entry} (h : Survives old name r
   unfolding aliasesAt
   old-other e = rw (sym first ∙ e)
 
-  pub new-decides : a ≡ true → {q : Entry} → Survives new name q → {b : Bool} → b ≡ isAlias (declOf new q) → b ≡ aliasesAt old new name
+  pub new-decides : a ≡ true → {q : Entry} → Survives new name q → {b : Bool} → b ≡ isAlias (entryDecl new q) → b ≡ aliasesAt old new name
   unfolding aliasesAt
   new-decides e k f = rw (sym first ∙ e) (f ∙ ap isAlias (k .value))
 

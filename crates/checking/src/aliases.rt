@@ -5,14 +5,14 @@ use parts::decls::decl_name;
 use survivors::decls::next_decl;
 use survivors::decls::survivor;
 ghost use mathlib.Core.Path.{_≡_};
-ghost use Rattle.parts.specs.Promise.{DeclHere, declIn, declOf, EntryHere};
+ghost use Rattle.parts.specs.Promise.{DeclHere, declIn, entryDecl, EntryHere};
 ghost use Rattle.rules.specs.Verdict.{isAlias};
 ghost use Rattle.items.specs.Pairs.{BothAccepted};
 ghost use Rattle.checking.specs.Decls.{bothAliases, aliasesAt};
 
 fn is_alias(image: &[u8], at: Entry) -> bool
     requires { ⌜ EntryHere (now image) at ⌝ }
-    ensures { λ r. ⌜ r ≡ isAlias (declOf (now (image .entry)) at) ⌝ }
+    ensures { λ r. ⌜ r ≡ isAlias (entryDecl (now (image .entry)) at) ⌝ }
 {
     let Entry::Body(body) = at else {
         return false;

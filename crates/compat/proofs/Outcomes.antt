@@ -14,7 +14,8 @@ use Rattle.parts.specs.Promise.{schemaOf}
 use Rattle.rules.specs.Survivors.{viewOf}
 use Rattle.rules.specs.Types.{sameType}
 use Rattle.rules.specs.Report.{report}
-use Rattle.rules.specs.Answer.{bothSides, Outcome, refused, compared, comparePair, acceptNew, acceptOld, outcome, checked, fit, reported, written}
+use Rattle.image.specs.Codes.{bothSides}
+use Rattle.rules.specs.Answer.{Outcome, refused, compared, comparePair, acceptNew, acceptOld, outcome, checked, fit, reported, written}
 use Rattle.rules.proofs.Answer.{Case, old-refused, new-refused, pair-refused, verdict, case}
 use Rattle.rules.proofs.Bound.{report-bound}
 use Rattle.items.specs.Pairs.{BothAccepted}

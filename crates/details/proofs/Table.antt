@@ -11,6 +11,7 @@ use lib.Dec.{leb}
 use lib.ListN.{length, getD, take, drop, List·getD-append}
 use lib.Seq.{getD-append-add}
 use Rattle.image.specs.Words.{bytes, kindNames, kindWord}
+use Rattle.image.proofs.Laws.Kinds.{kind-named}
 use Rattle.maps.proofs.Tests.{both}
 use Rattle.rules.specs.Equal.{sameName}
 use Rattle.rules.specs.Text.{word}
@@ -73,4 +74,4 @@ result-word r h = ap bytes (getD-append-add (changeNames ++ bumpNames) (resultNa
 
 pub decl-word : (k : ℕ) → wordAt (23 + k) ≡ kindWord k
 unfolding wordAt names word kindWord
-decl-word k = ap bytes (getD-append-add (changeNames ++ (bumpNames ++ resultNames)) kindNames k "")
+decl-word k = ap bytes (getD-append-add (changeNames ++ (bumpNames ++ resultNames)) kindNames k "" ∙ kind-named k)

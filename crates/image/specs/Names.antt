@@ -4,6 +4,7 @@ use mathlib.Core.List.{List, [], _∷_}
 use Prim.Native.Nat.{ℕ, _+_}
 use lib.Dec.{leb, eqb}
 use lib.ListN.{length}
+use Rattle.image.specs.Codes.{nameRefusal}
 use Rattle.image.specs.Schema.{Name}
 use Rattle.image.specs.Parse.{Parsed, ok, bind, need, part, byteAt, many}
 
@@ -16,12 +17,12 @@ nameBytes [] = true
 nameBytes (b ∷ s) = nameByte b && nameBytes s
 
 -- "Length of a name before its bytes": whether the bytes are there, then whether each is allowed.
--- `short` is the refusal where they are not: 2 in the namespace, 8 in a body.
+-- `short` is the refusal where they are not: `shortHeadRefusal` in the namespace, `bodyRefusal` in a body.
 unfoldable pub nameAt : ℕ → List ℕ → ℕ → Parsed Name
 nameAt short s at =
     bind (byteAt short s at) (λ k n.
     need (leb (n + k) (length s)) short
-    (need (nameBytes (part n k s)) 7
+    (need (nameBytes (part n k s)) nameRefusal
     (ok (part n k s) (n + k))))
 
 unfoldable pub namesAt : ℕ → ℕ → List ℕ → ℕ → Parsed (List Name)

@@ -3,6 +3,7 @@ use mathlib.Core.Bool.{Bool, false}
 use mathlib.Core.Option.{Option}
 use mathlib.Core.List.{List, []}
 use Prim.Native.Nat.{ℕ}
+use Rattle.image.specs.Kinds.{primitiveTag}
 
 -- a name is its bytes
 abbrev pub Name : Type 0
@@ -52,7 +53,7 @@ pub record Variant : Type 0 where
   pub name : Name
   pub fields : List Field
 
--- A declaration. Kinds: 0 message, 1 enum, 2 flags, 3 union, 4 newtype, 5 config, 6 generic alias, 7 trait, 8 impl.
+-- A declaration; its kind is the number that the image has (Kinds).
 -- A message has fields; an enum, flags and a union have variants; a newtype has an inner type. What a kind has not is `unmarked`, empty
 -- or `noType`, and nothing reads it.
 pub record Decl : Type 0 where
@@ -64,7 +65,7 @@ pub record Decl : Type 0 where
   pub inner : Ty
 
 abbrev pub noType : Ty
-noType = leaf (label 0 0 0 [])
+noType = leaf (label primitiveTag 0 0 [])
 
 abbrev pub decl : ℕ → Name → Marks → List Field → List Variant → Ty → Decl
 decl kind name marks fields variants inner =

@@ -3,6 +3,8 @@ use mathlib.Core.Bool.{cond, _&&_}
 use mathlib.Core.List.{List, []}
 use Prim.Native.Nat.{ℕ, zero, suc}
 use lib.Dec.{leb, eqb}
+use Rattle.image.specs.Codes.{bodyRefusal, codeRefusal, deepRefusal}
+use Rattle.image.specs.Kinds.{primitiveTag, subByteTag, semanticTag, namedTag, optionalTag, fixedArrayTag, mapTag, resultTag, mat4Tag, bitsTag}
 use Rattle.image.specs.Schema.{Label, label, Ty, leaf, one, two}
 use Rattle.image.specs.Parse.{Parsed, ok, no, bind, within, byteAt, codeAt, numberAt}
 use Rattle.image.specs.Names.{namesAt}
@@ -12,20 +14,20 @@ pub data Follows : Type 0 where
   code : ℕ → Follows
   subByte identity size nothing bits unknown : Follows
 
--- 0 primitive, 1 sub-byte, 2 semantic, 3 named, 6 fixed array, 16 bits; the other tags to 15 have only inner types
+-- the other tags to the last matrix have only inner types
 unfoldable pub followsTag : ℕ → Follows
 followsTag tag =
-    cond (eqb tag 0) (code 13)
-    (cond (eqb tag 1) subByte
-    (cond (eqb tag 2) (code 5)
-    (cond (eqb tag 3) identity
-    (cond (eqb tag 6) size
-    (cond (eqb tag 16) bits
-    (cond (leb tag 15) nothing unknown))))))
+    cond (eqb tag primitiveTag) (code 13)
+    (cond (eqb tag subByteTag) subByte
+    (cond (eqb tag semanticTag) (code 5)
+    (cond (eqb tag namedTag) identity
+    (cond (eqb tag fixedArrayTag) size
+    (cond (eqb tag bitsTag) bits
+    (cond (leb tag mat4Tag) nothing unknown))))))
 
 -- "Tags 4 to 7 and 10 to 15 end with one inner type, 8 and 9 with two."
 unfoldable pub innerTypes : ℕ → ℕ
-innerTypes tag = cond (leb 4 tag && leb tag 15) (cond (leb 8 tag && leb tag 9) 2 1) 0
+innerTypes tag = cond (leb optionalTag tag && leb tag mat4Tag) (cond (leb mapTag tag && leb tag resultTag) 2 1) 0
 
 unfoldable pub afterTag : ℕ → Follows → List ℕ → ℕ → Parsed Label
 afterTag tag (code highest) s at = bind (codeAt 0 highest s at) (λ a n. ok (label tag a 0 []) n)
@@ -33,12 +35,12 @@ afterTag tag subByte s at = bind (codeAt 0 1 s at) (λ signed n. bind (codeAt 1 
 afterTag tag identity s at = bind (numberAt 4 s at) (λ id n. ok (label tag id 0 []) n)
 afterTag tag size s at = bind (numberAt 8 s at) (λ k n. ok (label tag k 0 []) n)
 afterTag tag nothing s at = ok (label tag 0 0 []) at
-afterTag tag bits s at = bind (byteAt 8 s at) (λ k n. bind (namesAt 8 k s n) (λ names m. ok (label tag 0 0 names) m))
-afterTag tag unknown s at = no 9
+afterTag tag bits s at = bind (byteAt bodyRefusal s at) (λ k n. bind (namesAt bodyRefusal k s n) (λ names m. ok (label tag 0 0 names) m))
+afterTag tag unknown s at = no codeRefusal
 
 -- the label at the start of a part
 unfoldable pub labelOf : List ℕ → Parsed Label
-labelOf s = bind (byteAt 8 s 0) (λ tag n. afterTag tag (followsTag tag) s n)
+labelOf s = bind (byteAt bodyRefusal s 0) (λ tag n. afterTag tag (followsTag tag) s n)
 
 -- "Each inner type is read from the part of the body that starts at it."
 unfoldable pub innerAt : ℕ → Label → (List ℕ → Parsed Ty) → List ℕ → ℕ → Parsed Ty
@@ -48,7 +50,7 @@ innerAt (suc (suc k)) l p s at = bind (within p s at) (λ t n. bind (within p s 
 
 -- A type of at most `left` nodes on a path, at the start of a part. One node more is refused before its tag is read.
 unfoldable pub typeOf : ℕ → List ℕ → Parsed Ty
-typeOf zero s = no 10
+typeOf zero s = no deepRefusal
 typeOf (suc left) s = bind (labelOf s) (λ l n. innerAt (innerTypes (l .tag)) l (typeOf left) s n)
 
 -- "At most 32 nodes on a path from the root."

@@ -4,6 +4,8 @@ use crate::names::read_name;
 use crate::numbers::read_code;
 use crate::numbers::read_number;
 use crate::numbers::u16_at;
+use crate::refusals::BODY;
+use crate::refusals::DEEP;
 use crate::types::read_type_at;
 ghost use mathlib.Core.Path.{_≡_};
 ghost use Rattle.image.specs.Parse.{counted};
@@ -32,7 +34,7 @@ fn read_encoding(s: &[u8], at: usize) -> Read
             return step;
         }
         if left == 0 {
-            return Read::Refused(10);
+            return Read::Refused(DEEP);
         }
         next = after;
         left -= 1;
@@ -61,7 +63,7 @@ fn read_bare(s: &[u8], at: usize) -> Read
     let Read::At(name_at) = ordinal else {
         return ordinal;
     };
-    read_name(s, name_at, 8)
+    read_name(s, name_at, BODY)
 }
 
 // A field: ordinal, name, marks, encoding, limit, type.

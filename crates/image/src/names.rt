@@ -1,9 +1,11 @@
 // Names: a length and as many letters, digits or `_`.
 use crate::Read;
+use crate::refusals::NAME;
 ghost use mathlib.Core.Path.{_≡_};
 ghost use Rattle.image.specs.Names.{nameByte, nameAt, namesAt};
 ghost use Rattle.image.specs.Reads.{skip};
 
+// A small letter, a capital, a digit or `_`.
 fn is_name_byte(b: u8) -> bool
     ensures { λ r. ⌜ r ≡ nameByte b ⌝ }
 {
@@ -38,7 +40,7 @@ pub fn read_name(s: &[u8], at: usize, short: u8) -> Read
     let mut i = from;
     while i < end {
         if !is_name_byte(s[i]) {
-            return Read::Refused(7);
+            return Read::Refused(NAME);
         }
         i += 1;
     }

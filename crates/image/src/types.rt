@@ -4,15 +4,20 @@ use crate::names::read_names;
 use crate::numbers::read_byte;
 use crate::numbers::read_code;
 use crate::numbers::read_number;
+use crate::refusals::BODY;
+use crate::refusals::CODE;
+use crate::refusals::DEEP;
+use crate::tags;
 ghost use mathlib.Core.Path.{_≡_};
 ghost use Prim.Native.Nat.{_≤_};
 ghost use lib.ListN.{length};
+ghost use Rattle.image.specs.Kinds.{subByteTag, bitsTag};
 ghost use Rattle.image.specs.Types.{subByte, bits, afterTag, labelOf, innerTypes, typeOf, typeAt};
 ghost use Rattle.image.specs.Reads.{skip};
 
 // Whether a sub-byte is signed, and its bits.
 fn read_sub_byte(s: &[u8], at: usize) -> Read
-    ensures { λ r. ⌜ r ≡ skip (afterTag 1 subByte (now (s .entry)) at) ⌝ }
+    ensures { λ r. ⌜ r ≡ skip (afterTag subByteTag subByte (now (s .entry)) at) ⌝ }
 {
     let step = read_code(s, at, 0, 1);
     let Read::At(next) = step else {
@@ -23,14 +28,14 @@ fn read_sub_byte(s: &[u8], at: usize) -> Read
 
 // A count and as many names.
 fn read_bits(s: &[u8], at: usize) -> Read
-    ensures { λ r. ⌜ r ≡ skip (afterTag 16 bits (now (s .entry)) at) ⌝ }
+    ensures { λ r. ⌜ r ≡ skip (afterTag bitsTag bits (now (s .entry)) at) ⌝ }
 {
     let step = read_byte(s, at);
     let Read::At(next) = step else {
         return step;
     };
     let count = s[at] as usize;
-    read_names(s, next, count, 8)
+    read_names(s, next, count, BODY)
 }
 
 // The label of a type: its tag, and what stands between the tag and the inner types.
@@ -43,15 +48,15 @@ fn read_label(s: &[u8]) -> Read
     };
     let tag = s[0];
     match tag {
-        0 => read_code(s, next, 0, 13),
-        1 => read_sub_byte(s, next),
-        2 => read_code(s, next, 0, 5),
-        3 => read_number(s, next, 4),
-        6 => read_number(s, next, 8),
-        16 => read_bits(s, next),
+        tags::PRIMITIVE => read_code(s, next, 0, 13),
+        tags::SUB_BYTE => read_sub_byte(s, next),
+        tags::SEMANTIC => read_code(s, next, 0, 5),
+        tags::NAMED => read_number(s, next, 4),
+        tags::FIXED_ARRAY => read_number(s, next, 8),
+        tags::BITS => read_bits(s, next),
         _ => {
-            if 15 < tag {
-                return Read::Refused(9);
+            if tags::MAT4 < tag {
+                return Read::Refused(CODE);
             }
             step
         }
@@ -62,16 +67,16 @@ fn read_label(s: &[u8]) -> Read
 pub fn inner_types(tag: u8) -> usize
     ensures { λ r. ⌜ r ≡ innerTypes tag ⌝ }
 {
-    if tag < 4 {
+    if tag < tags::OPTIONAL {
         return 0;
     }
-    if 15 < tag {
+    if tags::MAT4 < tag {
         return 0;
     }
-    if tag == 8 {
+    if tag == tags::MAP {
         return 2;
     }
-    if tag == 9 {
+    if tag == tags::RESULT {
         return 2;
     }
     1
@@ -82,7 +87,7 @@ fn read_type(s: &[u8], left: usize) -> Read
     ensures { λ r. ⌜ r ≡ skip (typeOf left (now (s .entry))) ⌝ }
 {
     if left == 0 {
-        return Read::Refused(10);
+        return Read::Refused(DEEP);
     }
     let head = read_label(s);
     let Read::At(first) = head else {

@@ -18,7 +18,7 @@ use Rattle.text.specs.Text.{Space, Puts}
 use Rattle.text.specs.declared.Mode.the-variants.{Measure, Write}
 use Rattle.text.proofs.Writing.{space-measure, space-write, puts-written}
 use Rattle.rules.specs.Outcome.{Outcome, refused, answered, textOnly, fit, textLength, written}
-use Rattle.rules.specs.Answer.{oldSide}
+use Rattle.image.specs.Codes.{oldSide}
 use Rattle.tally.specs.Tallies.{noChange}
 use Rattle.tally.specs.declared.Tally.{Tally}
 use Rattle.verdicts.specs.Verdicts.{refusedBy, ofTally, verdictIs}

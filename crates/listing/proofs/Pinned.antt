@@ -4,6 +4,7 @@ use mathlib.Core.Path.{_≡_, refl}
 use mathlib.Core.Option.{none, some}
 use mathlib.Core.List.{[], _∷_}
 use Rattle.image.specs.Schema.{unmarked, noType, decl, Schema}
+use Rattle.image.specs.Kinds.{kindOf}
 use Rattle.image.specs.Words.{bytes, kindWord}
 use Rattle.text.specs.Decimal.{digits, decimal}
 use Rattle.listing.specs.Listing.{lineOf, entryLine, entryText, linesFrom, listing}
@@ -17,7 +18,7 @@ two = record {
 }
 
 pub two-lines : listing two ≡ bytes "1;message;Drive\n3;impl;\n"
-unfolding two listing linesFrom entryText entryLine lineOf decimal digits kindWord bytes
+unfolding two listing linesFrom entryText entryLine lineOf decimal digits kindOf kindWord bytes
 two-lines = refl
 
 pub no-line : listing (record { registry = none ∷ none ∷ []; ids = []; namespace = [] }) ≡ []

@@ -10,7 +10,7 @@ use Rattle.image.specs.Parse.{Parsed, ok, no}
 use Rattle.image.specs.Image.{readImage}
 use Rattle.text.specs.Decimal.{decimal}
 use Rattle.rules.specs.Outcome.{Outcome, refused, textOnly, select, fit, textLength, written}
-use Rattle.rules.specs.Answer.{oldSide}
+use Rattle.image.specs.Codes.{oldSide}
 
 -- ---- the text
 

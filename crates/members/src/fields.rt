@@ -34,6 +34,7 @@ fn deltas(image: &[u8], at: usize) -> usize
     n
 }
 
+// A field's encoding.
 pub fn field_encoding(image: &[u8], at: usize) -> Encoding
     requires { ⌜ ItemHere Shape.Field (now image) at ⌝ }
     ensures { λ r. ⌜ codingOf r ≡ fieldIn (now (image .entry)) at .encoding ⌝ }
@@ -55,6 +56,7 @@ fn limit_place(image: &[u8], at: usize) -> usize
     start + deltas(image, start) + 1
 }
 
+// A field's limit, if it has one.
 pub fn field_limit(image: &[u8], at: usize) -> Limit
     requires { ⌜ ItemHere Shape.Field (now image) at ⌝ }
     ensures { λ r. ⌜ limitOf r ≡ fieldIn (now (image .entry)) at .limit ⌝ }
@@ -93,6 +95,7 @@ pub fn field_type(image: &[u8], at: usize) -> usize
     place + 9
 }
 
+// The end of a field.
 pub(crate) fn field_end(image: &[u8], at: usize) -> usize
     requires { ⌜ ItemHere Shape.Field (now image) at ⌝ }
     ensures { λ r. ⌜ r ≡ itemEnd Shape.Field (now (image .entry)) at ⌝ }

@@ -1,5 +1,6 @@
 // Items of declarations: fields, variants and bits. Each starts with its ordinal and its name, so these are found without its shape.
 use crate::fields::field_end;
+use image::kinds::ENUM;
 use image::numbers::u16_at;
 use image::numbers::u32_at;
 use parts::Run;
@@ -9,8 +10,10 @@ use parts::names::name_end;
 ghost use mathlib.Core.Path.{_≡_};
 ghost use Prim.Native.Nat.{_+_, _≤_};
 ghost use lib.ListN.{length};
+ghost use Rattle.image.specs.Kinds.{unionKind};
 ghost use Rattle.parts.specs.Promise.{DeclHere, declIn, itemsIn, ItemHere, itemEnd, ItemsHere, itemsEnd, ordinalIn, itemName, itemsAt, variantItems};
 
+// The ordinal of an item; of flags it is the bit.
 pub fn ordinal_at(image: &[u8], at: usize) -> u32
     requires { ⌜ ItemHere Shape.Bare (now image) at ⌝ }
     ensures { λ r. ⌜ r ≡ ordinalIn (now (image .entry)) at ⌝ }
@@ -18,6 +21,7 @@ pub fn ordinal_at(image: &[u8], at: usize) -> u32
     u32_at(image, at)
 }
 
+// The bytes of the name of an item.
 pub fn item_name(image: &[u8], at: usize) -> &[u8]
     requires { ⌜ ItemHere Shape.Bare (now image) at ⌝ }
     ensures { λ r. ⌜ now r ≡ itemName (now (image .entry)) at ⌝ }
@@ -38,11 +42,11 @@ fn items_at(image: &[u8], at: usize) -> Run
 
 // The items of a message, an enum, flags or a union.
 pub fn decl_items(image: &[u8], at: usize) -> Run
-    requires { ⌜ DeclHere (now image) at × (declIn (now image) at .kind ≤ 3) ⌝ }
+    requires { ⌜ DeclHere (now image) at × (declIn (now image) at .kind ≤ unionKind) ⌝ }
     ensures { λ r. ⌜ r ≡ itemsIn (now (image .entry)) at ⌝ }
 {
     let end = name_end(image, at + 1);
-    if 1 < image[at] {
+    if ENUM < image[at] {
         return items_at(image, end);
     }
     items_at(image, end + 1)
@@ -70,6 +74,7 @@ fn fields_end(image: &[u8], at: usize, count: usize) -> usize
     next
 }
 
+// The end of a union's variant.
 fn variant_end(image: &[u8], at: usize) -> usize
     requires { ⌜ ItemHere Shape.Variant (now image) at ⌝ }
     ensures { λ r. ⌜ r ≡ itemEnd Shape.Variant (now (image .entry)) at ⌝ }
@@ -78,6 +83,7 @@ fn variant_end(image: &[u8], at: usize) -> usize
     fields_end(image, fields.start, fields.count)
 }
 
+// The end of a bare item.
 fn bare_end(image: &[u8], at: usize) -> usize
     requires { ⌜ ItemHere Shape.Bare (now image) at ⌝ }
     ensures { λ r. ⌜ r ≡ itemEnd Shape.Bare (now (image .entry)) at ⌝ }

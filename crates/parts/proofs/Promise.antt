@@ -14,7 +14,7 @@ use Rattle.image.specs.WellFormed.{Good, valueOr}
 use Rattle.reader.specs.Answer.{Answers}
 use Rattle.reader.specs.declared.Acceptance.{Acceptance}
 use Rattle.reader.proofs.Laws.Answers.{accepted-good, rejected-no}
-use Rattle.parts.specs.Promise.{Accepted, schemaOf, nameEnd, namePlaces, itemEnd, placesFrom, DeclHere, declIn, declOf, EntryHere, Resolved}
+use Rattle.parts.specs.Promise.{Accepted, schemaOf, nameEnd, namePlaces, itemEnd, placesFrom, DeclHere, declIn, entryDecl, EntryHere, Resolved}
 use Rattle.parts.specs.declared.Shape.{Shape}
 use Rattle.parts.specs.declared.Entry.{Entry}
 use Rattle.parts.proofs.Laws.Places.{places-none as by-none, places-more as by-more}
@@ -65,12 +65,12 @@ module _ (s : List ℕ) (id : ℕ) {r : Entry} (h : Resolved s id r) where
   resolved-here e = rw e at (h .here)
 
   pub resolved-body : {at : ℕ} → r ≡ Entry.Body at → getD (schemaOf s .registry) id none ≡ some (declIn s at)
-  unfolding declOf
-  resolved-body e = sym (h .value) ∙ ap (declOf s) e
+  unfolding entryDecl
+  resolved-body e = sym (h .value) ∙ ap (entryDecl s) e
 
   pub resolved-none : r ≡ Entry.Unresolvable → getD (schemaOf s .registry) id none ≡ none
-  unfolding declOf
-  resolved-none e = sym (h .value) ∙ ap (declOf s) e
+  unfolding entryDecl
+  resolved-none e = sym (h .value) ∙ ap (entryDecl s) e
 
 -- a declaration's kind
 pub decl-most : (s : List ℕ) (at : ℕ) → DeclHere s at → declIn s at .kind ≤ 8

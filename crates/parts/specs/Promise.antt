@@ -8,6 +8,8 @@ use mathlib.Core.List.{List, [], _∷_, map}
 use Prim.Native.Nat.{ℕ, zero, suc, _+_, _-_, _≤_, _<_}
 use lib.Dec.{leb}
 use lib.ListN.{length, getD, take, drop}
+use Rattle.image.specs.Codes.{bodyRefusal}
+use Rattle.image.specs.Kinds.{kindOf, enumKind, implKind, primitiveTag, subByteTag, semanticTag, namedTag, fixedArrayTag, bitsTag}
 use Rattle.image.specs.Schema.{Name, unmarked, Label, label, Ty, noType, Field, Variant, Decl, decl, Schema}
 use Rattle.image.specs.Schema.{Encoding as Coding}
 use Rattle.image.specs.Parse.{Parsed, bind, littleEndian, byteAt, many}
@@ -35,7 +37,7 @@ schemaOf s = valueOr (record { registry = []; ids = []; namespace = [] }) (readI
 
 -- of places where none stands
 abbrev pub noLabel : Label
-noLabel = label 0 0 0 []
+noLabel = label primitiveTag 0 0 []
 
 abbrev pub noField : Field
 noField = record { ordinal = 0; name = []; marks = unmarked; encoding = plain 0; limit = none; type = noType }
@@ -44,17 +46,17 @@ abbrev pub noVariant : Variant
 noVariant = record { ordinal = 0; name = []; fields = [] }
 
 abbrev pub noDecl : Decl
-noDecl = decl 8 [] unmarked [] [] noType
+noDecl = decl implKind [] unmarked [] [] noType
 
 -- Names.
 unfoldable pub NameHere : List ℕ → ℕ → Type 0
-NameHere s at = Good (nameAt 8 s at)
+NameHere s at = Good (nameAt bodyRefusal s at)
 
 unfoldable pub nameIn : List ℕ → ℕ → Name
-nameIn s at = valueOr [] (nameAt 8 s at)
+nameIn s at = valueOr [] (nameAt bodyRefusal s at)
 
 unfoldable pub nameEnd : List ℕ → ℕ → ℕ
-nameEnd s at = endOf (nameAt 8 s at)
+nameEnd s at = endOf (nameAt bodyRefusal s at)
 
 -- Things one after the other: the places of so many, from the first one's and what ends one.
 unfoldable pub placesBy : (ℕ → ℕ) → ℕ → ℕ → List ℕ
@@ -62,14 +64,14 @@ placesBy end zero at = []
 placesBy end (suc count) at = at ∷ placesBy end count (end at)
 
 unfoldable pub NamesHere : List ℕ → ℕ → ℕ → Type 0
-NamesHere s count at = Good (namesAt 8 count s at)
+NamesHere s count at = Good (namesAt bodyRefusal count s at)
 
 unfoldable pub namePlaces : List ℕ → ℕ → ℕ → List ℕ
 namePlaces s count at = placesBy (nameEnd s) count at
 
 -- the place after so many names
 unfoldable pub namesEnd : List ℕ → ℕ → ℕ → ℕ
-namesEnd s count at = endOf (namesAt 8 count s at)
+namesEnd s count at = endOf (namesAt bodyRefusal count s at)
 
 -- so many names stand in a row, and are these
 pub record NamesListed (s : List ℕ) (n : Run) (xs : List Name) : Type 0 where
@@ -85,14 +87,14 @@ labelIn s at = valueOr noLabel (labelOf (drop at s))
 
 -- what its tag has is within document 01's values, and what it has not is 0 or empty
 pub record Regular (l : Label) : Type 0 where
-  pub most : l .tag ≤ 16
-  pub primitive : l .tag ≡ 0 → l .first ≤ 13
-  pub sign : l .tag ≡ 1 → l .first ≤ 1
-  pub bits : l .tag ≡ 1 → (1 ≤ l .second) × (l .second ≤ 64)
-  pub semantic : l .tag ≡ 2 → l .first ≤ 5
-  pub first : 3 < l .tag → (l .tag ≡ 6 → ⊥) → l .first ≡ 0
-  pub second : (l .tag ≡ 1 → ⊥) → l .second ≡ 0
-  pub names : (l .tag ≡ 16 → ⊥) → l .names ≡ []
+  pub most : l .tag ≤ bitsTag
+  pub primitive : l .tag ≡ primitiveTag → l .first ≤ 13
+  pub sign : l .tag ≡ subByteTag → l .first ≤ 1
+  pub bits : l .tag ≡ subByteTag → (1 ≤ l .second) × (l .second ≤ 64)
+  pub semantic : l .tag ≡ semanticTag → l .first ≤ 5
+  pub first : namedTag < l .tag → (l .tag ≡ fixedArrayTag → ⊥) → l .first ≡ 0
+  pub second : (l .tag ≡ subByteTag → ⊥) → l .second ≡ 0
+  pub names : (l .tag ≡ bitsTag → ⊥) → l .names ≡ []
 
 -- where the first inner type starts, if there is one
 unfoldable pub labelEnd : List ℕ → ℕ → ℕ
@@ -196,7 +198,7 @@ limitOf Unlimited = none
 
 -- Declarations.
 unfoldable pub bodyAt : List ℕ → ℕ → Parsed Decl
-bodyAt s at = bind (byteAt 8 s at) (λ kind n. declAt kind s n)
+bodyAt s at = bind (byteAt bodyRefusal s at) (λ kind n. declAt (kindOf kind) s n)
 
 unfoldable pub DeclHere : List ℕ → ℕ → Type 0
 DeclHere s at = Good (bodyAt s at)
@@ -206,23 +208,23 @@ declIn s at = valueOr noDecl (bodyAt s at)
 
 -- the items of a message, an enum, flags or a union: only the first two have marks before the count
 unfoldable pub itemsIn : List ℕ → ℕ → Run
-itemsIn s at = itemsAt s (nameEnd s (at + 1) + cond (leb (declIn s at .kind) 1) 1 0)
+itemsIn s at = itemsAt s (nameEnd s (at + 1) + cond (leb (declIn s at .kind) enumKind) 1 0)
 
 -- the type of a newtype
 unfoldable pub innerPlace : List ℕ → ℕ → ℕ
 innerPlace s at = nameEnd s (at + 1)
 
 -- The entry of an id: "An id that is N or more, or whose entry is empty, is unresolvable".
-unfoldable pub declOf : List ℕ → Entry → Option Decl
-declOf s (Body at) = some (declIn s at)
-declOf s Unresolvable = none
+unfoldable pub entryDecl : List ℕ → Entry → Option Decl
+entryDecl s (Body at) = some (declIn s at)
+entryDecl s Unresolvable = none
 
 unfoldable pub EntryHere : List ℕ → Entry → Type 0
 EntryHere s (Body at) = DeclHere s at
 EntryHere s Unresolvable = Unit {0}
 
 pub record Resolved (s : List ℕ) (id : ℕ) (r : Entry) : Type 0 where
-  pub value : declOf s r ≡ getD (schemaOf s .registry) id none
+  pub value : entryDecl s r ≡ getD (schemaOf s .registry) id none
   pub here : EntryHere s r
 
 -- so many bytes from a place on, as a list of their own

@@ -1,11 +1,14 @@
 // Declarations at places of the image.
 use crate::names::name_at;
 use crate::names::name_end;
+use image::kinds::ENUM;
+use image::kinds::IMPL;
 ghost use mathlib.Core.Path.{_≡_};
+ghost use Rattle.image.specs.Kinds.{newtypeKind};
 ghost use Rattle.image.specs.Fields.{marksOf};
 ghost use Rattle.parts.specs.Promise.{DeclHere, declIn, innerPlace};
 
-// 0 message, 1 enum, 2 flags, 3 union, 4 newtype, 5 config, 6 generic alias, 7 trait, 8 impl.
+// The kind, one of `image::kinds`.
 pub fn decl_kind(image: &[u8], at: usize) -> u8
     requires { ⌜ DeclHere (now image) at ⌝ }
     ensures { λ r. ⌜ r ≡ declIn (now (image .entry)) at .kind ⌝ }
@@ -18,7 +21,7 @@ pub fn decl_name(image: &[u8], at: usize) -> &[u8]
     requires { ⌜ DeclHere (now image) at ⌝ }
     ensures { λ r. ⌜ now r ≡ declIn (now (image .entry)) at .name ⌝ }
 {
-    if image[at] == 8 {
+    if image[at] == IMPL {
         return &image[at..at];
     }
     name_at(image, at + 1)
@@ -29,7 +32,7 @@ fn marks(image: &[u8], at: usize) -> u8
     requires { ⌜ DeclHere (now image) at ⌝ }
     ensures { λ r. ⌜ marksOf r ≡ declIn (now (image .entry)) at .marks ⌝ }
 {
-    if 1 < image[at] {
+    if ENUM < image[at] {
         return 0;
     }
     let place = name_end(image, at + 1);
@@ -54,7 +57,7 @@ pub fn non_exhaustive(image: &[u8], at: usize) -> bool
 
 // Where a newtype's type stands.
 pub fn inner_type(image: &[u8], at: usize) -> usize
-    requires { ⌜ DeclHere (now image) at × (declIn (now image) at .kind ≡ 4) ⌝ }
+    requires { ⌜ DeclHere (now image) at × (declIn (now image) at .kind ≡ newtypeKind) ⌝ }
     ensures { λ r. ⌜ r ≡ innerPlace (now (image .entry)) at ⌝ }
 {
     name_end(image, at + 1)

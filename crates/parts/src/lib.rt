@@ -31,6 +31,7 @@ pub struct Encoding {
     pub base: u8,
 }
 
+// The most that a field may have, if it has a limit.
 pub enum Limit {
     Most(u64),
     Unlimited,

@@ -12,6 +12,7 @@ pub fn name_at(image: &[u8], at: usize) -> &[u8]
     &image[start..end]
 }
 
+// The end of a name.
 pub fn name_end(image: &[u8], at: usize) -> usize
     requires { ⌜ NameHere (now image) at ⌝ }
     ensures { λ r. ⌜ r ≡ nameEnd (now (image .entry)) at ⌝ }

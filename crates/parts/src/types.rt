@@ -3,10 +3,13 @@
 use crate::Run;
 use crate::names::names_end;
 use image::numbers::u32_at;
+use image::tags;
 ghost use mathlib.Core.Path.{_≡_};
 ghost use Prim.Native.Nat.{_≤_};
+ghost use Rattle.image.specs.Kinds.{subByteTag, semanticTag, namedTag, fixedArrayTag, bitsTag};
 ghost use Rattle.parts.specs.Promise.{LabelHere, labelIn, labelEnd, bitsIn, TypeHere, typeEnd};
 
+// The tag, one of `image::tags`.
 pub fn type_tag(image: &[u8], at: usize) -> u8
     requires { ⌜ LabelHere (now image) at ⌝ }
     ensures { λ r. ⌜ r ≡ labelIn (now (image .entry)) at .tag ⌝ }
@@ -16,7 +19,7 @@ pub fn type_tag(image: &[u8], at: usize) -> u8
 
 // The code of a primitive or a semantic type; of a sub-byte, whether it is signed.
 pub fn type_code(image: &[u8], at: usize) -> u8
-    requires { ⌜ LabelHere (now image) at × (labelIn (now image) at .tag ≤ 2) ⌝ }
+    requires { ⌜ LabelHere (now image) at × (labelIn (now image) at .tag ≤ semanticTag) ⌝ }
     ensures { λ r. ⌜ r ≡ labelIn (now (image .entry)) at .first ⌝ }
 {
     image[at + 1]
@@ -24,7 +27,7 @@ pub fn type_code(image: &[u8], at: usize) -> u8
 
 // The bits of a sub-byte.
 pub fn type_bits(image: &[u8], at: usize) -> u8
-    requires { ⌜ LabelHere (now image) at × (labelIn (now image) at .tag ≡ 1) ⌝ }
+    requires { ⌜ LabelHere (now image) at × (labelIn (now image) at .tag ≡ subByteTag) ⌝ }
     ensures { λ r. ⌜ r ≡ labelIn (now (image .entry)) at .second ⌝ }
 {
     image[at + 2]
@@ -32,7 +35,7 @@ pub fn type_bits(image: &[u8], at: usize) -> u8
 
 // The id of a named type.
 pub fn type_id(image: &[u8], at: usize) -> u32
-    requires { ⌜ LabelHere (now image) at × (labelIn (now image) at .tag ≡ 3) ⌝ }
+    requires { ⌜ LabelHere (now image) at × (labelIn (now image) at .tag ≡ namedTag) ⌝ }
     ensures { λ r. ⌜ r ≡ labelIn (now (image .entry)) at .first ⌝ }
 {
     u32_at(image, at + 1)
@@ -40,7 +43,7 @@ pub fn type_id(image: &[u8], at: usize) -> u32
 
 // The size of a fixed array.
 pub fn type_size(image: &[u8], at: usize) -> u64
-    requires { ⌜ LabelHere (now image) at × (labelIn (now image) at .tag ≡ 6) ⌝ }
+    requires { ⌜ LabelHere (now image) at × (labelIn (now image) at .tag ≡ fixedArrayTag) ⌝ }
     ensures { λ r. ⌜ r ≡ labelIn (now (image .entry)) at .first ⌝ }
 {
     image::numbers::number(image, at + 1, 8)
@@ -48,7 +51,7 @@ pub fn type_size(image: &[u8], at: usize) -> u64
 
 // The names of bits.
 pub fn bit_names(image: &[u8], at: usize) -> Run
-    requires { ⌜ LabelHere (now image) at × (labelIn (now image) at .tag ≡ 16) ⌝ }
+    requires { ⌜ LabelHere (now image) at × (labelIn (now image) at .tag ≡ bitsTag) ⌝ }
     ensures { λ r. ⌜ r ≡ bitsIn (now (image .entry)) at ⌝ }
 {
     Run {
@@ -64,12 +67,12 @@ pub fn label_end(image: &[u8], at: usize) -> usize
 {
     let tag = image[at];
     match tag {
-        0 => at + 2,
-        1 => at + 3,
-        2 => at + 2,
-        3 => at + 5,
-        6 => at + 9,
-        16 => names_end(image, at + 2, image[at + 1] as usize),
+        tags::PRIMITIVE => at + 2,
+        tags::SUB_BYTE => at + 3,
+        tags::SEMANTIC => at + 2,
+        tags::NAMED => at + 5,
+        tags::FIXED_ARRAY => at + 9,
+        tags::BITS => names_end(image, at + 2, image[at + 1] as usize),
         _ => at + 1,
     }
 }

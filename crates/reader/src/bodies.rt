@@ -4,10 +4,14 @@ use image::fields::read_bares;
 use image::fields::read_fields;
 use image::fields::read_marks;
 use image::fields::read_variants;
+use image::kinds;
 use image::names::read_name;
 use image::numbers::read_byte;
+use image::refusals::BODY;
+use image::refusals::KIND;
 use image::types::read_type_at;
 ghost use mathlib.Core.Path.{_≡_};
+ghost use Rattle.image.specs.Kinds.{kindOf};
 ghost use Rattle.image.specs.Bodies.{messageAt, enumAt, flagsAt, unionAt, newtypeAt, declAt, bodyOf};
 ghost use Rattle.image.specs.Reads.{skip};
 
@@ -15,7 +19,7 @@ ghost use Rattle.image.specs.Reads.{skip};
 fn read_message(s: &[u8], at: usize) -> Read
     ensures { λ r. ⌜ r ≡ skip (messageAt (now (s .entry)) at) ⌝ }
 {
-    let name = read_name(s, at, 8);
+    let name = read_name(s, at, BODY);
     let Read::At(marks_at) = name else {
         return name;
     };
@@ -30,7 +34,7 @@ fn read_message(s: &[u8], at: usize) -> Read
 fn read_enum(s: &[u8], at: usize) -> Read
     ensures { λ r. ⌜ r ≡ skip (enumAt (now (s .entry)) at) ⌝ }
 {
-    let name = read_name(s, at, 8);
+    let name = read_name(s, at, BODY);
     let Read::At(marks_at) = name else {
         return name;
     };
@@ -45,7 +49,7 @@ fn read_enum(s: &[u8], at: usize) -> Read
 fn read_flags(s: &[u8], at: usize) -> Read
     ensures { λ r. ⌜ r ≡ skip (flagsAt (now (s .entry)) at) ⌝ }
 {
-    let name = read_name(s, at, 8);
+    let name = read_name(s, at, BODY);
     let Read::At(bits_at) = name else {
         return name;
     };
@@ -56,7 +60,7 @@ fn read_flags(s: &[u8], at: usize) -> Read
 fn read_union(s: &[u8], at: usize) -> Read
     ensures { λ r. ⌜ r ≡ skip (unionAt (now (s .entry)) at) ⌝ }
 {
-    let name = read_name(s, at, 8);
+    let name = read_name(s, at, BODY);
     let Read::At(variants_at) = name else {
         return name;
     };
@@ -67,26 +71,26 @@ fn read_union(s: &[u8], at: usize) -> Read
 fn read_newtype(s: &[u8], at: usize) -> Read
     ensures { λ r. ⌜ r ≡ skip (newtypeAt (now (s .entry)) at) ⌝ }
 {
-    let name = read_name(s, at, 8);
+    let name = read_name(s, at, BODY);
     let Read::At(type_at) = name else {
         return name;
     };
     read_type_at(s, type_at)
 }
 
-// What follows the kind: 5 config, 6 generic alias and 7 trait have only a name, 8 impl has nothing.
+// What follows the kind: configs, generic aliases and traits have only a name, impls have nothing.
 fn read_decl(kind: u8, s: &[u8], at: usize) -> Read
-    ensures { λ r. ⌜ r ≡ skip (declAt kind (now (s .entry)) at) ⌝ }
+    ensures { λ r. ⌜ r ≡ skip (declAt (kindOf kind) (now (s .entry)) at) ⌝ }
 {
     match kind {
-        0 => read_message(s, at),
-        1 => read_enum(s, at),
-        2 => read_flags(s, at),
-        3 => read_union(s, at),
-        4 => read_newtype(s, at),
-        5 | 6 | 7 => read_name(s, at, 8),
-        8 => Read::At(at),
-        _ => Read::Refused(6),
+        kinds::MESSAGE => read_message(s, at),
+        kinds::ENUM => read_enum(s, at),
+        kinds::FLAGS => read_flags(s, at),
+        kinds::UNION => read_union(s, at),
+        kinds::NEWTYPE => read_newtype(s, at),
+        kinds::CONFIG | kinds::ALIAS | kinds::TRAIT => read_name(s, at, BODY),
+        kinds::IMPL => Read::At(at),
+        _ => Read::Refused(KIND),
     }
 }
 
@@ -103,7 +107,7 @@ pub(crate) fn read_body(s: &[u8]) -> Read
         return decl;
     };
     if end != s.len() {
-        return Read::Refused(8);
+        return Read::Refused(BODY);
     }
     decl
 }

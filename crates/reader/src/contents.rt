@@ -3,6 +3,11 @@ use crate::bodies::read_body;
 use image::Read;
 use image::names::read_names;
 use image::numbers::u16_at;
+use image::refusals::CONTENTS;
+use image::refusals::CROWDED;
+use image::refusals::FORMAT;
+use image::refusals::LONG;
+use image::refusals::SHORT_HEAD;
 ghost use mathlib.Core.Path.{_≡_};
 ghost use mathlib.Core.Bool.{true};
 ghost use Prim.Native.Nat.{_+_, _*_, _≤_, _<_};
@@ -10,7 +15,7 @@ ghost use lib.ListN.{length};
 ghost use Rattle.image.specs.Image.{entryCount, idCount, segmentCount, entryOffset, entryLength, headOf, tablesOf, laid, entryOf, entriesOf, readImage};
 ghost use Rattle.image.specs.Reads.{skip};
 
-// The head's counts: registry entries, declaration ids, namespace segments.
+// The head's count of registry entries.
 pub fn entry_count(s: &[u8]) -> usize
     requires { ⌜ 8 ≤ length (now s) ⌝ }
     ensures { λ r. ⌜ (r ≡ entryCount (now (s .entry))) × (r < 65536) ⌝ }
@@ -18,6 +23,7 @@ pub fn entry_count(s: &[u8]) -> usize
     u16_at(s, 2)
 }
 
+// The head's count of declaration ids.
 pub fn id_count(s: &[u8]) -> usize
     requires { ⌜ 8 ≤ length (now s) ⌝ }
     ensures { λ r. ⌜ (r ≡ idCount (now (s .entry))) × (r < 65536) ⌝ }
@@ -25,6 +31,7 @@ pub fn id_count(s: &[u8]) -> usize
     u16_at(s, 4)
 }
 
+// The head's count of namespace segments.
 pub fn segment_count(s: &[u8]) -> usize
     requires { ⌜ 8 ≤ length (now s) ⌝ }
     ensures { λ r. ⌜ (r ≡ segmentCount (now (s .entry))) × (r < 65536) ⌝ }
@@ -32,7 +39,7 @@ pub fn segment_count(s: &[u8]) -> usize
     u16_at(s, 6)
 }
 
-// The i-th pair of the contents.
+// Where the body of the i-th entry starts.
 pub fn entry_offset(s: &[u8], i: usize) -> usize
     requires { ⌜ 8 + 4 * i + 4 ≤ length (now s) ⌝ }
     ensures { λ r. ⌜ (r ≡ entryOffset (now (s .entry)) i) × (r < 65536) ⌝ }
@@ -40,6 +47,7 @@ pub fn entry_offset(s: &[u8], i: usize) -> usize
     u16_at(s, 8 + 4 * i)
 }
 
+// And how long it is.
 pub fn entry_length(s: &[u8], i: usize) -> usize
     requires { ⌜ 8 + 4 * i + 4 ≤ length (now s) ⌝ }
     ensures { λ r. ⌜ (r ≡ entryLength (now (s .entry)) i) × (r < 65536) ⌝ }
@@ -47,27 +55,27 @@ pub fn entry_length(s: &[u8], i: usize) -> usize
     u16_at(s, 10 + 4 * i)
 }
 
-// 1 long, 2 short head, 3 format, 4 crowded.
+// The head: its length, its format and its counts.
 fn read_head(s: &[u8]) -> Read
     ensures { λ r. ⌜ r ≡ skip (headOf (now (s .entry))) ⌝ }
 {
     if 32768 < s.len() {
-        return Read::Refused(1);
+        return Read::Refused(LONG);
     }
     if s.len() < 8 {
-        return Read::Refused(2);
+        return Read::Refused(SHORT_HEAD);
     }
     if u16_at(s, 0) != 1 {
-        return Read::Refused(3);
+        return Read::Refused(FORMAT);
     }
     if 512 < entry_count(s) {
-        return Read::Refused(4);
+        return Read::Refused(CROWDED);
     }
     if 512 < id_count(s) {
-        return Read::Refused(4);
+        return Read::Refused(CROWDED);
     }
     if 16 < segment_count(s) {
-        return Read::Refused(4);
+        return Read::Refused(CROWDED);
     }
     Read::At(8)
 }
@@ -79,7 +87,7 @@ fn read_tables(s: &[u8]) -> Read
 {
     let end = 8 + 4 * entry_count(s) + 4 * id_count(s);
     if s.len() < end {
-        return Read::Refused(2);
+        return Read::Refused(SHORT_HEAD);
     }
     Read::At(end)
 }
@@ -154,13 +162,13 @@ pub(crate) fn read_whole(s: &[u8]) -> Read
     let Read::At(names_at) = tables else {
         return tables;
     };
-    let names = read_names(s, names_at, segment_count(s), 2);
+    let names = read_names(s, names_at, segment_count(s), SHORT_HEAD);
     let Read::At(bodies_at) = names else {
         return names;
     };
     let n = entry_count(s);
     if !is_laid(s, n, bodies_at) {
-        return Read::Refused(5);
+        return Read::Refused(CONTENTS);
     }
     read_entries(s, n, bodies_at)
 }

@@ -13,8 +13,9 @@ use Rattle.maps.proofs.Orders.{byNumber}
 use Rattle.maps.proofs.Reorderings.{reordered-all}
 use Rattle.maps.proofs.Alike.{survivors-once, compare-alike}
 use Rattle.image.specs.Schema.{Name, Label, label, Ty, Field, Variant, Decl}
-use Rattle.rules.specs.Survivors.{Registry, declOf, nameOf, ordinalOf, fieldMap, variantOrdinal, variantMap}
-use Rattle.rules.specs.Types.{nameIn, resolveLabel, resolve}
+use Rattle.image.specs.Kinds.{Kind, kindOf, message, enum, flags, union, newtype, config, alias, trait, impl, other, implKind}
+use Rattle.rules.specs.Survivors.{Registry, standsFor, nameOf, ordinalOf, fieldMap, variantOrdinal, variantMap}
+use Rattle.rules.specs.Types.{nameOrNone, resolveLabel, resolve}
 use Rattle.rules.specs.Changes.{Bump, Change}
 use Rattle.rules.specs.Clauses.{clausesBy, Context, context, compareTypes, fieldText, compareFieldNames, compareEncodings, compareDeprecated, compareFields, fieldRules, compareFieldSets, compareMessages, variantText, variantGone, variantCame, enumRules, compareEnums, bitText, flagsRules, compareFlags, variantDecl, unionRules, compareUnions, compareNewtypes, compareKind, kindChanged, compareAlike, compareDecls, declText, declRules}
 use Rattle.refiling.specs.Refiling.{Impls, NumbersOnce, Unresolvable, Resolvable, RefiledId, renumbered, unresolvable, RefiledLabel, named, other, RefiledType, aLeaf, aOne, aTwo, RefiledField, RefiledVariant, RefiledDecl, Renumbered}
@@ -22,11 +23,11 @@ use Rattle.refiling.specs.Refiling.{Impls, NumbersOnce, Unresolvable, Re
 -- ---- ids, types
 
 -- by what entry an id stands for
-pub by-entry : (R : Registry) (i : ℕ) {A : Type 0} → Resolvable R i → ((d : Decl) → declOf R i ≡ some d → A) → A
+pub by-entry : (R : Registry) (i : ℕ) {A : Type 0} → Resolvable R i → ((d : Decl) → standsFor R i ≡ some d → A) → A
 unfolding Resolvable Unresolvable
-by-entry R i {A} r f = go (declOf R i) refl
+by-entry R i {A} r f = go (standsFor R i) refl
   where
-    go : (o : Option Decl) → declOf R i ≡ o → A
+    go : (o : Option Decl) → standsFor R i ≡ o → A
     go none p = absurd (r p)
     go (some d) p = f d p
 
@@ -34,8 +35,8 @@ by-entry R i {A} r f = go (declOf R i) refl
 pub record Moved (R S : Registry) (to : ℕ → ℕ) (i : ℕ) : Type 0 where
   pub before : Decl
   pub after : Decl
-  pub stood : declOf R i ≡ some before
-  pub stands : declOf S (to i) ≡ some after
+  pub stood : standsFor R i ≡ some before
+  pub stands : standsFor S (to i) ≡ some after
   pub anew : RefiledDecl R S to before after
 
 -- of a node that is not named nothing is looked up
@@ -54,8 +55,8 @@ module _ {R S : Registry} {to from : ℕ → ℕ} (N : Renumbered R S to from) w
       by-entry S (to i) (N .there i r .0) (λ e b.
       record { before = d; after = e; stood = a; stands = b; anew = N .entry i d e a b }))
 
-  name-refiled : {i j : ℕ} → RefiledId R S to i j → nameIn (declOf R i) ≡ nameIn (declOf S j)
-  unfolding nameIn Unresolvable
+  name-refiled : {i j : ℕ} → RefiledId R S to i j → nameOrNone (standsFor R i) ≡ nameOrNone (standsFor S j)
+  unfolding nameOrNone Unresolvable
   name-refiled {i} (renumbered r e) = let x = moved i r in rw (e, x .stood, x .stands, x .anew .name)
   name-refiled (unresolvable a b) = rw (a, b)
 
@@ -205,17 +206,21 @@ module _ (same : Ty → Ty → Bool) {R R′ S S′ : Registry} {to from to′ f
     unfolding compareNewtypes
     newtypes-same = types-same name none _ (d .inner) (d′ .inner) (e .inner) (e′ .inner) (a .inner) (b .inner)
 
-  kinds-same : (k : ℕ) (d d′ e e′ : Decl) → NumbersOnce d → NumbersOnce e → RefiledDecl R R′ to d d′ → RefiledDecl S S′ to′ e e′
+  kinds-same : (k : Kind) (d d′ e e′ : Decl) → NumbersOnce d → NumbersOnce e → RefiledDecl R R′ to d d′ → RefiledDecl S S′ to′ e e′
       → compareKind k first d e ≡ compareKind k second d′ e′
   unfolding compareKind
-  kinds-same zero d d′ e e′ m n a b = messages-same d d′ e e′ m n a b (d .name) ∙ ap (λ x. compareMessages second x d′ e′) (a .name)
-  kinds-same (suc zero) d d′ e e′ m n a b = enums-same d d′ e e′ m n a b (d .name) ∙ ap (λ x. compareEnums x d′ e′) (a .name)
-  kinds-same (suc (suc zero)) d d′ e e′ m n a b = flags-same d d′ e e′ m n a b (d .name) ∙ ap (λ x. compareFlags x d′ e′) (a .name)
-  kinds-same (suc (suc (suc zero))) d d′ e e′ m n a b =
+  kinds-same message d d′ e e′ m n a b = messages-same d d′ e e′ m n a b (d .name) ∙ ap (λ x. compareMessages second x d′ e′) (a .name)
+  kinds-same enum d d′ e e′ m n a b = enums-same d d′ e e′ m n a b (d .name) ∙ ap (λ x. compareEnums x d′ e′) (a .name)
+  kinds-same flags d d′ e e′ m n a b = flags-same d d′ e e′ m n a b (d .name) ∙ ap (λ x. compareFlags x d′ e′) (a .name)
+  kinds-same union d d′ e e′ m n a b =
       unions-same d d′ e e′ m n a b (d .name) ∙ ap (λ x. compareUnions second x d′ e′) (a .name)
-  kinds-same (suc (suc (suc (suc zero)))) d d′ e e′ m n a b =
+  kinds-same newtype d d′ e e′ m n a b =
       newtypes-same d d′ e e′ m n a b (d .name) ∙ ap (λ x. compareNewtypes second x d′ e′) (a .name)
-  kinds-same (suc (suc (suc (suc (suc k))))) d d′ e e′ m n a b = refl
+  kinds-same config d d′ e e′ m n a b = refl
+  kinds-same alias d d′ e e′ m n a b = refl
+  kinds-same trait d d′ e e′ m n a b = refl
+  kinds-same impl d d′ e e′ m n a b = refl
+  kinds-same other d d′ e e′ m n a b = refl
 
   -- ---- two declarations of one name
 
@@ -226,14 +231,14 @@ module _ (same : Ty → Ty → Bool) {R R′ S S′ : Registry} {to from to′ f
   NewDecl = LikeDecl S S′ to′
 
   -- impls are silent
-  impl-silent : (r : Context) (d e : Decl) (k : ℕ) → k ≡ 8 → compareKind k r d e ≡ []
-  unfolding compareKind
+  impl-silent : (r : Context) (d e : Decl) (k : ℕ) → k ≡ implKind → compareKind (kindOf k) r d e ≡ []
+  unfolding compareKind kindOf
   impl-silent r d e k p = rw p
 
   kind-same : (d d′ e e′ : Decl) → OldDecl d d′ → NewDecl e e′ → d .kind ≡ e .kind
-      → compareKind (d .kind) first d e ≡ compareKind (d .kind) second d′ e′
+      → compareKind (kindOf (d .kind)) first d e ≡ compareKind (kindOf (d .kind)) second d′ e′
   unfolding Impls
-  kind-same d d′ e e′ (refiled a m) (refiled b n) k = kinds-same (d .kind) d d′ e e′ m n a b
+  kind-same d d′ e e′ (refiled a m) (refiled b n) k = kinds-same (kindOf (d .kind)) d d′ e e′ m n a b
   kind-same d d′ e e′ (refiled a m) (impls i x) k =
       impl-silent first d e (d .kind) (k ∙ i .0) ∙ sym (impl-silent second d′ e′ (d .kind) (k ∙ i .0))
   kind-same d d′ e e′ (impls i x) b k = impl-silent first d e (d .kind) (i .0) ∙ sym (impl-silent second d′ e′ (d .kind) (i .0))
@@ -245,13 +250,13 @@ module _ (same : Ty → Ty → Bool) {R R′ S S′ : Registry} {to from to′ f
   decls-same : (d d′ e e′ : Decl) → OldDecl d d′ → NewDecl e e′ → compareDecls first d e ≡ compareDecls second d′ e′
   unfolding compareDecls compareAlike
   decls-same d d′ e e′ a b =
-      ap (cond (eqb (d .kind) (e .kind)) (compareKind (d .kind) first d e ++ [])) (changed-same d d′ e e′ a b)
+      ap (cond (eqb (d .kind) (e .kind)) (compareKind (kindOf (d .kind)) first d e ++ [])) (changed-same d d′ e e′ a b)
       ∙ go (eqb (d .kind) (e .kind)) refl
       ∙ cc (like-kind a, like-kind b)
     where
       go : (t : Bool) → eqb (d .kind) (e .kind) ≡ t
-          → cond t (compareKind (d .kind) first d e ++ []) (kindChanged d′ e′)
-          ≡ cond t (compareKind (d .kind) second d′ e′ ++ []) (kindChanged d′ e′)
+          → cond t (compareKind (kindOf (d .kind)) first d e ++ []) (kindChanged d′ e′)
+          ≡ cond t (compareKind (kindOf (d .kind)) second d′ e′ ++ []) (kindChanged d′ e′)
       go true p = ap (λ (z : List Change). z ++ []) (kind-same d d′ e e′ a b (eqb-true (d .kind) (e .kind) p))
       go false p = refl
 

@@ -13,7 +13,7 @@ use Rattle.image.specs.Schema.{Name, unmarked, label, Ty, leaf, two, noType, Fi
 use Rattle.image.specs.Parse.{ok}
 use Rattle.image.specs.Image.{readImage}
 use Rattle.rules.specs.Equal.{sameName}
-use Rattle.rules.specs.Survivors.{Registry, declOf}
+use Rattle.rules.specs.Survivors.{Registry, standsFor}
 use Rattle.rules.specs.Outcome.{written}
 use Rattle.rules.specs.Answer.{checked}
 use Rattle.rules.specs.Edges.{named as namedType, around, u8, impl}
@@ -191,11 +191,11 @@ from j = getD (0 ∷ 2 ∷ 4 ∷ 1 ∷ 3 ∷ 0 ∷ []) j 0
 
 -- the unresolvable id
 lost : RefiledId R R′ to 9 0
-unfolding Unresolvable declOf
+unfolding Unresolvable standsFor
 lost = unresolvable refl refl
 
 message-anew : RefiledDecl R R′ to (message (a (around 5 (namedType 1)) ∷ b 9 ∷ [])) (message (b 0 ∷ a (around 5 (namedType 3)) ∷ []))
-unfolding declOf
+unfolding standsFor
 message-anew =
     decl-anew 0 _
     (each (field-anew 0 _ (aOne (stays 5 0 [] (λ e. omega arith)) (named-anew (moved-id 1 refl))))
@@ -203,7 +203,7 @@ message-anew =
     nothing (primitive-anew 0)
 
 union-anew : RefiledDecl R R′ to (union (x ∷ y (f ∷ g 0 ∷ []) ∷ [])) (union (y (g 5 ∷ f ∷ []) ∷ x ∷ []))
-unfolding declOf
+unfolding standsFor
 union-anew =
     decl-anew 3 _ nothing
     (each (item-anew 0 _ nothing)
@@ -220,7 +220,7 @@ impl-anew : RefiledDecl R R′ to impl impl
 impl-anew = decl-anew 8 _ nothing nothing (primitive-anew 0)
 
 first-renumbered : Renumbered R R′ to from
-unfolding Rows declOf
+unfolding Rows standsFor
 first-renumbered =
     renumbered-by R R′ to from (
       (_, refl, refl, message-anew),
@@ -229,7 +229,7 @@ first-renumbered =
     ((_, refl, refl), ((_, refl, refl), ((_, refl, refl), ((_, refl, refl), ((_, refl, refl), tt)))))
 
 first-anew : Refiled (rideOf R (0 ∷ 1 ∷ 2 ∷ 3 ∷ 9 ∷ 4 ∷ [])) (rideOf R′ (4 ∷ 5 ∷ 0 ∷ 3 ∷ 1 ∷ 2 ∷ []))
-unfolding declOf
+unfolding standsFor
 first-anew = record {
   to = to;
   from = from;
@@ -252,13 +252,13 @@ abbrev off : ℕ → ℕ
 off j = getD (4 ∷ 5 ∷ 3 ∷ 2 ∷ 1 ∷ 0 ∷ []) j 9
 
 later-message : RefiledDecl S S′ on (message (a u8 ∷ b 5 ∷ [])) (message (b 1 ∷ a u8 ∷ []))
-unfolding declOf
+unfolding standsFor
 later-message =
     decl-anew 0 _ (each (field-anew 0 _ (primitive-anew 1)) (each (field-anew 1 _ (named-anew (moved-id 5 refl))) nothing here) (later here))
     nothing (primitive-anew 0)
 
 later-union : RefiledDecl S S′ on (union (y (f ∷ h 1 ∷ []) ∷ [])) (union (y (h 4 ∷ f ∷ []) ∷ []))
-unfolding declOf
+unfolding standsFor
 later-union =
     decl-anew 3 _ nothing
     (each
@@ -274,7 +274,7 @@ enum-anew : RefiledDecl S S′ on (enum (r ∷ s ∷ [])) (enum (s ∷ r ∷ [])
 enum-anew = decl-anew 1 _ nothing (each (item-anew 0 _ nothing) (each (item-anew 1 _ nothing) nothing here) (later here)) (primitive-anew 0)
 
 newtype-anew : RefiledDecl S S′ on (newtype (mapOf 3)) (newtype (mapOf 2))
-unfolding declOf
+unfolding standsFor
 newtype-anew =
     decl-anew 4 _ nothing nothing
     (aTwo (stays 8 0 [] (λ e. omega arith)) (named-anew (moved-id 3 refl)) (aLeaf (stays 16 0 _ (λ e. omega arith))))
@@ -283,7 +283,7 @@ config-anew : RefiledDecl S S′ on config config
 config-anew = decl-anew 5 _ nothing nothing (primitive-anew 0)
 
 second-renumbered : Renumbered S S′ on off
-unfolding Rows declOf
+unfolding Rows standsFor
 second-renumbered =
     renumbered-by S S′ on off (
       (_, refl, refl, later-message),
@@ -298,7 +298,7 @@ second-renumbered =
     ((_, refl, refl), ((_, refl, refl), ((_, refl, refl), ((_, refl, refl), ((_, refl, refl), ((_, refl, refl), tt))))))
 
 second-anew : Refiled (rideOf S (0 ∷ 1 ∷ 2 ∷ 3 ∷ 4 ∷ [])) (rideOf S′ (0 ∷ 3 ∷ 5 ∷ 2 ∷ 4 ∷ []))
-unfolding declOf
+unfolding standsFor
 second-anew = record {
   to = on;
   from = off;

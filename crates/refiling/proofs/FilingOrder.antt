@@ -7,7 +7,8 @@ use Rattle.image.specs.Schema.{Schema}
 use Rattle.image.specs.Parse.{ok}
 use Rattle.image.specs.Image.{readImage}
 use Rattle.rules.specs.Outcome.{Outcome, select, fit, textLength, written}
-use Rattle.rules.specs.Answer.{bothSides, judged, onSide, acceptNew, acceptOld, outcome, verdictBy, reportBy, plain, checked}
+use Rattle.image.specs.Codes.{bothSides}
+use Rattle.rules.specs.Answer.{judged, onSide, acceptNew, acceptOld, outcome, verdictBy, reportBy, plain, checked}
 use Rattle.rules.proofs.Answer.{plain-numbered}
 use Rattle.rules.proofs.Calls.{room-enough, same-text}
 use Rattle.refiling.specs.Refiling.{ListedOnce, Refiled, RefiledImage, Holds, SameAnswers, FilingOrder}

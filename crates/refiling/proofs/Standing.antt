@@ -12,7 +12,7 @@ use Rattle.maps.proofs.Names.{byName}
 use Rattle.maps.proofs.Reorderings.{In, each-two, reordered-map, reordered-all}
 use Rattle.maps.proofs.Alike.{Both, neither, these, survivors-alike, lookup-alike}
 use Rattle.image.specs.Schema.{Ty, Decl, Schema}
-use Rattle.rules.specs.Survivors.{Registry, declOf, resolved, listed, nameOf, declarations, viewOf}
+use Rattle.rules.specs.Survivors.{Registry, standsFor, resolved, listed, nameOf, declarations, viewOf}
 use Rattle.rules.specs.Types.{sameType}
 use Rattle.rules.specs.Clauses.{clausesBy, changes}
 use Rattle.rules.specs.Verdict.{alias, isAlias, any, aliasPair}
@@ -23,15 +23,15 @@ use Rattle.refiling.proofs.Clauses.{moved, impls-turn, LikeDecl, refile
 -- ---- what stands
 
 module _ {R S : Registry} {to from : ℕ → ℕ} (N : Renumbered R S to from) where
-  put-none : {j : ℕ} {is js : List ℕ} → declOf S j ≡ none → Put j is js → listed S is ≡ listed S js
+  put-none : {j : ℕ} {is js : List ℕ} → standsFor S j ≡ none → Put j is js → listed S is ≡ listed S js
   unfolding listed resolved
   put-none p here = rw p
-  put-none p (later {b = b} q) = ap (resolved (declOf S b)) (put-none p q)
+  put-none p (later {b = b} q) = ap (resolved (standsFor S b)) (put-none p q)
 
-  put-some : {j : ℕ} {e : Decl} {is js : List ℕ} → declOf S j ≡ some e → Put j is js → Put e (listed S is) (listed S js)
+  put-some : {j : ℕ} {e : Decl} {is js : List ℕ} → standsFor S j ≡ some e → Put j is js → Put e (listed S is) (listed S js)
   unfolding listed resolved
   put-some p here = rw p here
-  put-some {e = e} p (later {b = b} {l = l} {m = m} q) = go (declOf S b) (put-some p q)
+  put-some {e = e} p (later {b = b} {l = l} {m = m} q) = go (standsFor S b) (put-some p q)
     where
       go : (o : Option Decl) → Put e (listed S l) (listed S m) → Put e (resolved o (listed S l)) (resolved o (listed S m))
       go none ih = ih
@@ -42,7 +42,7 @@ module _ {R S : Registry} {to from : ℕ → ℕ} (N : Renumbered R S to from) w
   unfolding listed resolved Unresolvable
   listed-refiled nothing = nothing
   listed-refiled (each {a = i} (renumbered r e) rest p) =
-      let x = moved N i r in rw (x .stood) (each (x .anew) (listed-refiled rest) (put-some (ap (declOf S) e ∙ x .stands) p))
+      let x = moved N i r in rw (x .stood) (each (x .anew) (listed-refiled rest) (put-some (ap (standsFor S) e ∙ x .stands) p))
   listed-refiled (each {l = l} (unresolvable a b) rest p) =
       rw a (subst (Reordered (RefiledDecl R S to) (listed R l)) (put-none b p) (listed-refiled rest))
 

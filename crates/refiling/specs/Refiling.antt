@@ -10,9 +10,10 @@ use lib.ListN.{length, take}
 use Rattle.maps.specs.Lists.{All}
 use Rattle.maps.specs.Reordered.{Reordered, EachTwo, Once}
 use Rattle.image.specs.Schema.{Name, Label, label, Ty, leaf, one, two, Field, Variant, Decl, Schema}
+use Rattle.image.specs.Kinds.{implKind, namedTag}
 use Rattle.image.specs.Parse.{ok}
 use Rattle.image.specs.Image.{readImage}
-use Rattle.rules.specs.Survivors.{Registry, declOf, resolved, listed, ordinalOf, variantOrdinal, viewOf}
+use Rattle.rules.specs.Survivors.{Registry, standsFor, resolved, listed, ordinalOf, variantOrdinal, viewOf}
 use Rattle.rules.specs.Clauses.{clausesBy, changes}
 use Rattle.rules.specs.Answer.{checked, verdictOf, returned, leaves}
 
@@ -21,7 +22,7 @@ use Rattle.rules.specs.Answer.{checked, verdictOf, returned, leaves}
 
 -- both are impls, kind 8
 unfoldable pub Impls : Decl → Decl → Type 0
-Impls d e = (d .kind ≡ 8) × (e .kind ≡ 8)
+Impls d e = (d .kind ≡ implKind) × (e .kind ≡ implKind)
 
 -- two declarations that share a name are impls
 unfoldable pub NamesOnce : List Decl → Type 0
@@ -57,7 +58,7 @@ pub record ListedOnce (s : Schema) : Type 0 where
 
 -- "An id that is N or more, or whose entry is empty, is unresolvable"
 unfoldable pub Unresolvable : Registry → ℕ → Type 0
-Unresolvable R i = declOf R i ≡ none
+Unresolvable R i = standsFor R i ≡ none
 
 unfoldable pub Resolvable : Registry → ℕ → Type 0
 Resolvable R i = Unresolvable R i → ⊥
@@ -69,10 +70,10 @@ module _ (R S : Registry) (to : ℕ → ℕ) where
     renumbered : {i j : ℕ} → Resolvable R i → j ≡ to i → RefiledId i j
     unresolvable : {i j : ℕ} → Unresolvable R i → Unresolvable S j → RefiledId i j
 
-  -- in a type every id follows (tag 3 is a named type), and nothing else changes: the names of inline `bits` keep their order
+  -- in a type every id follows, and nothing else changes: the names of inline `bits` keep their order
   pub data RefiledLabel : Label → Label → Type 0 where
-    named : {i j second : ℕ} {names : List Name} → RefiledId i j → RefiledLabel (label 3 i second names) (label 3 j second names)
-    other : {tag first second : ℕ} {m n : List Name} → (tag ≡ 3 → ⊥) → m ≡ n → RefiledLabel (label tag first second m) (label tag first second n)
+    named : {i j second : ℕ} {names : List Name} → RefiledId i j → RefiledLabel (label namedTag i second names) (label namedTag j second names)
+    other : {tag first second : ℕ} {m n : List Name} → (tag ≡ namedTag → ⊥) → m ≡ n → RefiledLabel (label tag first second m) (label tag first second n)
 
   pub data RefiledType : Ty → Ty → Type 0 where
     aLeaf : {l m : Label} → RefiledLabel l m → RefiledType (leaf l) (leaf m)
@@ -106,7 +107,7 @@ module _ (R S : Registry) (to : ℕ → ℕ) where
 pub record Renumbered (R S : Registry) (to from : ℕ → ℕ) : Type 0 where
   pub there : (i : ℕ) → Resolvable R i → Resolvable S (to i) × (from (to i) ≡ i)
   pub back : (j : ℕ) → Resolvable S j → Resolvable R (from j) × (to (from j) ≡ j)
-  pub entry : (i : ℕ) (d e : Decl) → declOf R i ≡ some d → declOf S (to i) ≡ some e → RefiledDecl R S to d e
+  pub entry : (i : ℕ) (d e : Decl) → standsFor R i ≡ some d → standsFor S (to i) ≡ some e → RefiledDecl R S to d e
 
 -- t is s filed anew
 pub record Refiled (s t : Schema) : Type 0 where

@@ -7,6 +7,8 @@ use Rattle.image.specs.Parse.{Parsed, no, byteAt, codeAt, numberAt, counted}
 use Rattle.image.specs.Names.{nameAt, namesAt}
 use Rattle.image.specs.Types.{Follows, code, subByte, identity, size, nothing, bits, unknown, followsTag, innerTypes, afterTag, labelOf, innerAt, typeOf, typeAt}
 use Rattle.image.specs.Fields.{marksAt, encodingOf, encodingAt, limitAt, fieldAt, bareAt, variantAt}
+use Rattle.image.specs.Codes.{kindRefusal, bodyRefusal}
+use Rattle.image.specs.Kinds.{Kind, message, enum, flags, union, newtype, config, alias, trait, impl, other, kindOf}
 use Rattle.image.specs.Bodies.{messageAt, enumAt, flagsAt, unionAt, newtypeAt, otherAt, implAt, declAt, bodyOf}
 use Rattle.image.specs.Image.{entryOf, entriesOf}
 use Rattle.refusals.proofs.Told.{Told, told-ok, told-no, Any, told-bind, told-pick, told-within, told-many}
@@ -116,34 +118,34 @@ variant-told s at =
     told-bind _ (name-told s n₁) (λ x n₂ _.
     told-bind _ (counted-told fieldAt field-told s n₂) (λ fs n₃ _. told-ok tt)))
 
-decl-told : (kind : ℕ) (s : List ℕ) (at : ℕ) → Told Any Body (declAt kind s at)
+decl-told : (kind : Kind) (s : List ℕ) (at : ℕ) → Told Any Body (declAt kind s at)
 unfolding declAt messageAt enumAt flagsAt unionAt newtypeAt otherAt implAt
-decl-told zero s at =
+decl-told message s at =
     told-bind _ (name-told s at) (λ x n₁ _.
     told-bind _ (marks-told s n₁) (λ m n₂ _.
     told-bind _ (counted-told fieldAt field-told s n₂) (λ fs n₃ _. told-ok tt)))
-decl-told (suc zero) s at =
+decl-told enum s at =
     told-bind _ (name-told s at) (λ x n₁ _.
     told-bind _ (marks-told s n₁) (λ m n₂ _.
     told-bind _ (counted-told bareAt bare-told s n₂) (λ vs n₃ _. told-ok tt)))
-decl-told (suc (suc zero)) s at =
+decl-told flags s at =
     told-bind _ (name-told s at) (λ x n₁ _. told-bind _ (counted-told bareAt bare-told s n₁) (λ vs n₂ _. told-ok tt))
-decl-told (suc (suc (suc zero))) s at =
+decl-told union s at =
     told-bind _ (name-told s at) (λ x n₁ _. told-bind _ (counted-told variantAt variant-told s n₁) (λ vs n₂ _. told-ok tt))
-decl-told (suc (suc (suc (suc zero)))) s at =
+decl-told newtype s at =
     told-bind _ (name-told s at) (λ x n₁ _. told-bind _ (typeAt-told s n₁) (λ t n₂ _. told-ok tt))
-decl-told (suc (suc (suc (suc (suc zero))))) s at = told-bind _ (name-told s at) (λ x n _. told-ok tt)
-decl-told (suc (suc (suc (suc (suc (suc zero)))))) s at = told-bind _ (name-told s at) (λ x n _. told-ok tt)
-decl-told (suc (suc (suc (suc (suc (suc (suc zero))))))) s at = told-bind _ (name-told s at) (λ x n _. told-ok tt)
-decl-told (suc (suc (suc (suc (suc (suc (suc (suc zero)))))))) s at = told-ok tt
-decl-told (suc (suc (suc (suc (suc (suc (suc (suc (suc k))))))))) s at = by 6 tt tt
+decl-told config s at = told-bind _ (name-told s at) (λ x n _. told-ok tt)
+decl-told alias s at = told-bind _ (name-told s at) (λ x n _. told-ok tt)
+decl-told trait s at = told-bind _ (name-told s at) (λ x n _. told-ok tt)
+decl-told impl s at = told-ok tt
+decl-told other s at = by kindRefusal tt tt
 
 body-told : (s : List ℕ) → Told Any Body (bodyOf s)
 unfolding bodyOf
 body-told s =
     told-bind _ (byte-told s 0) (λ kind n₁ _.
-    told-bind _ (decl-told kind s n₁) (λ d n₂ _.
-    told-pick _ (λ h. told-ok tt) (λ h. by 8 tt tt)))
+    told-bind _ (decl-told (kindOf kind) s n₁) (λ d n₂ _.
+    told-pick _ (λ h. told-ok tt) (λ h. by bodyRefusal tt tt)))
 
 entry-told : (s : List ℕ) (i : ℕ) → Told Any Body (entryOf s i)
 unfolding entryOf

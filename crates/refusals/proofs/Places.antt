@@ -10,11 +10,11 @@ use borrow.Author.Tests.{leb-true, leb-false, eqb-true, eqb-false}
 use lib.Dec.{leb, eqb}
 use lib.ListN.{length}
 use Rattle.image.specs.Image.{entryCount, entryOffset, entryLength, laid}
-use Rattle.refusals.specs.Refusals.{bodyAt, Placed, empty, full, Misplaced, entry, after}
+use Rattle.refusals.specs.Refusals.{bodyStart, Placed, empty, full, Misplaced, entry, after}
 
 -- of the entries from the i-th on, by what `laid` says of them
 pub data Laid (s : List ℕ) (i : ℕ) : Bool → Type 0 where
-  good : ((j : ℕ) → i ≤ j → j < entryCount s → Placed s j) → bodyAt s (entryCount s) ≡ length s → Laid s i true
+  good : ((j : ℕ) → i ≤ j → j < entryCount s → Placed s j) → bodyStart s (entryCount s) ≡ length s → Laid s i true
   wrong : Misplaced s → Laid s i false
 
 and-laid : (s : List ℕ) (i : ℕ) (a b : Bool) → (a ≡ true → Laid s i b) → (a ≡ false → Misplaced s) → Laid s i (a && b)
@@ -35,16 +35,16 @@ pub placed-empty : {s : List ℕ} {i : ℕ} → Placed s i → entryLength s i �
 placed-empty (empty o n) z = o
 placed-empty (full n o l) z = absurd (omega arith)
 
-pub placed-full : {s : List ℕ} {i : ℕ} → Placed s i → ¬ (entryLength s i ≡ 0) → (entryOffset s i ≡ bodyAt s i) × (bodyAt s (suc i) ≤ length s)
+pub placed-full : {s : List ℕ} {i : ℕ} → Placed s i → ¬ (entryLength s i ≡ 0) → (entryOffset s i ≡ bodyStart s i) × (bodyStart s (suc i) ≤ length s)
 placed-full (empty o n) z = absurd (z n)
 placed-full (full n o l) z = (o, l)
 
-pub laid-told : (s : List ℕ) (count i at : ℕ) → at ≡ bodyAt s i → at ≤ length s → i + count ≡ entryCount s → Laid s i (laid count s i at)
-unfolding laid bodyAt
+pub laid-told : (s : List ℕ) (count i at : ℕ) → at ≡ bodyStart s i → at ≤ length s → i + count ≡ entryCount s → Laid s i (laid count s i at)
+unfolding laid bodyStart
 laid-told s zero i at e l z = go (eqb at (length s)) refl
   where
-    last : at ≡ bodyAt s (entryCount s)
-    last = let n : i ≡ entryCount s = omega arith in e ∙ ap (bodyAt s) n
+    last : at ≡ bodyStart s (entryCount s)
+    last = let n : i ≡ entryCount s = omega arith in e ∙ ap (bodyStart s) n
 
     go : (b : Bool) → eqb at (length s) ≡ b → Laid s i b
     go true h = good (λ j low high. absurd (omega arith)) (sym last ∙ eqb-true _ _ h)
@@ -60,21 +60,21 @@ laid-told s (suc count) i at e l z = go (eqb size 0) refl (laid-told s count (i 
     rest : ℕ → Bool
     rest n = laid count s (i + 1) n
 
-    next : at + size ≡ bodyAt s (suc i)
+    next : at + size ≡ bodyStart s (suc i)
     next = ap (λ (n : ℕ). n + size) e
 
-    after-one : at + size ≡ bodyAt s (i + 1)
-    after-one = next ∙ ap (bodyAt s) (sym (add-one i))
+    after-one : at + size ≡ bodyStart s (i + 1)
+    after-one = next ∙ ap (bodyStart s) (sym (add-one i))
 
     at-fault : ¬ Placed s i → Misplaced s
     at-fault f = entry i (omega arith) f
 
     go : (b : Bool) → eqb size 0 ≡ b
-        → ((n : ℕ) → n ≡ bodyAt s (i + 1) → n ≤ length s → i + 1 + count ≡ entryCount s → Laid s (i + 1) (rest n))
+        → ((n : ℕ) → n ≡ bodyStart s (i + 1) → n ≤ length s → i + 1 + count ≡ entryCount s → Laid s (i + 1) (rest n))
         → Laid s i (cond b (eqb offset 0 && rest at) (eqb offset at && (leb (at + size) (length s) && rest (at + size))))
     go true h later =
         let n : size ≡ 0 = eqb-true _ _ h in
-        let same : at ≡ bodyAt s (i + 1) = omega (arith, after-one) in
+        let same : at ≡ bodyStart s (i + 1) = omega (arith, after-one) in
         and-laid s i _ _
         (λ q. before-laid s i (empty (eqb-true _ _ q) n) (later at same l (omega arith)))
         (λ q. at-fault (λ p. eqb-false _ _ q (placed-empty p n)))

@@ -13,7 +13,7 @@ use Rattle.image.specs.Schema.{Schema, Name}
 use Rattle.image.specs.Parse.{Parsed, ok, no, bind, pick}
 use Rattle.image.specs.Names.{namesAt}
 use Rattle.image.specs.Image.{format, entryCount, idCount, segmentCount, segmentsAt, headOf, tablesOf, laid, readImage}
-use Rattle.refusals.specs.Refusals.{Long, Eight, Format, Over, entries, ids, segments, Crowded, Head, segmentAt, Segment, ShortHead, head, tables, namespace, bodyAt, Misplaced, entry, after, Tables, Contents, ExactlyIf}
+use Rattle.refusals.specs.Refusals.{Long, Eight, Format, Over, entries, ids, segments, Crowded, Head, segmentAt, Segment, ShortHead, head, tables, namespace, bodyStart, Misplaced, entry, after, Tables, Contents, ExactlyIf}
 use Rattle.maps.proofs.Tests.{no-both, both}
 use Rattle.refusals.proofs.Told.{Told, told-ok, told-no, Any, told-bind, told-pick, told-then}
 use Rattle.refusals.proofs.Bodies.{Body, entries-told}
@@ -104,7 +104,7 @@ abbrev Fits : List ℕ → Bool
 Fits s = laid (entryCount s) s 0 (segmentAt s (segmentCount s))
 
 pub fits-told : (s : List ℕ) → Tables s → Laid s 0 (Fits s)
-unfolding bodyAt
+unfolding bodyStart
 fits-told s t = laid-told s (entryCount s) 0 _ refl (names-inside s (segmentCount s) (t .inside) (t .segments)) (omega arith)
 
 misplaced-told : {s : List ℕ} {b : Bool} → Laid s 0 b → b ≡ false → Misplaced s

@@ -6,6 +6,7 @@ use mathlib.Core.Logic.{_↔_}
 use mathlib.Core.List.{List}
 use Prim.Native.Nat.{ℕ, zero, suc, _+_, _≤_, _<_}
 use lib.ListN.{length, getD}
+use Rattle.image.specs.Codes.{longRefusal, shortHeadRefusal, formatRefusal, crowdedRefusal, contentsRefusal}
 use Rattle.image.specs.Parse.{no}
 use Rattle.image.specs.Names.{nameByte}
 use Rattle.image.specs.Image.{format, entryCount, idCount, segmentCount, entryOffset, entryLength, segmentsAt, readImage}
@@ -60,18 +61,18 @@ pub data ShortHead (s : List ℕ) : Type 0 where
   namespace : Head s → (i : ℕ) → i < segmentCount s → ((j : ℕ) → j < i → Segment s j) → length s < segmentAt s (suc i) → ShortHead s
 
 -- where the bodies of the entries before the i-th end: "in contents order, without gaps"
-unfoldable pub bodyAt : List ℕ → ℕ → ℕ
-bodyAt s zero = segmentAt s (segmentCount s)
-bodyAt s (suc i) = bodyAt s i + entryLength s i
+unfoldable pub bodyStart : List ℕ → ℕ → ℕ
+bodyStart s zero = segmentAt s (segmentCount s)
+bodyStart s (suc i) = bodyStart s i + entryLength s i
 
 -- the i-th entry is "0 and 0 for an empty entry", or its body has a byte, starts where those before it end, and stands in the image
 pub data Placed (s : List ℕ) (i : ℕ) : Type 0 where
   empty : entryOffset s i ≡ 0 → entryLength s i ≡ 0 → Placed s i
-  full : 1 ≤ entryLength s i → entryOffset s i ≡ bodyAt s i → bodyAt s (suc i) ≤ length s → Placed s i
+  full : 1 ≤ entryLength s i → entryOffset s i ≡ bodyStart s i → bodyStart s (suc i) ≤ length s → Placed s i
 
 pub data Misplaced (s : List ℕ) : Type 0 where
   entry : (i : ℕ) → i < entryCount s → ¬ Placed s i → Misplaced s
-  after : bodyAt s (entryCount s) < length s → Misplaced s
+  after : bodyStart s (entryCount s) < length s → Misplaced s
 
 -- head, contents, ids and namespace are there, and the namespace's bytes are allowed
 pub record Tables (s : List ℕ) : Type 0 where
@@ -86,8 +87,8 @@ pub record Contents (s : List ℕ) : Type 0 where
 
 -- each is given "exactly if"
 pub record ExactlyIf (s : List ℕ) : Type 0 where
-  pub long : (readImage s ≡ no 1) ↔ Long s
-  pub shortHead : (readImage s ≡ no 2) ↔ ShortHead s
-  pub format : (readImage s ≡ no 3) ↔ Format s
-  pub crowded : (readImage s ≡ no 4) ↔ Crowded s
-  pub contents : (readImage s ≡ no 5) ↔ Contents s
+  pub long : (readImage s ≡ no longRefusal) ↔ Long s
+  pub shortHead : (readImage s ≡ no shortHeadRefusal) ↔ ShortHead s
+  pub format : (readImage s ≡ no formatRefusal) ↔ Format s
+  pub crowded : (readImage s ≡ no crowdedRefusal) ↔ Crowded s
+  pub contents : (readImage s ≡ no contentsRefusal) ↔ Contents s

@@ -18,7 +18,8 @@ use Rattle.rules.specs.Clauses.{changes}
 use Rattle.rules.specs.Verdict.{bumpOf, resultOf, countOf, aliasPair}
 use Rattle.rules.specs.Report.{report}
 use Rattle.rules.specs.Outcome.{Outcome, refused, answered, selected, select}
-use Rattle.rules.specs.Answer.{oldSide, newSide, bothSides, Fault, fault, Policy, compared, counts, firstFault, judged, onSide, comparePair, acceptNew, acceptOld, outcome, aliasCheck, plain}
+use Rattle.image.specs.Codes.{oldSide, newSide, bothSides}
+use Rattle.rules.specs.Answer.{Fault, fault, Policy, compared, counts, firstFault, judged, onSide, comparePair, acceptNew, acceptOld, outcome, aliasCheck, plain}
 use Rattle.rules.specs.Refusals.{Passes, Decided, oldRefused, oldAlone, newRefused, newAlone, pairRefused, verdict, Numbered}
 
 -- ---- where they are decided

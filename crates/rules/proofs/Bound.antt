@@ -18,8 +18,8 @@ use Rattle.image.specs.Words.{bytes}
 use Rattle.image.specs.Parse.{Parsed, ok}
 use Rattle.image.specs.Image.{readImage}
 use Rattle.image.proofs.Laws.Sure.{Sure, sure-ok, sure-no}
-use Rattle.rules.specs.Survivors.{Registry, nameOf, declOf, resolved, listed, declarations, View, viewOf}
-use Rattle.rules.specs.Types.{nameIn, sameType}
+use Rattle.rules.specs.Survivors.{Registry, nameOf, standsFor, resolved, listed, declarations, View, viewOf}
+use Rattle.rules.specs.Types.{nameOrNone, sameType}
 use Rattle.rules.specs.Text.{joined}
 use Rattle.rules.specs.Changes.{Change, kindCount}
 use Rattle.rules.specs.Clauses.{changes}
@@ -46,13 +46,13 @@ entry-small [] id h = tt
 entry-small (e ∷ R) zero h = h .0
 entry-small (e ∷ R) (suc id) h = entry-small R id (h .1)
 
-small-short : (o : Option Decl) → Small o → namesSize (nameIn o) ≤ 32769
-unfolding Small nameIn namesSize total declSize
+small-short : (o : Option Decl) → Small o → namesSize (nameOrNone o) ≤ 32769
+unfolding Small nameOrNone namesSize total declSize
 small-short none h = omega arith
 small-short (some d) h = omega arith
 
 held-short : (x : Schema) → Held x → Short (x .registry)
-unfolding declOf
+unfolding standsFor
 held-short x h = record { short = λ id. small-short (getD (x .registry) id none) (entry-small (x .registry) id (h .entries)) }
 
 module _ (R : Registry) (h : All Small R) where
@@ -63,7 +63,7 @@ module _ (R : Registry) (h : All Small R) where
   resolved-small (some d) p ds q = (p, q)
 
   listed-small : (ids : List ℕ) → All (λ d. declSize d ≤ 32768) (listed R ids)
-  unfolding listed declOf All
+  unfolding listed standsFor All
   listed-small [] = tt
   listed-small (id ∷ ids) = resolved-small (getD R id none) (entry-small R id h) (listed R ids) (listed-small ids)
 
@@ -73,7 +73,7 @@ module _ (R : Registry) (h : All Small R) where
   resolved-total (some d) p ds = omega arith
 
   listed-total : (ids : List ℕ) → total declSize (listed R ids) ≤ 32768 * length ids
-  unfolding listed declOf total
+  unfolding listed standsFor total
   listed-total [] = omega arith
   listed-total (id ∷ ids) = omega (arith, resolved-total (getD R id none) (entry-small R id h) (listed R ids), listed-total ids)
 

@@ -12,7 +12,8 @@ use Rattle.image.specs.Words.{bytes}
 use Rattle.rules.specs.Changes.{Change}
 use Rattle.rules.specs.Report.{line, lastLine, report}
 use Rattle.rules.specs.Outcome.{select, textLength, written}
-use Rattle.rules.specs.Answer.{bothSides, Policy, outcome, verdictBy, reportBy, returnedBy, leavesBy}
+use Rattle.image.specs.Codes.{bothSides}
+use Rattle.rules.specs.Answer.{Policy, outcome, verdictBy, reportBy, returnedBy, leavesBy}
 use Rattle.rules.specs.Refusals.{Numbered}
 use Rattle.rules.proofs.Outcomes.{textOf, length-selected, fit-enough, fit-some, text-written, rest-written}
 use Rattle.rules.proofs.Answer.{changesOf, compared-of}

@@ -18,6 +18,7 @@ use Rattle.maps.proofs.Names.{byName}
 use Rattle.maps.proofs.Survivors.{rising}
 use Rattle.maps.proofs.Levels.{Chained, chained, chained-small, chained-append, chained-lead, Links, chain-links}
 use Rattle.image.specs.Schema.{Name, Marks, Ty, Field, Variant, Decl}
+use Rattle.image.specs.Kinds.{Kind, kindOf, message, enum, flags, union, newtype, config, alias, trait, impl, other}
 use Rattle.rules.specs.Equal.{Sound}
 use Rattle.rules.specs.Survivors.{Registry, nameOf, ordinalOf, fieldMap, variantOrdinal, variantMap, View}
 use Rattle.rules.specs.Types.{resolve}
@@ -207,22 +208,26 @@ module _ {r : Reading} {odd : Ty → Bool} (lawful : Lawful r odd) (P Q R : Regi
     unfolding compareNewtypes
     newtypes-chained = types-chained b _ _ _ _ _ _ _ _ _ (x .inner) (y .inner) (z .inner)
 
-    kinds-chained : (k : ℕ) → Chained levelOf b (compareKind k to x y) (compareKind k from y z) (compareKind k past x z)
+    kinds-chained : (k : Kind) → Chained levelOf b (compareKind k to x y) (compareKind k from y z) (compareKind k past x z)
     unfolding compareKind largest
-    kinds-chained zero = messages-chained
-    kinds-chained (suc zero) = enums-chained b (x .name) (y .name) (x .name) x y z
-    kinds-chained (suc (suc zero)) = flags-chained b (x .name) (y .name) (x .name) x y z
-    kinds-chained (suc (suc (suc zero))) = unions-chained
-    kinds-chained (suc (suc (suc (suc zero)))) = newtypes-chained
-    kinds-chained (suc (suc (suc (suc (suc k))))) = chained-small (omega arith)
+    kinds-chained message = messages-chained
+    kinds-chained enum = enums-chained b (x .name) (y .name) (x .name) x y z
+    kinds-chained flags = flags-chained b (x .name) (y .name) (x .name) x y z
+    kinds-chained union = unions-chained
+    kinds-chained newtype = newtypes-chained
+    kinds-chained config = chained-small (omega arith)
+    kinds-chained alias = chained-small (omega arith)
+    kinds-chained trait = chained-small (omega arith)
+    kinds-chained impl = chained-small (omega arith)
+    kinds-chained other = chained-small (omega arith)
 
     alike-chained : x .kind ≡ y .kind → y .kind ≡ z .kind → Chained levelOf b (compareAlike to x y) (compareAlike from y z) (compareAlike past x z)
     unfolding compareAlike
     alike-chained p q =
         chained-append (lawful .first .chained b (x .name) (y .name) (x .name) x y z p q)
         (chained-append
-        (subst (λ k. Chained levelOf b (compareKind (x .kind) to x y) (compareKind k from y z) (compareKind (x .kind) past x z)) p
-        (kinds-chained (x .kind)))
+        (subst (λ k. Chained levelOf b (compareKind (kindOf (x .kind)) to x y) (compareKind (kindOf k) from y z) (compareKind (kindOf (x .kind)) past x z)) p
+        (kinds-chained (kindOf (x .kind))))
         (lawful .last .chained b (x .name) (y .name) (x .name) x y z p q))
 
     decls-chained : Chained levelOf b (compareDecls to x y) (compareDecls from y z) (compareDecls past x z)

@@ -14,6 +14,7 @@ use Rattle.image.specs.Parse.{Parsed, ok, shift, within, part, many, counted}
 use Rattle.image.specs.Names.{nameAt, namesAt}
 use Rattle.image.specs.Types.{Follows, code, subByte, identity, size, nothing, bits, unknown, followsTag, innerTypes, afterTag, labelOf, innerAt, typeOf, typeAt}
 use Rattle.image.specs.Fields.{plain, delta, marksAt, encodingOf, encodingAt, limitAt, fieldAt, bareAt, variantAt}
+use Rattle.image.specs.Kinds.{kindOf}
 use Rattle.image.specs.Bodies.{messageAt, enumAt, flagsAt, unionAt, newtypeAt, otherAt, implAt, declAt, bodyOf}
 use Rattle.image.specs.Image.{entryCount, idCount, segmentCount, segmentsAt, idsAt, tablesOf, entryOffset, entryLength, entryOf, entriesOf, readImage}
 use Rattle.image.proofs.Laws.Sure.{Sure, sure-ok, sure-no, sure-bind, sure-pick, sure-need, sure-then, byte-sure, code-sure, number-sure, name-sure, names-sure, Head, head-sure}
@@ -152,8 +153,8 @@ variant-takes s at =
 
 -- ---- bodies: with the kind, at least a byte each
 
-decl-takes : (kind : ℕ) (s : List ℕ) (at : ℕ) → Sure (λ d n. at + declSize d ≤ n + 1) (declAt kind s at)
-unfolding declAt messageAt enumAt flagsAt unionAt newtypeAt otherAt implAt declSize typeSize namesSize total
+decl-takes : (kind : ℕ) (s : List ℕ) (at : ℕ) → Sure (λ d n. at + declSize d ≤ n + 1) (declAt (kindOf kind) s at)
+unfolding kindOf declAt messageAt enumAt flagsAt unionAt newtypeAt otherAt implAt declSize typeSize namesSize total
 decl-takes zero s at =
     sure-bind _ (name-takes 8 s at) (λ x n₁ q₁.
     sure-bind _ (marks-take s n₁) (λ m n₂ q₂.

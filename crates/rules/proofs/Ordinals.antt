@@ -14,6 +14,7 @@ use Rattle.maps.specs.Orders.{before}
 use Rattle.maps.specs.Keyed.{lookup}
 use Rattle.maps.specs.Compare.{Rules, unmatched, matched, between, compare}
 use Rattle.image.specs.Schema.{Name, Marks, Ty, Field, Variant, Decl}
+use Rattle.image.specs.Kinds.{Kind, kindOf, message, enum, flags, union, newtype, config, alias, trait, impl, other}
 use Rattle.rules.specs.Survivors.{nameOf, ordinalOf, fieldMap, variantOrdinal, variantMap, View}
 use Rattle.rules.specs.Types.{sameType}
 use Rattle.rules.specs.Changes.{Bump, Change, only, kindCount, FieldOrdinalChanged, VariantOrdinalChanged, FlagsBitOrdinalChanged}
@@ -124,29 +125,33 @@ pub clauses-ordinary : (same : Ty → Ty → Bool) → Ordinary (clausesBy same)
 clauses-ordinary same = record { first = λ x y. nothing-other; last = λ x y. nothing-other; lastIn = λ d v w. nothing-other }
 
 module _ (r : Context) (o : Ordinary (r .reading)) where
-  kinds-other : (k : ℕ) (x y : Decl) → All Other (compareKind k r x y)
+  kinds-other : (k : Kind) (x y : Decl) → All Other (compareKind k r x y)
   unfolding compareKind compareMessages compareEnums enumRules compareNonExhaustive compareFlags flagsRules compareUnions unionRules compareNewtypes ordinalChanged
-  kinds-other zero x y =
+  kinds-other message x y =
       all-append Other _ _ (sets-other r (x .name) (x .fields) (y .fields)) (deprecated-other (x .name) _ _ (x .marks) (y .marks))
-  kinds-other (suc zero) x y =
+  kinds-other enum x y =
       all-append Other _ _ (only-other _ _ refl)
       (variants-other (enumRules (x .name) (y .marks)) (gone-other (x .name)) (came-other _ (x .name)) (λ v w. nothing-other) (x .variants)
       (y .variants))
-  kinds-other (suc (suc zero)) x y =
+  kinds-other flags x y =
       variants-other (flagsRules (x .name)) (λ v. single-other _ refl) (λ v. single-other _ refl) (λ v w. nothing-other) (x .variants)
       (y .variants)
-  kinds-other (suc (suc (suc zero))) x y =
+  kinds-other union x y =
       variants-other (unionRules r (x .name)) (gone-other (x .name)) (came-other _ (x .name)) (λ v w. all-append Other _ _ (sets-other r _ (v .fields) (w .fields)) (o .lastIn _ v w))
       (x .variants) (y .variants)
-  kinds-other (suc (suc (suc (suc zero)))) x y = types-other r (x .name) none _ (x .inner) (y .inner)
-  kinds-other (suc (suc (suc (suc (suc k))))) x y = nothing-other
+  kinds-other newtype x y = types-other r (x .name) none _ (x .inner) (y .inner)
+  kinds-other config x y = nothing-other
+  kinds-other alias x y = nothing-other
+  kinds-other trait x y = nothing-other
+  kinds-other impl x y = nothing-other
+  kinds-other other x y = nothing-other
 
   decls-other : (x y : Decl) → All Other (compareDecls r x y)
   unfolding compareDecls compareAlike kindChanged ordinalChanged
   decls-other x y = go (eqb (x .kind) (y .kind))
     where
       go : (u : Bool) → All Other (cond u (compareAlike r x y) (kindChanged x y))
-      go true = all-append Other _ _ (o .first x y) (all-append Other _ _ (kinds-other (x .kind) x y) (o .last x y))
+      go true = all-append Other _ _ (o .first x y) (all-append Other _ _ (kinds-other (kindOf (x .kind)) x y) (o .last x y))
       go false = single-other _ refl
 
 changes-other : (r : Reading) → Ordinary r → (x y : View) → All Other (changes r x y)

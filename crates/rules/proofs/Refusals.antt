@@ -21,7 +21,8 @@ use Rattle.rules.specs.Survivors.{nameOf, declarations, viewOf}
 use Rattle.rules.specs.Clauses.{changes}
 use Rattle.rules.specs.Verdict.{alias, isAlias, any, aliasPair}
 use Rattle.rules.specs.Outcome.{Outcome, refused, answered, selected, select}
-use Rattle.rules.specs.Answer.{bothSides, Fault, fault, Policy, compared, firstFault, outcome, verdictBy, reportBy, plainReading, plain, checked, reported}
+use Rattle.image.specs.Codes.{bothSides}
+use Rattle.rules.specs.Answer.{Fault, fault, Policy, compared, firstFault, outcome, verdictBy, reportBy, plainReading, plain, checked, reported}
 use Rattle.rules.specs.Refusals.{Passes, Decided, oldRefused, oldAlone, newRefused, newAlone, pairRefused, verdict, Numbered, PolicyRefusals, ReportRefusals, AcceptedPair, NewRefused, Alias, AliasPair, VerdictRefusals}
 use Rattle.rules.proofs.Outcomes.{not-answered, nothing-told, nothing-written, fit-full, fit-filled, fit-else}
 use Rattle.rules.proofs.Answer.{decided, decides, exactly, plain-fault, alias-fault, plain-numbered}

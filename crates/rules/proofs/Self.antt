@@ -17,6 +17,7 @@ use Rattle.maps.proofs.Names.{byName}
 use Rattle.maps.proofs.Survivors.{rising}
 use Rattle.maps.proofs.Levels.{self-flatMap, self-none}
 use Rattle.image.specs.Schema.{Name, Marks, Ty, Field, Variant, Decl}
+use Rattle.image.specs.Kinds.{Kind, kindOf, message, enum, flags, union, newtype, config, alias, trait, impl, other}
 use Rattle.rules.specs.Equal.{Sound}
 use Rattle.rules.specs.Survivors.{Registry, nameOf, ordinalOf, fieldMap, variantOrdinal, variantMap, View}
 use Rattle.rules.specs.Types.{resolve}
@@ -139,21 +140,25 @@ module _ {r : Reading} {odd : Ty → Bool} (lawful : Lawful r odd) (R : Registry
         (all (λ v. then-nothing (compareFieldSets own _ (v .fields) (v .fields)) _ (sets-self _ (v .fields)) (lawful .lastIn .self _ v))
         (variantMap (x .variants)))
 
-    kinds-self : (k : ℕ) → largest levelOf (compareKind k own x x) ≡ largest score (typesOf k x)
+    kinds-self : (k : Kind) → largest levelOf (compareKind k own x x) ≡ largest score (typesOf k x)
     unfolding compareKind typesOf compareNewtypes largest
-    kinds-self zero = messages-self
-    kinds-self (suc zero) = enums-self (x .name) x
-    kinds-self (suc (suc zero)) = flags-self (x .name) x
-    kinds-self (suc (suc (suc zero))) = unions-self
-    kinds-self (suc (suc (suc (suc zero)))) = types-self (x .name) none _ (x .inner)
-    kinds-self (suc (suc (suc (suc (suc k))))) = refl
+    kinds-self message = messages-self
+    kinds-self enum = enums-self (x .name) x
+    kinds-self flags = flags-self (x .name) x
+    kinds-self union = unions-self
+    kinds-self newtype = types-self (x .name) none _ (x .inner)
+    kinds-self config = refl
+    kinds-self alias = refl
+    kinds-self trait = refl
+    kinds-self impl = refl
+    kinds-self other = refl
 
-    decls-self : largest levelOf (compareDecls own x x) ≡ largest score (typesOf (x .kind) x)
+    decls-self : largest levelOf (compareDecls own x x) ≡ largest score (typesOf (kindOf (x .kind)) x)
     unfolding compareDecls compareAlike
     decls-self =
         rw (numbers .self (x .kind))
         (nothing-then (r .first x x) _ (lawful .first .self (x .name) x)
-        (then-nothing (compareKind (x .kind) own x x) _ (kinds-self (x .kind)) (lawful .last .self (x .name) x)))
+        (then-nothing (compareKind (kindOf (x .kind)) own x x) _ (kinds-self (kindOf (x .kind))) (lawful .last .self (x .name) x)))
 
 -- ---- all clauses
 
@@ -175,5 +180,5 @@ unfolding changes declRules comparedTypes score
 changes-self {r = r} {odd = odd} lawful v p =
     nothing-then (compareNamespaces (v .namespace) (v .namespace)) _ (namespaces-self (v .namespace))
     (self-flatMap nameOf byName (v .standing) p (declRules (context r (v .registry) (v .registry))) levelOf (score lawful (v .registry))
-    (λ d. typesOf (d .kind) d) (all (decls-self lawful (v .registry)) (v .standing))
+    (λ d. typesOf (kindOf (d .kind)) d) (all (decls-self lawful (v .registry)) (v .standing))
     ∙ largest-any (λ t. odd (resolve (v .registry) t)) (comparedTypes v))

@@ -18,6 +18,7 @@ use Rattle.maps.proofs.Names.{byName}
 use Rattle.maps.proofs.Survivors.{rising}
 use Rattle.maps.proofs.Sums.{swap}
 use Rattle.image.specs.Schema.{Name, Marks, Ty, Field, Variant, Decl}
+use Rattle.image.specs.Kinds.{Kind, kindOf, message, enum, flags, union, newtype, config, alias, trait, impl, other}
 use Rattle.rules.specs.Equal.{Sound}
 use Rattle.rules.specs.Survivors.{Registry, nameOf, ordinalOf, fieldMap, variantOrdinal, variantMap, View}
 use Rattle.rules.specs.Types.{resolve}
@@ -107,7 +108,7 @@ module _ (j : ℕ) where
 
   -- ---- deprecations are counted under neither
 
-  module _ (other : eqb FieldDeprecated j ≡ false) where
+  module _ (apart : eqb FieldDeprecated j ≡ false) where
     none-of : (i : ℕ) (test : Bool) (c : Change) → eqb (c .kind) i ≡ false → countOf i (only test c) ≡ 0
     unfolding countOf count total only
     none-of i true c h = rw h
@@ -116,7 +117,7 @@ module _ (j : ℕ) where
     deprecated-swap : (d e : Name) (n o : Option Name) (t u : List ℕ) (l m : Marks)
         → Opposed (compareDeprecated d n t l m) (compareDeprecated e o u m l)
     unfolding compareDeprecated mirror exchange
-    deprecated-swap d e n o t u l m = none-of j _ _ other ∙ sym (none-of (mirror j) _ _ (sym (mirror-test FieldDeprecated j) ∙ other))
+    deprecated-swap d e n o t u l m = none-of j _ _ apart ∙ sym (none-of (mirror j) _ _ (sym (mirror-test FieldDeprecated j) ∙ apart))
 
     -- ---- the clauses, over any lawful reading
 
@@ -163,24 +164,28 @@ module _ (j : ℕ) where
         unions-swap =
             variants-swap (unionRules there (x .name)) (unionRules back (y .name)) (λ v. single-swap _ _ refl) (λ v. single-swap _ _ refl)
             (λ v w. append-swap (compareFieldSets there _ (v .fields) (w .fields)) _ (compareFieldSets back _ (w .fields) (v .fields)) _
-            (sets-swap _ _ (v .fields) (w .fields)) (lawful .lastIn .swap j other _ _ v w tt)) (x .variants) (y .variants)
+            (sets-swap _ _ (v .fields) (w .fields)) (lawful .lastIn .swap j apart _ _ v w tt)) (x .variants) (y .variants)
 
-        kinds-swap : (k : ℕ) → Opposed (compareKind k there x y) (compareKind k back y x)
+        kinds-swap : (k : Kind) → Opposed (compareKind k there x y) (compareKind k back y x)
         unfolding compareKind compareNewtypes
-        kinds-swap zero = messages-swap
-        kinds-swap (suc zero) = enums-swap (x .name) (y .name) x y
-        kinds-swap (suc (suc zero)) = flags-swap (x .name) (y .name) x y
-        kinds-swap (suc (suc (suc zero))) = unions-swap
-        kinds-swap (suc (suc (suc (suc zero)))) = types-swap (x .name) (y .name) none none _ _ (x .inner) (y .inner)
-        kinds-swap (suc (suc (suc (suc (suc k))))) = nothing-swap
+        kinds-swap message = messages-swap
+        kinds-swap enum = enums-swap (x .name) (y .name) x y
+        kinds-swap flags = flags-swap (x .name) (y .name) x y
+        kinds-swap union = unions-swap
+        kinds-swap newtype = types-swap (x .name) (y .name) none none _ _ (x .inner) (y .inner)
+        kinds-swap config = nothing-swap
+        kinds-swap alias = nothing-swap
+        kinds-swap trait = nothing-swap
+        kinds-swap impl = nothing-swap
+        kinds-swap other = nothing-swap
 
         alike-swap : x .kind ≡ y .kind → Opposed (compareAlike there x y) (compareAlike back y x)
         unfolding compareAlike
         alike-swap p =
-            append-swap (r .first x y) _ (r .first y x) _ (lawful .first .swap j other (x .name) (y .name) x y p)
-            (append-swap (compareKind (x .kind) there x y) _ (compareKind (y .kind) back y x) _
-            (kinds-swap (x .kind) ∙ ap (λ k. countOf (mirror j) (compareKind k back y x)) p)
-            (lawful .last .swap j other (x .name) (y .name) x y p))
+            append-swap (r .first x y) _ (r .first y x) _ (lawful .first .swap j apart (x .name) (y .name) x y p)
+            (append-swap (compareKind (kindOf (x .kind)) there x y) _ (compareKind (kindOf (y .kind)) back y x) _
+            (kinds-swap (kindOf (x .kind)) ∙ ap (λ k. countOf (mirror j) (compareKind (kindOf k) back y x)) p)
+            (lawful .last .swap j apart (x .name) (y .name) x y p))
 
         decls-swap : Opposed (compareDecls there x y) (compareDecls back y x)
         unfolding compareDecls kindChanged mirror exchange
@@ -197,9 +202,9 @@ pub changes-swap : {r : Reading} {odd : Ty → Bool} → Lawful r odd → (j : �
     → Rising nameOf before (x .standing) → Rising nameOf before (y .standing)
     → countOf j (changes r x y) ≡ countOf (mirror j) (changes r y x)
 unfolding changes declRules mirror exchange
-changes-swap {r = r} lawful j other x y p q =
+changes-swap {r = r} lawful j apart x y p q =
     append-swap j (compareNamespaces (x .namespace) (y .namespace)) _ (compareNamespaces (y .namespace) (x .namespace)) _
     (namespaces-swap j (x .namespace) (y .namespace))
     (maps-swap j nameOf byName (declRules (context r (x .registry) (y .registry))) (declRules (context r (y .registry) (x .registry)))
-    (λ d. single-swap j _ _ refl) (λ d. single-swap j _ _ refl) (λ d e k. decls-swap j other lawful (x .registry) (y .registry) d e)
+    (λ d. single-swap j _ _ refl) (λ d. single-swap j _ _ refl) (λ d e k. decls-swap j apart lawful (x .registry) (y .registry) d e)
     (x .standing) (y .standing) p q)

@@ -21,6 +21,7 @@ use Rattle.maps.proofs.Survivors.{rising, all-survivors}
 use Rattle.maps.proofs.Sums.{total-survivors, compare-weight}
 use Rattle.image.specs.Schema.{Name, Marks, Ty, leaf, one, two, Field, Variant, Decl}
 use Rattle.image.specs.Words.{bytes}
+use Rattle.image.specs.Kinds.{Kind, kindOf, message, enum, flags, union, newtype, config, alias, trait, impl, other}
 use Rattle.rules.specs.Survivors.{nameOf, ordinalOf, fieldMap, variantOrdinal, variantMap, View}
 use Rattle.rules.specs.Text.{joined}
 use Rattle.rules.specs.Changes.{Bump, Change, change, only, quoted, numbered}
@@ -336,14 +337,18 @@ module _ (r : Context) (light : Light (r .reading)) (S : Short (r .old)) (T : Sh
           type-one (x .inner),
         )
 
-    kinds-weight : (k : ℕ) → total lineLength (compareKind k r x y) ≤ 2 * (heavy declSize x + heavy declSize y)
+    kinds-weight : (k : Kind) → total lineLength (compareKind k r x y) ≤ 2 * (heavy declSize x + heavy declSize y)
     unfolding compareKind heavy declSize total
-    kinds-weight zero = omega (arith, messages-weight)
-    kinds-weight (suc zero) = omega (arith, enums-weight (x .name) name-short x y, type-one (x .inner))
-    kinds-weight (suc (suc zero)) = omega (arith, flags-weight (x .name) name-short x y)
-    kinds-weight (suc (suc (suc zero))) = omega (arith, unions-weight)
-    kinds-weight (suc (suc (suc (suc zero)))) = omega (arith, newtypes-weight)
-    kinds-weight (suc (suc (suc (suc (suc k))))) = omega arith
+    kinds-weight message = omega (arith, messages-weight)
+    kinds-weight enum = omega (arith, enums-weight (x .name) name-short x y, type-one (x .inner))
+    kinds-weight flags = omega (arith, flags-weight (x .name) name-short x y)
+    kinds-weight union = omega (arith, unions-weight)
+    kinds-weight newtype = omega (arith, newtypes-weight)
+    kinds-weight config = omega arith
+    kinds-weight alias = omega arith
+    kinds-weight trait = omega arith
+    kinds-weight impl = omega arith
+    kinds-weight other = omega arith
 
     changed-weight : total lineLength (kindChanged x y) ≤ heavy declSize x + heavy declSize y
     unfolding kindChanged bytes optionLength heavy declSize
@@ -358,7 +363,7 @@ module _ (r : Context) (light : Light (r .reading)) (S : Short (r .old)) (T : Sh
       where
         go : (u : Bool) → total lineLength (cond u (compareAlike r x y) (kindChanged x y))
             ≤ heavy (twice (twice declSize)) x + heavy (twice (twice declSize)) y
-        go true = simp (total-append lineLength) (omega (arith, kinds-weight (x .kind), light .decls x y h))
+        go true = simp (total-append lineLength) (omega (arith, kinds-weight (kindOf (x .kind)), light .decls x y h))
         go false = omega (arith, changed-weight)
 
 -- ---- all clauses

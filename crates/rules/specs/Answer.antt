@@ -6,6 +6,7 @@ use mathlib.Core.List.{List, [], _∷_}
 use Prim.Native.Nat.{ℕ, zero, suc}
 use lib.ListN.{length}
 use Rattle.image.specs.Schema.{Schema}
+use Rattle.image.specs.Codes.{aliasPairRefusal, oldSide, newSide, bothSides}
 use Rattle.image.specs.Parse.{Parsed, ok, no}
 use Rattle.image.specs.Image.{readImage}
 use Rattle.rules.specs.Survivors.{View, viewOf}
@@ -15,16 +16,6 @@ use Rattle.rules.specs.Clauses.{Reading, clausesBy, changes}
 use Rattle.rules.specs.Verdict.{bumpOf, resultOf, countOf, aliasPair}
 use Rattle.rules.specs.Report.{report}
 use Rattle.rules.specs.Outcome.{Outcome, refused, answered, select, fit, textLength, written}
-
--- the sides: none 0, old 1, new 2, both 3
-abbrev pub oldSide : ℕ
-oldSide = 1
-
-abbrev pub newSide : ℕ
-newSide = 2
-
-abbrev pub bothSides : ℕ
-bothSides = 3
 
 -- ---- what a verdict is made of
 
@@ -112,7 +103,7 @@ module _ (p : Policy) where
 
 -- 11: "survivors of one name are generic aliases in both images"
 unfoldable pub aliasCheck : (Schema → View) → Check
-aliasCheck view x y = cond (aliasPair (view x) (view y)) (some (fault 11 bothSides)) none
+aliasCheck view x y = cond (aliasPair (view x) (view y)) (some (fault aliasPairRefusal bothSides)) none
 
 -- types are read as document 01 says
 abbrev pub plainReading : Reading

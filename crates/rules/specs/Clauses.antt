@@ -3,11 +3,12 @@
 use mathlib.Core.Bool.{Bool, cond, not, _&&_, Bool·beq}
 use mathlib.Core.Option.{Option, none, some}
 use mathlib.Core.List.{List, [], _∷_, _++_, flatMap}
-use Prim.Native.Nat.{ℕ, zero, suc}
+use Prim.Native.Nat.{ℕ}
 use lib.Dec.{eqb, ltb}
 use Rattle.maps.specs.Compare.{Rules, compare}
 use Rattle.maps.specs.Orders.{before}
 use Rattle.image.specs.Schema.{Name, Marks, Encoding, Ty, Field, Variant, Decl}
+use Rattle.image.specs.Kinds.{Kind, kindOf, message, enum, flags, union, newtype, config, alias, trait, impl, other}
 use Rattle.image.specs.Words.{bytes, kindWord}
 use Rattle.rules.specs.Equal.{sameOption, sameName, sameNames}
 use Rattle.rules.specs.Survivors.{Registry, nameOf, ordinalOf, fieldMap, variantOrdinal, variantMap, View}
@@ -177,13 +178,17 @@ compareNewtypes r d old new = compareTypes r d none (bytes "newtype " ++ (quoted
 -- ---- 3. Per shared name: kinds differ, `DeclarationKindChanged` Major and no more. Config, trait, impl: silent; so is a generic alias, of
 -- which a pair is refused.
 
-unfoldable pub compareKind : ℕ → Context → Decl → Decl → List Change
-compareKind zero r old new = compareMessages r (old .name) old new
-compareKind (suc zero) r old new = compareEnums (old .name) old new
-compareKind (suc (suc zero)) r old new = compareFlags (old .name) old new
-compareKind (suc (suc (suc zero))) r old new = compareUnions r (old .name) old new
-compareKind (suc (suc (suc (suc zero)))) r old new = compareNewtypes r (old .name) old new
-compareKind (suc (suc (suc (suc (suc k))))) r old new = []
+unfoldable pub compareKind : Kind → Context → Decl → Decl → List Change
+compareKind message r old new = compareMessages r (old .name) old new
+compareKind enum r old new = compareEnums (old .name) old new
+compareKind flags r old new = compareFlags (old .name) old new
+compareKind union r old new = compareUnions r (old .name) old new
+compareKind newtype r old new = compareNewtypes r (old .name) old new
+compareKind config r old new = []
+compareKind alias r old new = []
+compareKind trait r old new = []
+compareKind impl r old new = []
+compareKind other r old new = []
 
 unfoldable pub kindChanged : Decl → Decl → List Change
 kindChanged old new =
@@ -192,7 +197,7 @@ kindChanged old new =
 
 -- of one kind: its clause, between what is reported besides
 unfoldable pub compareAlike : Context → Decl → Decl → List Change
-compareAlike r old new = r .reading .first old new ++ (compareKind (old .kind) r old new ++ r .reading .last old new)
+compareAlike r old new = r .reading .first old new ++ (compareKind (kindOf (old .kind)) r old new ++ r .reading .last old new)
 
 unfoldable pub compareDecls : Context → Decl → Decl → List Change
 compareDecls r old new = cond (eqb (old .kind) (new .kind)) (compareAlike r old new) (kindChanged old new)
@@ -225,13 +230,17 @@ fieldTypes fs = flatMap (λ f. f .type ∷ []) (fieldMap fs)
 unfoldable pub variantTypes : List Variant → List Ty
 variantTypes vs = flatMap (λ v. fieldTypes (v .fields)) (variantMap vs)
 
-unfoldable pub typesOf : ℕ → Decl → List Ty
-typesOf zero d = fieldTypes (d .fields)
-typesOf (suc zero) d = []
-typesOf (suc (suc zero)) d = []
-typesOf (suc (suc (suc zero))) d = variantTypes (d .variants)
-typesOf (suc (suc (suc (suc zero)))) d = d .inner ∷ []
-typesOf (suc (suc (suc (suc (suc k))))) d = []
+unfoldable pub typesOf : Kind → Decl → List Ty
+typesOf message d = fieldTypes (d .fields)
+typesOf enum d = []
+typesOf flags d = []
+typesOf union d = variantTypes (d .variants)
+typesOf newtype d = d .inner ∷ []
+typesOf config d = []
+typesOf alias d = []
+typesOf trait d = []
+typesOf impl d = []
+typesOf other d = []
 
 unfoldable pub comparedTypes : View → List Ty
-comparedTypes v = flatMap (λ d. typesOf (d .kind) d) (v .standing)
+comparedTypes v = flatMap (λ d. typesOf (kindOf (d .kind)) d) (v .standing)

@@ -8,12 +8,14 @@ use Prim.Native.Nat.{ℕ, _≤_, _<_}
 use Rattle.maps.specs.Keyed.{lookup}
 use Rattle.maps.specs.Orders.{before}
 use Rattle.image.specs.Schema.{Name, Decl, Schema}
+use Rattle.image.specs.Kinds.{aliasKind}
+use Rattle.image.specs.Codes.{notRefused, aliasPairRefusal, fullRefusal, noSide, oldSide, newSide, bothSides}
 use Rattle.image.specs.Parse.{ok, no}
 use Rattle.image.specs.Image.{readImage}
 use Rattle.rules.specs.Survivors.{nameOf, declarations}
 use Rattle.rules.specs.Clauses.{changes}
 use Rattle.rules.specs.Outcome.{Outcome, refused, select, textLength, written}
-use Rattle.rules.specs.Answer.{oldSide, newSide, Fault, Policy, compared, firstFault, outcome, verdictBy, reportBy, verdictOf, reported}
+use Rattle.rules.specs.Answer.{Fault, Policy, compared, firstFault, outcome, verdictBy, reportBy, verdictOf, reported}
 
 -- "A refusal is number and side .., with bump Major, result Breaking, all counts and length 0": by selector
 pub record Refusal (answer : ℕ → ℕ) : Type 0 where
@@ -45,7 +47,7 @@ pub data Decided (p : Policy) (old new : List ℕ) : Outcome → Type 0 where
 
 -- a number that neither says that there is a verdict nor that a buffer is full
 abbrev pub Own : ℕ → Type 0
-Own k = (k ≡ 0 → ⊥) × (k ≡ 12 → ⊥)
+Own k = (k ≡ notRefused → ⊥) × (k ≡ fullRefusal → ⊥)
 
 -- the numbers of a policy's checks are such
 pub record Numbered (p : Policy) : Type 0 where
@@ -56,20 +58,20 @@ pub record PolicyRefusals (p : Policy) (old new : List ℕ) : Type 0 where
   -- an outcome is that of the two images exactly if they are decided so
   pub exactly : (o : Outcome) → (outcome p old new ≡ o) ↔ Decided p old new o
   -- "A verdict has number 0 and side none."
-  pub noSide : verdictBy p old new 0 ≡ 0 → verdictBy p old new 1 ≡ 0
-  pub refusal : (verdictBy p old new 0 ≡ 0 → ⊥) → Refusal (verdictBy p old new)
+  pub noSide : verdictBy p old new 0 ≡ notRefused → verdictBy p old new 1 ≡ noSide
+  pub refusal : (verdictBy p old new 0 ≡ notRefused → ⊥) → Refusal (verdictBy p old new)
 
 -- of the report call, with a buffer of so many bytes
 pub record ReportRefusals (p : Policy) (old new : List ℕ) (room : ℕ) : Type 0 where
   -- 12: "report longer than its buffer"
-  pub full : (select (reportBy p old new room) 0 ≡ 12) ↔ ((verdictBy p old new 0 ≡ 0) × (room < verdictBy p old new 4))
-  pub bothSides : select (reportBy p old new room) 0 ≡ 12 → select (reportBy p old new room) 1 ≡ 3
+  pub full : (select (reportBy p old new room) 0 ≡ fullRefusal) ↔ ((verdictBy p old new 0 ≡ notRefused) × (room < verdictBy p old new 4))
+  pub bothSides : select (reportBy p old new room) 0 ≡ fullRefusal → select (reportBy p old new room) 1 ≡ bothSides
   -- otherwise all is as in the verdict
-  pub fits : (select (reportBy p old new room) 0 ≡ 12 → ⊥) → (n : ℕ) → select (reportBy p old new room) n ≡ verdictBy p old new n
-  pub refusal : (select (reportBy p old new room) 0 ≡ 0 → ⊥) → Refusal (select (reportBy p old new room))
+  pub fits : (select (reportBy p old new room) 0 ≡ fullRefusal → ⊥) → (n : ℕ) → select (reportBy p old new room) n ≡ verdictBy p old new n
+  pub refusal : (select (reportBy p old new room) 0 ≡ notRefused → ⊥) → Refusal (select (reportBy p old new room))
   -- "Its report call returns the length, 0 if refused", and leaves "an untouched buffer"
-  pub nothing : (select (reportBy p old new room) 0 ≡ 0 → ⊥) → textLength (reportBy p old new room) ≡ 0
-  pub untouched : (select (reportBy p old new room) 0 ≡ 0 → ⊥) → (out : List ℕ) → written (reportBy p old new room) out ≡ out
+  pub nothing : (select (reportBy p old new room) 0 ≡ notRefused → ⊥) → textLength (reportBy p old new room) ≡ 0
+  pub untouched : (select (reportBy p old new room) 0 ≡ notRefused → ⊥) → (out : List ℕ) → written (reportBy p old new room) out ≡ out
 
 -- ---- of the verdict of document 01
 
@@ -94,7 +96,7 @@ pub record NewRefused (old new : List ℕ) (k : ℕ) : Type 0 where
 pub record Alias (name : Name) (s : Schema) : Type 0 where
   pub survivor : Decl
   pub stands : lookup nameOf before name (declarations s) ≡ some survivor
-  pub generic : survivor .kind ≡ 6
+  pub generic : survivor .kind ≡ aliasKind
 
 -- "survivors of one name are generic aliases in both images"
 pub record AliasPair (old new : Schema) : Type 0 where
@@ -105,16 +107,16 @@ pub record AliasPair (old new : Schema) : Type 0 where
 -- of the verdict call
 pub record VerdictRefusals (old new : List ℕ) : Type 0 where
   -- "Two images get one exactly if none of 1 to 11 applies to them": the number is 0
-  pub verdict : (verdictOf old new 0 ≡ 0) ↔ AcceptedPair old new (λ x y. AliasPair x y → ⊥)
+  pub verdict : (verdictOf old new 0 ≡ notRefused) ↔ AcceptedPair old new (λ x y. AliasPair x y → ⊥)
   -- 11
-  pub aliasPair : (verdictOf old new 0 ≡ 11) ↔ AcceptedPair old new AliasPair
+  pub aliasPair : (verdictOf old new 0 ≡ aliasPairRefusal) ↔ AcceptedPair old new AliasPair
   -- 1 to 10, "old before new"
-  pub oldRefused : (k : ℕ) → ((verdictOf old new 0 ≡ k) × (verdictOf old new 1 ≡ 1)) ↔ (readImage old ≡ no k)
-  pub newRefused : (k : ℕ) → ((verdictOf old new 0 ≡ k) × (verdictOf old new 1 ≡ 2)) ↔ NewRefused old new k
+  pub oldRefused : (k : ℕ) → ((verdictOf old new 0 ≡ k) × (verdictOf old new 1 ≡ oldSide)) ↔ (readImage old ≡ no k)
+  pub newRefused : (k : ℕ) → ((verdictOf old new 0 ≡ k) × (verdictOf old new 1 ≡ newSide)) ↔ NewRefused old new k
   -- "A verdict has number 0 and side none."  "11 and 12: both"
-  pub noSide : verdictOf old new 0 ≡ 0 → verdictOf old new 1 ≡ 0
-  pub bothSides : verdictOf old new 0 ≡ 11 → verdictOf old new 1 ≡ 3
-  pub refusal : (verdictOf old new 0 ≡ 0 → ⊥) → Refusal (verdictOf old new)
+  pub noSide : verdictOf old new 0 ≡ notRefused → verdictOf old new 1 ≡ noSide
+  pub bothSides : verdictOf old new 0 ≡ aliasPairRefusal → verdictOf old new 1 ≡ bothSides
+  pub refusal : (verdictOf old new 0 ≡ notRefused → ⊥) → Refusal (verdictOf old new)
   -- the number is one of 0 to 11, and the report's, with a buffer of so many bytes, one of 0 to 12
-  pub most : verdictOf old new 0 ≤ 11
-  pub mostReported : (room : ℕ) → select (reported old new room) 0 ≤ 12
+  pub most : verdictOf old new 0 ≤ aliasPairRefusal
+  pub mostReported : (room : ℕ) → select (reported old new room) 0 ≤ fullRefusal

@@ -13,8 +13,8 @@ abbrev pub Registry : Type 0
 Registry = List (Option Decl)
 
 -- "An id that is N or more, or whose entry is empty, is unresolvable"
-unfoldable pub declOf : Registry → ℕ → Option Decl
-declOf R id = getD R id none
+unfoldable pub standsFor : Registry → ℕ → Option Decl
+standsFor R id = getD R id none
 
 -- "in the declaration list it is skipped"
 unfoldable pub resolved : Option Decl → List Decl → List Decl
@@ -23,7 +23,7 @@ resolved (some d) ds = d ∷ ds
 
 unfoldable pub listed : Registry → List ℕ → List Decl
 listed R [] = []
-listed R (id ∷ ids) = resolved (declOf R id) (listed R ids)
+listed R (id ∷ ids) = resolved (standsFor R id) (listed R ids)
 
 -- "All impls share the empty name": an impl is read with it.
 abbrev pub nameOf : Decl → Name

@@ -5,17 +5,18 @@ use mathlib.Core.List.{List, [], _∷_}
 use Prim.Native.Nat.{ℕ}
 use lib.Dec.{eqb, leb}
 use Rattle.image.specs.Schema.{Name, Label, label, Ty, leaf, one, two, Decl}
+use Rattle.image.specs.Kinds.{namedTag, vec2Tag, mat4Tag}
 use Rattle.rules.specs.Equal.{sameNames}
-use Rattle.rules.specs.Survivors.{Registry, declOf}
+use Rattle.rules.specs.Survivors.{Registry, standsFor}
 
 -- the name that an id stands for in its own registry: a list with that name, or with none if the id is unresolvable
-unfoldable pub nameIn : Option Decl → List Name
-nameIn none = []
-nameIn (some d) = d .name ∷ []
+unfoldable pub nameOrNone : Option Decl → List Name
+nameOrNone none = []
+nameOrNone (some d) = d .name ∷ []
 
 -- a named node has its name instead of its id
 unfoldable pub resolveLabel : Registry → Label → Label
-resolveLabel R l = cond (eqb (l .tag) 3) (label 3 0 0 (nameIn (declOf R (l .first)))) l
+resolveLabel R l = cond (eqb (l .tag) namedTag) (label namedTag 0 0 (nameOrNone (standsFor R (l .first)))) l
 
 unfoldable pub resolve : Registry → Ty → Ty
 resolve R (leaf l) = leaf (resolveLabel R l)
@@ -24,7 +25,7 @@ resolve R (two l t u) = two (resolveLabel R l) (resolve R t) (resolve R u)
 
 -- 10 to 15: vec2 vec3 vec4 quat mat3 mat4
 unfoldable pub vector : ℕ → Bool
-vector tag = leb 10 tag && leb tag 15
+vector tag = leb vec2Tag tag && leb tag mat4Tag
 
 -- "same tag, same codes, same size, same bit names in order"
 unfoldable pub sameLabel : Label → Label → Bool

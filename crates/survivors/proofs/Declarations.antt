@@ -9,7 +9,7 @@ use Rattle.maps.specs.Walk.{Rising, next}
 use Rattle.maps.proofs.Names.{byName}
 use Rattle.maps.proofs.Survivors.{rising}
 use Rattle.image.specs.Schema.{Name, Schema}
-use Rattle.parts.specs.Promise.{schemaOf, DeclHere, declIn, declOf}
+use Rattle.parts.specs.Promise.{schemaOf, DeclHere, declIn, entryDecl}
 use Rattle.parts.specs.declared.Entry.{Entry}
 use Rattle.parts.specs.declared.Entry.the-variants.{Body, Unresolvable}
 use Rattle.rules.specs.Survivors.{listed, nameOf, declarations}
@@ -26,13 +26,13 @@ declarations-rising d = rising nameOf byName (listed (d .registry) (d .ids))
 -- the answers of `survivor`
 module _ (s : List ℕ) (name : Name) {r : Entry} (h : Survives s name r) where
   pub survives-none : r ≡ Unresolvable → lookup nameOf before name (declarations (schemaOf s)) ≡ none
-  unfolding declOf
-  survives-none e = sym (h .value) ∙ ap (declOf s) e
+  unfolding entryDecl
+  survives-none e = sym (h .value) ∙ ap (entryDecl s) e
 
   module _ {at : ℕ} (e : r ≡ Body at) where
     pub survives-body : lookup nameOf before name (declarations (schemaOf s)) ≡ some (declIn s at)
-    unfolding declOf
-    survives-body = sym (h .value) ∙ ap (declOf s) e
+    unfolding entryDecl
+    survives-body = sym (h .value) ∙ ap (entryDecl s) e
 
     pub survives-here : DeclHere s at
     survives-here = entry-here s e (h .here)

@@ -8,7 +8,7 @@ use Rattle.maps.specs.Keyed.{survivors, lookup}
 use Rattle.maps.specs.Orders.{before}
 use Rattle.maps.specs.Walk.{better, next}
 use Rattle.image.specs.Schema.{Name}
-use Rattle.parts.specs.Promise.{schemaOf, declOf, EntryHere, ItemHere, placesFrom, ordinalIn}
+use Rattle.parts.specs.Promise.{schemaOf, entryDecl, EntryHere, ItemHere, placesFrom, ordinalIn}
 use Rattle.parts.specs.declared.Entry.{Entry}
 use Rattle.parts.specs.declared.Shape.{Shape}
 use Rattle.parts.specs.declared.Run.{Run}
@@ -22,11 +22,11 @@ use Rattle.survivors.specs.declared.Ordinal.the-variants as ordinal
 
 -- the name of an entry's declaration
 unfoldable pub named : List ℕ → Entry → Option Name
-named s r = Option·map nameOf (declOf s r)
+named s r = Option·map nameOf (entryDecl s r)
 
 -- the declaration that stands under a name
 pub record Survives (s : List ℕ) (name : Name) (r : Entry) : Type 0 where
-  pub value : declOf s r ≡ lookup nameOf before name (declarations (schemaOf s))
+  pub value : entryDecl s r ≡ lookup nameOf before name (declarations (schemaOf s))
   pub here : EntryHere s r
 
 -- a declaration with the next name of those that stand

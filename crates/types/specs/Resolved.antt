@@ -3,12 +3,12 @@ use mathlib.Core.List.{List}
 use Prim.Native.Nat.{ℕ}
 use Rattle.image.specs.Schema.{Name, Label, Ty}
 use Rattle.parts.specs.Promise.{schemaOf, labelIn, treeIn}
-use Rattle.rules.specs.Survivors.{declOf}
-use Rattle.rules.specs.Types.{nameIn, resolveLabel, resolve}
+use Rattle.rules.specs.Survivors.{standsFor}
+use Rattle.rules.specs.Types.{nameOrNone, resolveLabel, resolve}
 
 -- the name that an id stands for, if it is resolvable
 abbrev pub namedBy : List ℕ → ℕ → List Name
-namedBy s id = nameIn (declOf (schemaOf s .registry) id)
+namedBy s id = nameOrNone (standsFor (schemaOf s .registry) id)
 
 abbrev pub nodeIn : List ℕ → ℕ → Label
 nodeIn s at = resolveLabel (schemaOf s .registry) (labelIn s at)

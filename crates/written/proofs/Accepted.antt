@@ -14,7 +14,7 @@ use Rattle.image.specs.Schema.{Name, Decl, Schema}
 use Rattle.image.specs.Parse.{ok, part}
 use Rattle.image.specs.Names.{nameAt, namesAt}
 use Rattle.image.specs.Image.{u16At, format, entryCount, idCount, segmentCount, entryOffset, entryLength, idsAt, segmentsAt, idsFrom, tablesOf, entryOf, entriesOf, readImage}
-use Rattle.refusals.specs.Refusals.{Head, bodyAt, Placed}
+use Rattle.refusals.specs.Refusals.{Head, bodyStart, Placed}
 use Rattle.written.specs.Writer.{digits, writeEach, writeName, writeBody, writeEntry, writeContents, writeHead, bodiesAt, write}
 use Rattle.written.specs.Limits.{Each, end, also, Byte, U32, NameWithin, DeclWithin, EntryWithin, empty, full, Within}
 use Rattle.maps.proofs.Tests.{no-both}
@@ -28,15 +28,15 @@ use Rattle.written.proofs.Whole.{written-read}
 -- an entry as the contents have it
 data Entry (s : List ℕ) (i : ℕ) : Option Decl → Type 0 where
   none-here : entryOffset s i ≡ 0 → entryLength s i ≡ 0 → Entry s i none
-  some-here : {d : Decl} → DeclWithin d → entryOffset s i ≡ bodyAt s i → entryLength s i ≡ length (writeBody d)
-      → Run s (bodyAt s i) (bodyAt s (suc i)) (writeBody d) → Entry s i (some d)
+  some-here : {d : Decl} → DeclWithin d → entryOffset s i ≡ bodyStart s i → entryLength s i ≡ length (writeBody d)
+      → Run s (bodyStart s i) (bodyStart s (suc i)) (writeBody d) → Entry s i (some d)
 
 -- the entries from the i-th on
 record Entries (s : List ℕ) (i : ℕ) (es : List (Option Decl)) : Type 0 where
   pub count : i + length es ≡ entryCount s
   pub within : Each EntryWithin es
-  pub contents : Run s (8 + 4 * i) (8 + 4 * entryCount s) (writeContents es (bodyAt s i))
-  pub bodies : Run s (bodyAt s i) (bodyAt s (entryCount s)) (writeEach writeEntry es)
+  pub contents : Run s (8 + 4 * i) (8 + 4 * entryCount s) (writeContents es (bodyStart s i))
+  pub bodies : Run s (bodyStart s i) (bodyStart s (entryCount s)) (writeEach writeEntry es)
 
 -- what is known of an image that is accepted: its names xs and its entries es
 record Parts (s : List ℕ) (xs : List Name) (es : List (Option Decl)) : Type 0 where
@@ -44,18 +44,18 @@ record Parts (s : List ℕ) (xs : List Name) (es : List (Option Decl)) : Type 0 
   pub inside : segmentsAt s ≤ length s
   pub count : length xs ≡ segmentCount s
   pub within : Each NameWithin xs
-  pub names : Run s (segmentsAt s) (bodyAt s 0) (writeEach writeName xs)
-  pub ends : bodyAt s (entryCount s) ≡ length s
+  pub names : Run s (segmentsAt s) (bodyStart s 0) (writeEach writeName xs)
+  pub ends : bodyStart s (entryCount s) ≡ length s
   pub entries : Entries s 0 es
 
 all-placed : {s : List ℕ} {b : Bool} → Laid s 0 b → b ≡ true
-    → ((j : ℕ) → 0 ≤ j → j < entryCount s → Placed s j) × (bodyAt s (entryCount s) ≡ length s)
+    → ((j : ℕ) → 0 ≤ j → j < entryCount s → Placed s j) × (bodyStart s (entryCount s) ≡ length s)
 all-placed (good h e) t = (h, e)
 all-placed (wrong m) t = no-both t refl
 
 module _ (s : List ℕ) (bytes : Each Byte s) where
   entry-keeps : (i : ℕ) → Placed s i → Told (λ e n. Entry s i e) Free (entryOf s i)
-  unfolding entryOf bodyAt
+  unfolding entryOf bodyStart
   entry-keeps i p =
       told-pick _
       (λ h. let z = eqb-true _ _ h in told-ok (none-here (placed-empty p z) z))
@@ -67,10 +67,10 @@ module _ (s : List ℕ) (bytes : Each Byte s) where
       there : (d : Decl) → ¬ (entryLength s i ≡ 0) → DeclWithin d × (body ≡ writeBody d) → Entry s i (some d)
       there d z q =
           let f = placed-full p z in
-          let fits : bodyAt s i + entryLength s i ≤ length s = f .1 in
-          let b : part (bodyAt s i) (entryLength s i) s ≡ writeBody d = rw (f .0) at (q .1) in
-          let size : entryLength s i ≡ length (writeBody d) = sym (part-length (bodyAt s i) (entryLength s i) s fits) ∙ ap length b in
-          some-here (q .0) (f .0) size (rw b at (part-run (bodyAt s i) (entryLength s i) s fits))
+          let fits : bodyStart s i + entryLength s i ≤ length s = f .1 in
+          let b : part (bodyStart s i) (entryLength s i) s ≡ writeBody d = rw (f .0) at (q .1) in
+          let size : entryLength s i ≡ length (writeBody d) = sym (part-length (bodyStart s i) (entryLength s i) s fits) ∙ ap length b in
+          some-here (q .0) (f .0) size (rw b at (part-run (bodyStart s i) (entryLength s i) s fits))
 
   -- an offset and a length of the contents
   offset-run : (i : ℕ) → 10 + 4 * i ≤ length s → Run s (8 + 4 * i) (10 + 4 * i) (digits 2 (entryOffset s i))
@@ -82,7 +82,7 @@ module _ (s : List ℕ) (bytes : Each Byte s) where
   length-run i h = let e : 10 + 4 * i + 2 ≡ 8 + 4 * (i + 1) = omega arith in rw e at (number-run s bytes 2 (10 + 4 * i) (omega arith))
 
   entries-more : (i : ℕ) (e : Option Decl) (es : List (Option Decl)) → Entry s i e → Entries s (i + 1) es → Entries s i (e ∷ es)
-  unfolding bodyAt writeContents writeEach writeEntry
+  unfolding bodyStart writeContents writeEach writeEntry
   entries-more i _ es (none-here o n) r =
       record {
         count = omega (arith, r .count);
@@ -96,29 +96,29 @@ module _ (s : List ℕ) (bytes : Each Byte s) where
       inside : 8 + 4 * (i + 1) ≤ length s
       inside = r .contents .here .from
 
-      same : bodyAt s (i + 1) ≡ bodyAt s i
-      same = ap (bodyAt s) (add-one i) ∙ ap (λ (k : ℕ). bodyAt s i + k) n ∙ add-zero (bodyAt s i)
+      same : bodyStart s (i + 1) ≡ bodyStart s i
+      same = ap (bodyStart s) (add-one i) ∙ ap (λ (k : ℕ). bodyStart s i + k) n ∙ add-zero (bodyStart s i)
   entries-more i _ es (some-here {d = d} q o n b) r =
       record {
         count = omega (arith, r .count);
         within = also (full q) (r .within);
         contents =
-            run-join (digits 2 (bodyAt s i)) _ (rw o at (offset-run i (omega (arith, inside))))
+            run-join (digits 2 (bodyStart s i)) _ (rw o at (offset-run i (omega (arith, inside))))
             (run-join (digits 2 (length (writeBody d))) _ (rw n at (length-run i inside)) (rw next at (r .contents)));
-        bodies = run-join (writeBody d) (writeEach writeEntry es) b (rw (ap (bodyAt s) (add-one i)) at (r .bodies));
+        bodies = run-join (writeBody d) (writeEach writeEntry es) b (rw (ap (bodyStart s) (add-one i)) at (r .bodies));
       }
     where
       inside : 8 + 4 * (i + 1) ≤ length s
       inside = r .contents .here .from
 
-      next : bodyAt s (i + 1) ≡ bodyAt s i + length (writeBody d)
-      next = ap (bodyAt s) (add-one i) ∙ ap (λ (k : ℕ). bodyAt s i + k) n
+      next : bodyStart s (i + 1) ≡ bodyStart s i + length (writeBody d)
+      next = ap (bodyStart s) (add-one i) ∙ ap (λ (k : ℕ). bodyStart s i + k) n
 
-  entries-none : 8 + 4 * entryCount s ≤ length s → bodyAt s (entryCount s) ≤ length s → Entries s (entryCount s) []
+  entries-none : 8 + 4 * entryCount s ≤ length s → bodyStart s (entryCount s) ≤ length s → Entries s (entryCount s) []
   unfolding writeContents writeEach
   entries-none h g = record { count = add-zero (entryCount s); within = end; contents = run-none h; bodies = run-none g }
 
-  entries-keep : (count i : ℕ) → i + count ≡ entryCount s → 8 + 4 * entryCount s ≤ length s → bodyAt s (entryCount s) ≤ length s
+  entries-keep : (count i : ℕ) → i + count ≡ entryCount s → 8 + 4 * entryCount s ≤ length s → bodyStart s (entryCount s) ≤ length s
       → ((j : ℕ) → i ≤ j → j < entryCount s → Placed s j) → Told (λ es n. Entries s i es × (n ≡ length s)) Free (entriesOf count s i)
   unfolding entriesOf
   entries-keep zero i e h g placed = let z : i ≡ entryCount s = omega arith in let r : Entries s i [] = rw z (entries-none h g) in told-ok (r, refl)
@@ -172,7 +172,7 @@ module _ (s : List ℕ) (bytes : Each Byte s) where
     entries-all : length es ≡ entryCount s
     entries-all = omega (arith, r .entries .count)
 
-    bodies-start : bodiesAt held ≡ bodyAt s 0
+    bodies-start : bodiesAt held ≡ bodyStart s 0
     unfolding held bodiesAt segmentsAt idsAt
     bodies-start = omega (arith, r .names .next, entries-all, ids-count (idCount s) (idsAt s))
 
@@ -210,7 +210,7 @@ module _ (s : List ℕ) (bytes : Each Byte s) where
   Holds x n = Within x × (s ≡ write x) × (n ≡ length s)
 
   image-keeps : Told Holds Free (readImage s)
-  unfolding Holds readImage bodyAt held segmentsAt idsAt
+  unfolding Holds readImage bodyStart held segmentsAt idsAt
   image-keeps =
       told-bind _ (told-then (head-told s) (λ u n h. h) (λ k g. tt)) (λ u n₁ h.
       told-bind _ tables-keep (λ is n₂ t.
@@ -218,7 +218,7 @@ module _ (s : List ℕ) (bytes : Each Byte s) where
       told-pick _
       (λ f.
       let p = all-placed (fits-told s (record { head = h; inside = t .0; segments = e .0 .0 })) (rw (e .0 .1) at f) in
-      let last : bodyAt s (entryCount s) ≤ length s = omega (arith, p .1) in
+      let last : bodyStart s (entryCount s) ≤ length s = omega (arith, p .1) in
       told-bind _ (entries-keep (entryCount s) 0 (omega arith) (omega (arith, t .0)) last (p .0)) (λ es n₄ k.
       let r : Parts s xs es =
       record {

@@ -8,7 +8,9 @@ use borrow.Author.Tests.{eqb-true, eqb-false}
 use lib.ListN.{length}
 use Rattle.image.specs.Schema.{Decl}
 use Rattle.image.specs.Fields.{marksOf, marksAt, plain, delta, encodingOf, encodingAt, limitAt, fieldAt, bareAt, variantAt}
+use Rattle.image.specs.Kinds.{Kind, kindOf}
 use Rattle.image.specs.Bodies.{messageAt, enumAt, flagsAt, unionAt, newtypeAt, otherAt, implAt, declAt, bodyOf}
+use Rattle.image.proofs.Laws.Kinds.{Says, says}
 use Rattle.written.specs.Writer.{digits, writeCounted, writeName, bit, marksByte, writeEncoding, writeLimit, writeType, writeField, writeBare, writeVariant, writeDecl, writeBody}
 use Rattle.written.specs.Limits.{Each, Byte, EncodingWithin, LimitWithin, free, most, FieldWithin, BareWithin, VariantWithin, DeclWithin, message, enum, flags, union, newtype, config, alias, trait, impl}
 use Rattle.refusals.proofs.Told.{Told, told-ok, told-no, told-bind, told-pick, told-then}
@@ -99,43 +101,43 @@ module _ (s : List ℕ) (bytes : Each Byte s) where
 
   -- what follows a kind
   Declared : ℕ → ℕ → Decl → ℕ → Type 0
-  Declared kind at d n = (d .kind ≡ kind) × DeclWithin d × Run s at n (writeDecl (d .kind) d)
+  Declared kind at d n = (d .kind ≡ kind) × DeclWithin d × Run s at n (writeDecl (kindOf (d .kind)) d)
 
-  decl-keeps : (kind at : ℕ) → at ≤ length s → Told (Declared kind at) Free (declAt kind s at)
-  unfolding Declared declAt messageAt enumAt flagsAt unionAt newtypeAt otherAt implAt writeDecl
-  decl-keeps zero at h =
+  decl-keeps : {kind : ℕ} {k : Kind} → Says kind k → (at : ℕ) → at ≤ length s → Told (Declared kind at) Free (declAt k s at)
+  unfolding kindOf Declared declAt messageAt enumAt flagsAt unionAt newtypeAt otherAt implAt writeDecl
+  decl-keeps Says.message at h =
       told-bind _ (name-keeps s bytes 8 at) (λ x n₁ q₁.
       told-bind _ (marks-keeps n₁) (λ m n₂ q₂.
       told-bind _ (counted-keeps s bytes fieldAt writeField FieldWithin field-keeps n₂) (λ fs n₃ q₃.
       told-ok (refl, message (q₁ .0) (q₃ .0 .0) (q₃ .0 .1), run-join (writeName x) _ (q₁ .1) (run-join (marksByte m ∷ []) _ (q₂ .1) (q₃ .1))))))
-  decl-keeps (suc zero) at h =
+  decl-keeps Says.enum at h =
       told-bind _ (name-keeps s bytes 8 at) (λ x n₁ q₁.
       told-bind _ (marks-keeps n₁) (λ m n₂ q₂.
       told-bind _ (counted-keeps s bytes bareAt writeBare BareWithin bare-keeps n₂) (λ vs n₃ q₃.
       told-ok (refl, enum (q₁ .0) (q₃ .0 .0) (q₃ .0 .1), run-join (writeName x) _ (q₁ .1) (run-join (marksByte m ∷ []) _ (q₂ .1) (q₃ .1))))))
-  decl-keeps (suc (suc zero)) at h =
+  decl-keeps Says.flags at h =
       told-bind _ (name-keeps s bytes 8 at) (λ x n₁ q₁.
       told-bind _ (counted-keeps s bytes bareAt writeBare BareWithin bare-keeps n₁) (λ vs n₂ q₂.
       told-ok (refl, flags (q₁ .0) (q₂ .0 .0) (q₂ .0 .1), run-join (writeName x) _ (q₁ .1) (q₂ .1))))
-  decl-keeps (suc (suc (suc zero))) at h =
+  decl-keeps Says.union at h =
       told-bind _ (name-keeps s bytes 8 at) (λ x n₁ q₁.
       told-bind _ (counted-keeps s bytes variantAt writeVariant VariantWithin variant-keeps n₁) (λ vs n₂ q₂.
       told-ok (refl, union (q₁ .0) (q₂ .0 .0) (q₂ .0 .1), run-join (writeName x) _ (q₁ .1) (q₂ .1))))
-  decl-keeps (suc (suc (suc (suc zero)))) at h =
+  decl-keeps Says.newtype at h =
       told-bind _ (name-keeps s bytes 8 at) (λ x n₁ q₁.
       told-bind _ (typeAt-keeps s bytes n₁ (run-inside (q₁ .1))) (λ t n₂ q₂.
       told-ok (refl, newtype (q₁ .0) (q₂ .0), run-join (writeName x) _ (q₁ .1) (q₂ .1))))
-  decl-keeps (suc (suc (suc (suc (suc zero))))) at h = told-bind _ (name-keeps s bytes 8 at) (λ x n q. told-ok (refl, config (q .0), q .1))
-  decl-keeps (suc (suc (suc (suc (suc (suc zero)))))) at h = told-bind _ (name-keeps s bytes 8 at) (λ x n q. told-ok (refl, alias (q .0), q .1))
-  decl-keeps (suc (suc (suc (suc (suc (suc (suc zero))))))) at h = told-bind _ (name-keeps s bytes 8 at) (λ x n q. told-ok (refl, trait (q .0), q .1))
-  decl-keeps (suc (suc (suc (suc (suc (suc (suc (suc zero)))))))) at h = told-ok (refl, impl, run-none h)
-  decl-keeps (suc (suc (suc (suc (suc (suc (suc (suc (suc k))))))))) at h = told-no tt
+  decl-keeps Says.config at h = told-bind _ (name-keeps s bytes 8 at) (λ x n q. told-ok (refl, config (q .0), q .1))
+  decl-keeps Says.alias at h = told-bind _ (name-keeps s bytes 8 at) (λ x n q. told-ok (refl, alias (q .0), q .1))
+  decl-keeps Says.trait at h = told-bind _ (name-keeps s bytes 8 at) (λ x n q. told-ok (refl, trait (q .0), q .1))
+  decl-keeps Says.impl at h = told-ok (refl, impl, run-none h)
+  decl-keeps Says.other at h = told-no tt
 
   pub body-keeps : Told (λ d n. DeclWithin d × (s ≡ writeBody d)) Free (bodyOf s)
   unfolding Declared bodyOf writeBody
   body-keeps =
       told-bind _ (byte-keeps s bytes 8 0) (λ kind n₁ q₁.
-      told-bind _ (decl-keeps kind n₁ (run-inside (q₁ .1))) (λ d n₂ q₂.
+      told-bind _ (decl-keeps (says kind) n₁ (run-inside (q₁ .1))) (λ d n₂ q₂.
       told-pick _
-      (λ h. told-ok {n = n₂} (q₂ .1, run-whole (eqb-true _ _ h) (run-join (d .kind ∷ []) (writeDecl (d .kind) d) (rw (q₂ .0) (q₁ .1)) (q₂ .2))))
+      (λ h. told-ok {n = n₂} (q₂ .1, run-whole (eqb-true _ _ h) (run-join (d .kind ∷ []) (writeDecl (kindOf (d .kind)) d) (rw (q₂ .0) (q₁ .1)) (q₂ .2))))
       (λ h. told-no tt)))

@@ -11,6 +11,7 @@ use lib.ListN.{length, replicate}
 use Rattle.image.specs.Schema.{Marks, Encoding, Field, Variant, Decl}
 use Rattle.image.specs.Parse.{ok, pick}
 use Rattle.image.specs.Fields.{marksOf, marksAt, plain, delta, encodingOf, encodingAt, limitAt, fieldAt, bareAt, variantAt}
+use Rattle.image.specs.Kinds.{kindOf}
 use Rattle.image.specs.Bodies.{messageAt, enumAt, flagsAt, unionAt, newtypeAt, otherAt, implAt, declAt, bodyOf}
 use Rattle.written.specs.Writer.{digits, writeName, bit, marksByte, writeEncoding, writeLimit, writeField, writeBare, writeVariant, writeDecl, writeBody}
 use Rattle.written.specs.Limits.{EncodingWithin, LimitWithin, free, most, FieldWithin, BareWithin, VariantWithin, DeclWithin, message, enum, flags, union, newtype, config, alias, trait, impl}
@@ -87,8 +88,8 @@ variant-back v q s at h =
     got _ (counted-back fieldAt writeField FieldWithin field-back (v .fields) (q .few) (q .fields) s _ h₂) refl))
 
 -- what follows the kind
-decl-back : (d : Decl) → DeclWithin d → Reads (declAt (d .kind)) (writeDecl (d .kind) d) d
-unfolding declAt messageAt enumAt flagsAt unionAt newtypeAt otherAt implAt writeDecl
+decl-back : (d : Decl) → DeclWithin d → Reads (declAt (kindOf (d .kind))) (writeDecl (kindOf (d .kind)) d) d
+unfolding kindOf declAt messageAt enumAt flagsAt unionAt newtypeAt otherAt implAt writeDecl
 decl-back _ (message {x = x} {m = m} {fs = fs} q few qs) s at h =
     seq (writeName x) _ h _ (name-back 8 x q s at) (λ h₁.
     seq (marksByte m ∷ []) _ h₁ _ (marks-back m s _) (λ h₂.
@@ -114,7 +115,7 @@ decl-back _ impl s at h = stay _ at
 pub body-back : (d : Decl) → DeclWithin d → bodyOf (writeBody d) ≡ ok d (length (writeBody d))
 unfolding bodyOf writeBody pick
 body-back d q =
-    let e : 1 + length (writeDecl (d .kind) d) ≡ length (writeBody d) = omega arith in
+    let e : 1 + length (writeDecl (kindOf (d .kind)) d) ≡ length (writeBody d) = omega arith in
     seq (d .kind ∷ []) _ (here-all (writeBody d)) _ (byte-back 8 (d .kind) (writeBody d) 0) (λ h.
     got _ (decl-back d q (writeBody d) 1 h) (rw (eq-eqb _ _ e)))
     ∙ ap (ok d) (zero-add _)

@@ -10,6 +10,7 @@ use Rattle.image.specs.Parse.{Parsed, ok, no, bind, pick, shift, within, part, 
 use Rattle.image.specs.Names.{nameByte, nameBytes, nameAt, namesAt}
 use Rattle.image.specs.Types.{followsTag, innerTypes, afterTag, labelOf, innerAt, typeOf, typeAt}
 use Rattle.image.specs.Fields.{marksOf, marksAt, plain, delta, encodingOf, encodingAt, limitAt, fieldAt}
+use Rattle.image.specs.Kinds.{kindOf}
 use Rattle.image.specs.Bodies.{messageAt, declAt, bodyOf}
 use Rattle.image.specs.Image.{u16At, format, entryCount, idCount, segmentCount, entryOffset, entryLength, idsAt, segmentsAt, idsFrom, headOf, tablesOf, laid, entryOf, entriesOf, readImage}
 use Rattle.image.specs.Reads.{refusal}
@@ -37,7 +38,7 @@ rideSchema =
 
 -- What is unfolded where an image is computed: whoever unfolds this unfolds all that its line names.
 whole : List ℕ → Parsed Schema
-unfolding readImage entriesOf entryOf laid tablesOf headOf idsFrom segmentsAt idsAt entryLength entryOffset segmentCount idCount entryCount format u16At bodyOf declAt messageAt fieldAt limitAt encodingAt encodingOf delta plain marksAt marksOf typeAt typeOf innerAt labelOf afterTag innerTypes followsTag namesAt nameAt nameBytes nameByte counted many numberAt littleEndian codeAt byteAt part within shift pick bind bytes speed rideSchema
+unfolding readImage entriesOf entryOf laid tablesOf headOf idsFrom segmentsAt idsAt entryLength entryOffset segmentCount idCount entryCount format u16At bodyOf kindOf declAt messageAt fieldAt limitAt encodingAt encodingOf delta plain marksAt marksOf typeAt typeOf innerAt labelOf afterTag innerTypes followsTag namesAt nameAt nameBytes nameByte counted many numberAt littleEndian codeAt byteAt part within shift pick bind bytes speed rideSchema
 whole s = readImage s
 
 pub ride-accepted : readImage ride ≡ ok rideSchema 46
@@ -46,7 +47,7 @@ ride-accepted = refl
 
 -- and it is what is written of it
 pub ride-written : write rideSchema ≡ ride
-unfolding write writeHead writeContents writeEntry writeBody writeDecl writeField writeType writeLabel writeAfter followsTag writeLimit writeEncoding marksByte bit writeName writeCounted writeEach digits bodiesAt plain bytes speed rideSchema
+unfolding write writeHead writeContents writeEntry writeBody kindOf writeDecl writeField writeType writeLabel writeAfter followsTag writeLimit writeEncoding marksByte bit writeName writeCounted writeEach digits bodiesAt plain bytes speed rideSchema
 ride-written = refl
 
 -- damaged copies, each with the number that it gives

@@ -4,6 +4,7 @@ use mathlib.Core.Option.{Option, none, some}
 use mathlib.Core.List.{List, [], _∷_, _++_}
 use Prim.Native.Nat.{ℕ, zero, suc, _+_, _*_, _/_, _%_}
 use lib.ListN.{length, replicate}
+use Rattle.image.specs.Kinds.{Kind, message, enum, flags, union, newtype, config, alias, trait, impl, other, kindOf}
 use Rattle.image.specs.Schema.{Name, Marks, Encoding, Label, Ty, leaf, one, two, Field, Variant, Decl, Schema}
 use Rattle.image.specs.Types.{Follows, code, subByte, identity, size, nothing, bits, unknown, followsTag}
 
@@ -76,21 +77,22 @@ writeBare v = digits 4 (v .ordinal) ++ writeName (v .name)
 unfoldable pub writeVariant : Variant → List ℕ
 writeVariant v = digits 4 (v .ordinal) ++ (writeName (v .name) ++ writeCounted writeField (v .fields))
 
--- what follows the kind: 0 message, 1 enum, 2 flags, 3 union, 4 newtype, 5 config, 6 generic alias, 7 trait, 8 impl
-unfoldable pub writeDecl : ℕ → Decl → List ℕ
-writeDecl zero d = writeName (d .name) ++ (marksByte (d .marks) ∷ writeCounted writeField (d .fields))
-writeDecl (suc zero) d = writeName (d .name) ++ (marksByte (d .marks) ∷ writeCounted writeBare (d .variants))
-writeDecl (suc (suc zero)) d = writeName (d .name) ++ writeCounted writeBare (d .variants)
-writeDecl (suc (suc (suc zero))) d = writeName (d .name) ++ writeCounted writeVariant (d .variants)
-writeDecl (suc (suc (suc (suc zero)))) d = writeName (d .name) ++ writeType (d .inner)
-writeDecl (suc (suc (suc (suc (suc zero))))) d = writeName (d .name)
-writeDecl (suc (suc (suc (suc (suc (suc zero)))))) d = writeName (d .name)
-writeDecl (suc (suc (suc (suc (suc (suc (suc zero))))))) d = writeName (d .name)
-writeDecl (suc (suc (suc (suc (suc (suc (suc (suc k)))))))) d = []
+-- what follows the kind
+unfoldable pub writeDecl : Kind → Decl → List ℕ
+writeDecl message d = writeName (d .name) ++ (marksByte (d .marks) ∷ writeCounted writeField (d .fields))
+writeDecl enum d = writeName (d .name) ++ (marksByte (d .marks) ∷ writeCounted writeBare (d .variants))
+writeDecl flags d = writeName (d .name) ++ writeCounted writeBare (d .variants)
+writeDecl union d = writeName (d .name) ++ writeCounted writeVariant (d .variants)
+writeDecl newtype d = writeName (d .name) ++ writeType (d .inner)
+writeDecl config d = writeName (d .name)
+writeDecl alias d = writeName (d .name)
+writeDecl trait d = writeName (d .name)
+writeDecl impl d = []
+writeDecl other d = []
 
 -- "A body is a u8 kind, then .."
 unfoldable pub writeBody : Decl → List ℕ
-writeBody d = d .kind ∷ writeDecl (d .kind) d
+writeBody d = d .kind ∷ writeDecl (kindOf (d .kind)) d
 
 -- the body of an entry, none for an empty one
 unfoldable pub writeEntry : Option Decl → List ℕ

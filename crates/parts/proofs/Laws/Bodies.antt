@@ -83,12 +83,12 @@ module _ (s : List ℕ) (from count : ℕ) (l : from ≤ length s) (g : Good (bo
 -- ---- the entry of an id
 
 module _ (s : List ℕ) (g : Accepted s) (id : ℕ) (l : id < length (schemaOf s .registry)) where
-  counted : id < entryCount s
-  counted = omega (arith, entry-count-is s g)
+  id-within : id < entryCount s
+  id-within = omega (arith, entry-count-is s g)
 
   -- its pair in the contents
   pub entry-pair : 8 + 4 * id + 4 ≤ length s
-  entry-pair = pair-there s g id counted
+  entry-pair = pair-there s g id id-within
 
   module _ {from count : ℕ} (d : from ≡ entryOffset s id) (e : count ≡ entryLength s id) where
     module _ (f : count ≡ 0 → ⊥) where
@@ -97,12 +97,12 @@ module _ (s : List ℕ) (g : Accepted s) (id : ℕ) (l : id < length (schemaOf s
 
       fits : entryOffset s id + entryLength s id ≤ length s
       unfolding Accepted
-      fits = sure-good (schemaOf s) (placed s) g id counted
+      fits = sure-good (schemaOf s) (placed s) g id id-within
 
       good : Good (bodyOf (part (entryOffset s id) (entryLength s id) s))
       good =
           let z : 0 + id ≡ id = omega arith in
-          body-good s id some-body (rw z at (entry-good s (entryCount s) 0 id counted (whole s g .entries)))
+          body-good s id some-body (rw z at (entry-good s (entryCount s) 0 id id-within (whole s g .entries)))
 
       found : BodyIn s id from count
       found =
@@ -111,11 +111,11 @@ module _ (s : List ℕ) (g : Accepted s) (id : ℕ) (l : id < length (schemaOf s
           record {
             inside = omega (arith, fits);
             here = rw same there;
-            is = rw same (body-entry s g id counted some-body .1 ∙ ap some (start-is s (entryOffset s id) (entryLength s id) (omega (arith, fits)) good));
+            is = rw same (body-entry s g id id-within some-body .1 ∙ ap some (start-is s (entryOffset s id) (entryLength s id) (omega (arith, fits)) good));
           }
 
     pub entry-body : BodyOf s id (record { start = from; count = count })
-    entry-body = record { empty = λ z. empty-entry s g id counted (sym e ∙ z); body = found }
+    entry-body = record { empty = λ z. empty-entry s g id id-within (sym e ∙ z); body = found }
 
   -- the name of its declaration, if it has one
   pub entry-short : (d : Decl) → getD (schemaOf s .registry) id none ≡ some d → length (d .name) ≤ length s

@@ -14,6 +14,7 @@ use Rattle.image.specs.Parse.{Parsed, ok, no, bind, pick, shift, within, part, 
 use Rattle.image.specs.Names.{nameBytes, nameAt, namesAt}
 use Rattle.image.specs.Types.{Follows, code, subByte, identity, size, nothing, bits, unknown, followsTag, innerTypes, afterTag, labelOf, innerAt, typeOf, typeAt}
 use Rattle.image.specs.Fields.{marksAt, encodingOf, encodingAt, limitAt, fieldAt, bareAt, variantAt}
+use Rattle.image.specs.Kinds.{Kind, message, enum, flags, union, newtype, config, alias, trait, impl, other, kindOf, configKind, aliasKind, traitKind}
 use Rattle.image.specs.Bodies.{messageAt, enumAt, flagsAt, unionAt, newtypeAt, otherAt, implAt, declAt, bodyOf}
 use Rattle.parts.specs.Promise.{bodyAt}
 use Rattle.image.specs.WellFormed.{Good, valueOr, endOf}
@@ -282,18 +283,18 @@ module _ {by : ℕ} {t s : List ℕ} (h : Part by t s) where
   unfolding otherAt
   other-kept kind at = kept-bind _ _ (name-kept h 8 8 at) (λ x n. kept-ok refl)
 
-  decl-kept : (kind at : ℕ) → Kept by (declAt kind t at) (declAt kind s (by + at))
+  decl-kept : (kind : Kind) (at : ℕ) → Kept by (declAt kind t at) (declAt kind s (by + at))
   unfolding declAt implAt
-  decl-kept zero at = message-kept at
-  decl-kept (suc zero) at = enum-kept at
-  decl-kept (suc (suc zero)) at = flags-kept at
-  decl-kept (suc (suc (suc zero))) at = union-kept at
-  decl-kept (suc (suc (suc (suc zero)))) at = newtype-kept at
-  decl-kept (suc (suc (suc (suc (suc zero))))) at = other-kept 5 at
-  decl-kept (suc (suc (suc (suc (suc (suc zero)))))) at = other-kept 6 at
-  decl-kept (suc (suc (suc (suc (suc (suc (suc zero))))))) at = other-kept 7 at
-  decl-kept (suc (suc (suc (suc (suc (suc (suc (suc zero)))))))) at = kept-ok refl
-  decl-kept (suc (suc (suc (suc (suc (suc (suc (suc (suc k))))))))) at = kept-no
+  decl-kept message at = message-kept at
+  decl-kept enum at = enum-kept at
+  decl-kept flags at = flags-kept at
+  decl-kept union at = union-kept at
+  decl-kept newtype at = newtype-kept at
+  decl-kept config at = other-kept configKind at
+  decl-kept alias at = other-kept aliasKind at
+  decl-kept trait at = other-kept traitKind at
+  decl-kept impl at = kept-ok refl
+  decl-kept other at = kept-no
 
 -- a test of the end that the whole does not make
 tested : {A : Type 0} {by : ℕ} (b : Bool) (k : ℕ) {x y : Parsed A} → Kept by x y → Kept by (pick b x (no k)) y
@@ -311,4 +312,4 @@ pub body-kept : (by : ℕ) (t s : List ℕ) → Part by t s → Kept by (bodyOf 
 unfolding bodyOf bodyAt
 body-kept by t s h =
     let z : by + 0 ≡ by = omega arith in
-    kept-bind _ _ (rw z at (byte-kept h 8 8 0)) (λ kind n. kept-test (λ m. eqb m (length t)) 8 (decl-kept h kind n))
+    kept-bind _ _ (rw z at (byte-kept h 8 8 0)) (λ kind n. kept-test (λ m. eqb m (length t)) 8 (decl-kept h (kindOf kind) n))

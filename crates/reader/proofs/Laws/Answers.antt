@@ -8,14 +8,14 @@ use Rattle.image.specs.Reads.{skip, refusal}
 use Rattle.image.specs.declared.Read.{Read}
 use Rattle.image.specs.declared.Read.the-variants.{At, Refused}
 use Rattle.image.proofs.Laws.Answers.{apart}
-use Rattle.reader.specs.Answer.{numberOf, acceptance, Answers}
+use Rattle.reader.specs.Answer.{refusalOf, acceptance, Answers}
 use Rattle.reader.specs.declared.Acceptance.{Acceptance}
 use Rattle.reader.specs.declared.Acceptance.the-variants.{Accepted, Rejected}
 
 -- what is made of a position or a refusal, and what a caller learns from it
 module _ {A : Type 0} (p : Parsed A) where
   pub accepted : {x : Read} {n : ℕ} → x ≡ At n → x ≡ skip p → Answers p Accepted
-  unfolding skip refusal numberOf acceptance
+  unfolding skip refusal refusalOf acceptance
   accepted {x} h e = go p e
     where
       go : (p : Parsed A) → x ≡ skip p → Answers p Accepted
@@ -23,7 +23,7 @@ module _ {A : Type 0} (p : Parsed A) where
       go (no k) e = apart (sym h ∙ e)
 
   pub rejected : {x : Read} {k : ℕ} → x ≡ Refused k → x ≡ skip p → Answers p (Rejected k)
-  unfolding skip refusal numberOf acceptance
+  unfolding skip refusal refusalOf acceptance
   rejected {x} {k} h e = go p e
     where
       go : (p : Parsed A) → x ≡ skip p → Answers p (Rejected k)

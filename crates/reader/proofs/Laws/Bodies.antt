@@ -10,6 +10,7 @@ use Rattle.image.specs.Schema.{Name, Marks, Decl}
 use Rattle.image.specs.Parse.{Parsed, ok, no, bind, pick, byteAt}
 use Rattle.image.specs.Names.{nameAt}
 use Rattle.image.specs.Fields.{marksAt}
+use Rattle.image.specs.Kinds.{kindOf}
 use Rattle.image.specs.Bodies.{otherAt, declAt, bodyOf}
 use Rattle.image.specs.Reads.{skip}
 use Rattle.image.specs.declared.Read.{Read}
@@ -44,19 +45,19 @@ module _ {A : Type 0} (p : List ℕ → ℕ → Parsed A) (f : Name → Marks �
     marked-rest {n = n} h e q = next _ (got h₁ e₁) (λ _. next _ (got h e) (λ _. q ∙ sym (skip-ok (p s n) _)))
 
 -- 5 to 7 have only a name
-pub decl-other : (kind : ℕ) (s : List ℕ) (at : ℕ) → 5 ≤ kind → kind ≤ 7 → skip (nameAt 8 s at) ≡ skip (declAt kind s at)
-unfolding declAt otherAt
+pub decl-other : (kind : ℕ) (s : List ℕ) (at : ℕ) → 5 ≤ kind → kind ≤ 7 → skip (nameAt 8 s at) ≡ skip (declAt (kindOf kind) s at)
+unfolding kindOf declAt otherAt
 decl-other kind s at lo hi = go (kind - 5) (omega arith) (omega arith)
   where
-    go : (k : ℕ) → kind ≡ 5 + k → k ≤ 2 → skip (nameAt 8 s at) ≡ skip (declAt kind s at)
+    go : (k : ℕ) → kind ≡ 5 + k → k ≤ 2 → skip (nameAt 8 s at) ≡ skip (declAt (kindOf kind) s at)
     go zero e h = rw e (sym (skip-ok (nameAt 8 s at) _))
     go (suc zero) e h = rw e (sym (skip-ok (nameAt 8 s at) _))
     go (suc (suc zero)) e h = rw e (sym (skip-ok (nameAt 8 s at) _))
     go (suc (suc (suc k))) e h = absurd (omega arith)
 
 -- a kind over 8
-pub decl-unknown : (kind : ℕ) (s : List ℕ) (at : ℕ) → 8 < kind → Refused 6 ≡ skip (declAt kind s at)
-unfolding declAt skip
+pub decl-unknown : (kind : ℕ) (s : List ℕ) (at : ℕ) → 8 < kind → Refused 6 ≡ skip (declAt (kindOf kind) s at)
+unfolding kindOf declAt skip
 decl-unknown kind s at h =
     let e : kind ≡ suc (suc (suc (suc (suc (suc (suc (suc (suc (kind - 9))))))))) = omega arith in
     rw e
@@ -72,11 +73,11 @@ end-whole d s n e = rw (eq-eqb n (length s) e)
 
 -- a body whose kind is there: its declaration refused, bytes left, or whole
 module _ (s : List ℕ) {n : ℕ} (b : There (byteAt 8 s 0) s 0 n) where
-  pub body-stop : {x : Read} {k : ℕ} → x ≡ Refused k → x ≡ skip (declAt (getD s 0 0) s n) → x ≡ skip (bodyOf s)
+  pub body-stop : {x : Read} {k : ℕ} → x ≡ Refused k → x ≡ skip (declAt (kindOf (getD s 0 0)) s n) → x ≡ skip (bodyOf s)
   unfolding bodyOf
   body-stop h e = next-is _ (b .is) (stop _ _ h e)
 
-  module _ {x : Read} {m : ℕ} (h : x ≡ At m) (e : x ≡ skip (declAt (getD s 0 0) s n)) where
+  module _ {x : Read} {m : ℕ} (h : x ≡ At m) (e : x ≡ skip (declAt (kindOf (getD s 0 0)) s n)) where
     pub body-left : (m ≡ length s → ⊥) → Refused 8 ≡ skip (bodyOf s)
     unfolding bodyOf
     body-left f = next-is _ (b .is) (next _ (got h e) (λ d. end-left d s m f))

@@ -14,12 +14,12 @@ use Rattle.maps.proofs.Names.{byName}
 use Rattle.maps.proofs.Searches.{latest-start, latest-nothing, latest-skips, latest-other, latest-found, lookup-latest, least-cons, least-nil}
 use Rattle.maps.proofs.Walking.{next-least}
 use Rattle.image.specs.Schema.{Name, Decl}
-use Rattle.parts.specs.Promise.{schemaOf, declIn, declOf, EntryHere, Resolved}
+use Rattle.parts.specs.Promise.{schemaOf, declIn, entryDecl, EntryHere, Resolved}
 use Rattle.parts.specs.declared.Entry.{Entry}
 use Rattle.parts.specs.declared.Entry.the-variants.{Body, Unresolvable}
 use Rattle.parts.proofs.Promise.{resolved-here}
 use Rattle.rules.specs.Survivors.{Registry, resolved, listed, nameOf, declarations}
-use Rattle.rules.specs.Survivors.{declOf as entryOf}
+use Rattle.rules.specs.Survivors.{standsFor as entryOf}
 use Rattle.survivors.specs.Answers.{named, Survives, nearest}
 
 -- what one id lists
@@ -53,22 +53,22 @@ module _ (s : List ℕ) (name : Name) where
       ∙ sym (lookup-latest nameOf byName name (listed R ids))
 
   pub back-end : (i : ℕ) → i ≡ 0 → back i ≡ lookup nameOf before name (declarations (schemaOf s)) → Survives s name Unresolvable
-  unfolding back declOf EntryHere
+  unfolding back entryDecl EntryHere
   back-end i e p = record { value = sym (latest-nothing nameOf before name (declared (schemaOf s .registry)) (schemaOf s .ids) i e) ∙ p; here = tt }
 
   -- a turn, at the entry of the id before the position
   module _ (i : ℕ) (h : 0 < i) (b : i ≤ length (schemaOf s .ids)) {id : ℕ} (e : id ≡ getD (schemaOf s .ids) (i - 1) 0) {r : Entry} (v : Resolved s id r) where
-    entry-is : entryOf (schemaOf s .registry) (getD (schemaOf s .ids) (i - 1) 0) ≡ declOf s r
+    entry-is : entryOf (schemaOf s .registry) (getD (schemaOf s .ids) (i - 1) 0) ≡ entryDecl s r
     unfolding entryOf
     entry-is = rw (← e) (sym (v .value))
 
     pub back-skips : r ≡ Unresolvable → back (i - 1) ≡ back i
-    unfolding back declared resolved declOf
+    unfolding back declared resolved entryDecl
     back-skips u = sym (latest-skips nameOf before name (declared (schemaOf s .registry)) (schemaOf s .ids) 0 i h b (rw (entry-is, u)))
 
     module _ {at : ℕ} (u : r ≡ Body at) {own : Name} (w : own ≡ declIn s at .name) where
       one : declared (schemaOf s .registry) (getD (schemaOf s .ids) (i - 1) 0) ≡ declIn s at ∷ []
-      unfolding declared resolved declOf
+      unfolding declared resolved entryDecl
       one = rw (entry-is, u)
 
       pub back-other : same before name own ≡ false → back (i - 1) ≡ back i
@@ -76,7 +76,7 @@ module _ (s : List ℕ) (name : Name) where
       back-other n = sym (latest-other nameOf before name (declared (schemaOf s .registry)) (schemaOf s .ids) 0 i h b (declIn s at) one (rw w at n))
 
       pub back-found : same before name own ≡ true → back i ≡ lookup nameOf before name (declarations (schemaOf s)) → Survives s name (Body at)
-      unfolding back declOf EntryHere
+      unfolding back entryDecl EntryHere
       back-found n p = record {
         value = sym (latest-found nameOf before name (declared (schemaOf s .registry)) (schemaOf s .ids) 0 i h b (declIn s at) one (rw w at n)) ∙ p;
         here = resolved-here s id v u;
@@ -110,8 +110,8 @@ module _ (s : List ℕ) (b : Option Name) where
   ahead-turn best best′ i h e {r} v q p =
       let R = schemaOf s .registry in
       let ids = schemaOf s .ids in
-      let u : getD R (getD ids i 0) none ≡ declOf s r = rw (← e) (sym (v .value)) in
+      let u : getD R (getD ids i 0) none ≡ entryDecl s r = rw (← e) (sym (v .value)) in
       rw add-one
       (ap (λ (k : Option Name). least nameOf before b k (listed R (drop (suc i) ids))) q
-      ∙ sym (rw (drop-cons ids i 0 h, u) (least-resolved best (declOf s r) (listed R (drop (suc i) ids))))
+      ∙ sym (rw (drop-cons ids i 0 h, u) (least-resolved best (entryDecl s r) (listed R (drop (suc i) ids))))
       ∙ p)

@@ -9,7 +9,7 @@ use Rattle.maps.specs.declared.Order.{Order}
 use Rattle.maps.specs.Walk.{past}
 use Rattle.maps.proofs.Names.{before-told}
 use Rattle.image.specs.Schema.{Name}
-use Rattle.parts.specs.Promise.{DeclHere, declIn, declOf, EntryHere}
+use Rattle.parts.specs.Promise.{DeclHere, declIn, entryDecl, EntryHere}
 use Rattle.parts.specs.declared.Entry.{Entry}
 use Rattle.parts.specs.declared.Entry.the-variants.{Body, Unresolvable}
 use Rattle.survivors.specs.Answers.{named, nearest, Nearer}
@@ -21,12 +21,12 @@ told {a} {b} e u v q = sym (rw (← u, ← v) (before-told a b (sym e ∙ q)))
 
 module _ (s : List ℕ) {r : Entry} where
   pub named-none : r ≡ Unresolvable → named s r ≡ none
-  unfolding named declOf
+  unfolding named entryDecl
   named-none e = rw e
 
   module _ {at : ℕ} (e : r ≡ Body at) where
     pub named-body : named s r ≡ some (declIn s at .name)
-    unfolding named declOf
+    unfolding named entryDecl
     named-body = rw e
 
     pub entry-here : EntryHere s r → DeclHere s at

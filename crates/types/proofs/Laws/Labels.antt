@@ -14,8 +14,8 @@ use Rattle.parts.proofs.Promise.{label-regular, bits-listed, resolved-body, res
 use Rattle.parts.specs.declared.Entry.{Entry}
 use Rattle.parts.specs.declared.Run.{Run}
 use Rattle.rules.specs.Equal.{sameList, sameName, sameNames}
-use Rattle.rules.specs.Survivors.{Registry, declOf}
-use Rattle.rules.specs.Types.{nameIn, resolveLabel, vector, sameLabel, equalLabel}
+use Rattle.rules.specs.Survivors.{Registry, standsFor}
+use Rattle.rules.specs.Types.{nameOrNone, resolveLabel, vector, sameLabel, equalLabel}
 use Rattle.rules.proofs.Types.{tag-resolved}
 use Rattle.types.specs.Names.{NamesIn, namesIn}
 use Rattle.types.specs.Resolved.{namedBy, nodeIn}
@@ -26,19 +26,19 @@ pub not-named : (R : Registry) (l : Label) → (l .tag ≡ 3 → ⊥) → resolv
 unfolding resolveLabel
 not-named R l n = rw (ne-eqb (l .tag) 3 n)
 
-pub named : (R : Registry) (l : Label) → l .tag ≡ 3 → resolveLabel R l ≡ label 3 0 0 (nameIn (declOf R (l .first)))
+pub named : (R : Registry) (l : Label) → l .tag ≡ 3 → resolveLabel R l ≡ label 3 0 0 (nameOrNone (standsFor R (l .first)))
 unfolding resolveLabel
 named R l e = rw (eq-eqb (l .tag) 3 e)
 
 -- what an id stands for, by the answer of `entry`
 module _ (s : List ℕ) (id : ℕ) {r : Entry} (h : Resolved s id r) where
   pub id-unresolvable : r ≡ Entry.Unresolvable → namedBy s id ≡ []
-  unfolding declOf nameIn
-  id-unresolvable e = ap nameIn (resolved-none s id h e)
+  unfolding standsFor nameOrNone
+  id-unresolvable e = ap nameOrNone (resolved-none s id h e)
 
   pub id-name : {at : ℕ} → r ≡ Entry.Body at → {x : Name} → x ≡ declIn s at .name → namedBy s id ≡ x ∷ []
-  unfolding declOf nameIn
-  id-name e n = ap nameIn (resolved-body s id h e) ∙ rw n
+  unfolding standsFor nameOrNone
+  id-name e n = ap nameOrNone (resolved-body s id h e) ∙ rw n
 
 -- one name and none
 pub one-name : {a b : List Name} {x y : Name} → a ≡ x ∷ [] → b ≡ y ∷ [] → sameName x y ≡ sameNames a b

@@ -2,6 +2,7 @@
 use borrow.Author.Needs.{needs}
 use mathlib.Core.Path.{_∙_}
 use native.Mathlib.Omega.{arith}
+use Rattle.image.specs.Kinds.{kindOf}
 use Rattle.image.specs.Bodies.{implAt, declAt}
 use Rattle.image.specs.Reads.{skip}
 use Rattle.reader.proofs.Laws.Bodies.{decl-other, decl-unknown}
@@ -27,27 +28,27 @@ read-name-requires : tie.Need-read-name-requires
 read-name-requires c κs = search needs
 
 returns : tie.Need-returns
-unfolding declAt
+unfolding kindOf declAt
 returns c = rw (c .before .match .keys1) (c .read-message .ensures)
 
 returns-2 : tie.Need-returns-2
-unfolding declAt
+unfolding kindOf declAt
 returns-2 c = rw (c .before .match .keys2) (c .read-enum .ensures)
 
 returns-3 : tie.Need-returns-3
-unfolding declAt
+unfolding kindOf declAt
 returns-3 c = rw (c .before .match .keys3) (c .read-flags .ensures)
 
 returns-4 : tie.Need-returns-4
-unfolding declAt
+unfolding kindOf declAt
 returns-4 c = rw (c .before .match .keys4) (c .read-union .ensures)
 
 returns-5 : tie.Need-returns-5
-unfolding declAt
+unfolding kindOf declAt
 returns-5 c = rw (c .before .match .keys5) (c .read-newtype .ensures)
 
 returns-6 : tie.Need-returns-6
-unfolding declAt implAt skip
+unfolding kindOf declAt implAt skip
 returns-6 c = rw (c .match .keys6)
 
 returns-7 : tie.Need-returns-7

@@ -4,7 +4,7 @@ use Prim.Native.Nat.{_-_}
 use native.Mathlib.Omega.{arith}
 use Rattle.maps.specs.Orders.{before}
 use Rattle.maps.specs.Walk.{next}
-use Rattle.parts.specs.Promise.{schemaOf, declOf, EntryHere}
+use Rattle.parts.specs.Promise.{schemaOf, entryDecl, EntryHere}
 use Rattle.rules.specs.Survivors.{nameOf, declarations}
 use Rattle.survivors.specs.Answers.{named}
 use Rattle.survivors.proofs.Laws.Listed.{ahead, ahead-start, ahead-turn, ahead-end}
@@ -23,7 +23,7 @@ id-count-requires : tie.Need-id-count-requires Inv-loop μ-loop
 id-count-requires c κs = c .before .pre .0
 
 loop-holds : tie.Need-loop-holds Inv-loop μ-loop
-unfolding named declOf EntryHere
+unfolding named entryDecl EntryHere
 loop-holds c = (tt, ahead-start _ _)
 
 id-at-requires : tie.Need-id-at-requires Inv-loop μ-loop
