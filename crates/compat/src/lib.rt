@@ -15,7 +15,7 @@ ghost use Rattle.text.specs.Text.{Space};
 ghost use Rattle.rules.specs.Survivors.{viewOf};
 ghost use Rattle.rules.specs.Types.{sameType};
 ghost use Rattle.rules.specs.Report.{report};
-ghost use Rattle.rules.specs.Answer.{checked, comparePair, verdictOf, reported, reportLength, written};
+ghost use Rattle.rules.specs.Answer.{checked, comparePair};
 ghost use Rattle.items.specs.Pairs.{BothAccepted};
 ghost use Rattle.checking.specs.Decls.{allChanges};
 ghost use Rattle.compat.specs.Verdicts.{verdictIs, Passed, Reported};
@@ -82,22 +82,4 @@ pub fn report(old: &[u8], new: &[u8], out: &mut [u8]) -> Verdict
         return Verdict::refused(12, BOTH);
     }
     pass(Mode::Write, old, new, out)
-}
-
-// One value of the verdict, by its selector.
-#[no_mangle]
-pub extern "C" fn vexil_compat_verdict(old: &[u8], new: &[u8], selector: u64) -> u64
-    ensures { λ r. ⌜ r ≡ verdictOf (now (old .entry)) (now (new .entry)) selector ⌝ }
-{
-    let v = verdict(old, new);
-    v.select(selector)
-}
-
-// The report's length, 0 if refused; the report stands at the start of the buffer.
-#[no_mangle]
-pub extern "C" fn vexil_compat_report(old: &[u8], new: &[u8], out: &mut [u8]) -> u64
-    ensures { λ r. ⌜ (r ≡ reportLength (reported (now (old .entry)) (now (new .entry)) (length (now (out .entry))))) × (now (out .exit) ≡ written (reported (now (old .entry)) (now (new .entry)) (length (now (out .entry)))) (now (out .entry))) ⌝ }
-{
-    let v = report(old, new, out);
-    v.length as u64
 }

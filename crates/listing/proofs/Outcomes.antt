@@ -18,7 +18,7 @@ use Rattle.rules.specs.Types.{sameType}
 use Rattle.rules.specs.Answer.{Outcome as PairOutcome}
 use Rattle.rules.proofs.Answer.{Single, Case as PairCase, old-refused, new-refused, pair-refused, verdict, case as pair-case}
 use Rattle.listing.specs.Listing.{Outcome, refused, listed, listing, accept, fit, outcome, selected, listingLength, written}
-use Rattle.listing.specs.Answers.{refusal, answerOf, selectIn}
+use Rattle.listing.specs.Answers.{refusal, answerOf, selectIn, Wrote}
 use Rattle.listing.specs.Refusals.{RefusedBy}
 use Rattle.listing.specs.declared.Answer.{Answer}
 use Rattle.listing.proofs.Bounds.{listing-small}
@@ -82,10 +82,6 @@ module _ (s : List ℕ) (room : ℕ) where
       go (verdict p q e) = held (read-accepted s p .0)
 
 -- ---- the listing call, by what is said first
-
--- what it returns with the buffer d, and the buffer
-abbrev Wrote : List ℕ → List ℕ → ℕ → List ℕ → Type 0
-Wrote s d r d′ = (r ≡ listingLength (outcome s (length d))) × (d′ ≡ written (outcome s (length d)) d)
 
 module _ (s d : List ℕ) {a : Answer} (e : a ≡ answerOf (outcome s (length d))) where
   number-is : a .number ≡ answerOf (outcome s (length d)) .number

@@ -14,8 +14,8 @@ ghost use Prim.Native.Nat.{_<_};
 ghost use lib.ListN.{length, getD};
 ghost use Rattle.parts.specs.Promise.{Accepted, schemaOf};
 ghost use Rattle.text.specs.Text.{Space, Puts};
-ghost use Rattle.listing.specs.Listing.{entryText, listing, outcome, listingVerdict, listingLength, written};
-ghost use Rattle.listing.specs.Answers.{refusal, answerOf, selectIn};
+ghost use Rattle.listing.specs.Listing.{entryText, listing, outcome};
+ghost use Rattle.listing.specs.Answers.{refusal, answerOf, selectIn, Wrote};
 
 // The side of a refusal.
 const OLD: u8 = 1;
@@ -97,7 +97,7 @@ pub fn checked(image: &[u8], room: usize) -> Answer
 }
 
 // "0 the number, 1 the side .., 4 the length"; others 0.
-fn select(answer: Answer, selector: u64) -> u64
+pub fn select(answer: Answer, selector: u64) -> u64
     ensures { λ r. ⌜ r ≡ selectIn answer selector ⌝ }
 {
     match selector {
@@ -109,22 +109,12 @@ fn select(answer: Answer, selector: u64) -> u64
 }
 
 // The listing's length, 0 if refused; the listing stands at the start of the buffer.
-#[no_mangle]
-pub extern "C" fn vexil_compat_listing(image: &[u8], out: &mut [u8]) -> u64
-    ensures { λ r. ⌜ (r ≡ listingLength (outcome (now (image .entry)) (length (now (out .entry))))) × (now (out .exit) ≡ written (outcome (now (image .entry)) (length (now (out .entry)))) (now (out .entry))) ⌝ }
+pub fn write_listing(image: &[u8], out: &mut [u8]) -> usize
+    ensures { λ r. ⌜ Wrote (now (image .entry)) (now (out .entry)) r (now (out .exit)) ⌝ }
 {
     let a = checked(image, out.len());
     if a.number != 0 {
         return 0;
     }
-    put_listing(Mode::Write, image, out) as u64
-}
-
-// One value of the answer for a buffer of so many bytes, by its selector.
-#[no_mangle]
-pub extern "C" fn vexil_compat_listing_verdict(image: &[u8], out_len: u64, selector: u64) -> u64
-    ensures { λ r. ⌜ r ≡ listingVerdict (now (image .entry)) «out_len» selector ⌝ }
-{
-    let a = checked(image, out_len as usize);
-    select(a, selector)
+    put_listing(Mode::Write, image, out)
 }

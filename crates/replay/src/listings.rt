@@ -9,7 +9,7 @@ use crate::texts::Call;
 
 // One selector of the listing's verdict.
 fn replay_value(image: &[u8], room: u64, selector: u64, wanted: u64, t: Tally) -> Tally {
-    let got = listing::vexil_compat_listing_verdict(image, room, selector);
+    let got = vexil_compat::vexil_compat_listing_verdict(image, room, selector);
     compared(t, got, wanted)
 }
 

@@ -1,10 +1,10 @@
--- `compat::vexil_compat_report` meets its contract. Assumes nothing.
+-- `vexil_compat::vexil_compat_report` meets its contract. Assumes nothing.
 use mathlib.Core.Path.{ap, _∙_}
 use Rattle.compat.specs.declared.verdicts.Verdict.{Verdict}
 use Rattle.compat.proofs.Selectors.{outcome-length}
 use borrow.Author.Needs.{needs}
-use Rattle.compat.proofs.vexil_compat_report.Statement.{statement}
-use Rattle.compat.proofs.vexil_compat_report.Tie as tie
+use Rattle.vexil_compat.proofs.vexil_compat_report.Statement.{statement}
+use Rattle.vexil_compat.proofs.vexil_compat_report.Tie as tie
 
 report-requires : tie.Need-report-requires
 report-requires c κs = search needs

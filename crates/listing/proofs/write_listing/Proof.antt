@@ -1,8 +1,8 @@
--- `listing::vexil_compat_listing` meets its contract: a refusal, or the pass that writes. Assumes nothing.
+-- `listing::write_listing` meets its contract: a refusal, or the pass that writes. Assumes nothing.
 use Rattle.listing.proofs.Outcomes.{call-refused, call-ready, call-done}
 use borrow.Author.Needs.{needs}
-use Rattle.listing.proofs.vexil_compat_listing.Statement.{statement}
-use Rattle.listing.proofs.vexil_compat_listing.Tie as tie
+use Rattle.listing.proofs.write_listing.Statement.{statement}
+use Rattle.listing.proofs.write_listing.Tie as tie
 
 checked-requires : tie.Need-checked-requires
 checked-requires c κs = search needs
@@ -19,5 +19,5 @@ same-length c = search needs
 returns-2 : tie.Need-returns-2
 returns-2 c = call-done _ _ (c .before .before .before .before .before .before .checked .ensures) (c .before .before .before .before .if1 .left) (c .before .before .put-listing .ensures)
 
-pub vexil-compat-listing-spec : {M : Type 1} → statement M
-vexil-compat-listing-spec = tie.close (tie.spec checked-requires returns put-listing-requires same-length returns-2)
+pub write-listing-spec : {M : Type 1} → statement M
+write-listing-spec = tie.close (tie.spec checked-requires returns put-listing-requires same-length returns-2)

@@ -1,12 +1,12 @@
--- `listing::vexil_compat_listing_verdict` meets its contract. Assumes nothing.
+-- `vexil_compat::vexil_compat_listing_verdict` meets its contract. Assumes nothing.
 use mathlib.Core.Path.{ap, _∙_}
 use Rattle.listing.specs.Listing.{listingVerdict}
 use Rattle.listing.specs.Answers.{selectIn}
 use Rattle.listing.specs.declared.Answer.{Answer}
 use Rattle.listing.proofs.Outcomes.{outcome-selected}
 use borrow.Author.Needs.{needs}
-use Rattle.listing.proofs.vexil_compat_listing_verdict.Statement.{statement}
-use Rattle.listing.proofs.vexil_compat_listing_verdict.Tie as tie
+use Rattle.vexil_compat.proofs.vexil_compat_listing_verdict.Statement.{statement}
+use Rattle.vexil_compat.proofs.vexil_compat_listing_verdict.Tie as tie
 
 checked-requires : tie.Need-checked-requires
 checked-requires c κs = search needs
