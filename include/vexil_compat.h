@@ -1,14 +1,15 @@
 /*
  * Whether a new Vexil schema may be loaded where an old one runs: the verdict on two images, and its report; and the contents of one
- * image. The libraries are libcompat.a and liblisting.a, for x86-64: `rt staticlib compat` and `rt staticlib listing` write them to
- * target/staticlib. docs/FORMAT.md describes images, refusals and reports.
+ * image. The library is libvexil_compat.a, for x86-64: `rt staticlib vexil_compat` writes it to target/staticlib. docs/FORMAT.md
+ * describes images, refusals and reports.
  *
  * Any bytes may be lent as images: faulty ones are refused by number, and every call returns.
  *
- *   - Lengths are in bytes. Every pointer is valid for its length and is not NULL, even where its length is 0.
+ *   - Lengths are in bytes, but `values_len` is in values. Every pointer is aligned, valid for its length and not NULL, even where its
+ *     length is 0.
  *   - Both images are only read. They may overlap each other, or be the same.
  *   - The buffer overlaps no image.
- *   - On all recorded pairs the verdict and the report use less than 24 KiB of stack.
+ *   - On all recorded pairs the verdict, the values and the report use less than 24 KiB of stack.
  *   - Nothing is allocated and nothing is kept from one call to the next, so that threads may call at the same time.
  */
 #ifndef VEXIL_COMPAT_H
@@ -93,13 +94,24 @@ enum vexil_compat_kind {
     VEXIL_COMPAT_KINDS = 18                      /* how many kinds there are */
 };
 
+/* How many selectors there are that may give anything but 0. */
+#define VEXIL_COMPAT_VALUES (VEXIL_COMPAT_COUNTS + VEXIL_COMPAT_KINDS)
+
 /*
- * One value of the verdict on two images. Each call compares anew.
+ * One value of the verdict on two images. Each call compares anew; for many values there is vexil_compat_values.
  * Of a refusal the bump is Major and the result Breaking; its length and counts are 0. A selector beyond the counts gives 0.
  */
 uint64_t vexil_compat_verdict(const uint8_t *old_image, size_t old_len,
                               const uint8_t *new_image, size_t new_len,
                               uint64_t selector);
+
+/*
+ * Every value of the verdict by one comparison: `values[i]` becomes what the call above gives for selector i, for each of the `values_len`
+ * places, and so 0 from VEXIL_COMPAT_VALUES on. The number is returned too. The buffer is written whole, also on a refusal.
+ */
+uint64_t vexil_compat_values(const uint8_t *old_image, size_t old_len,
+                             const uint8_t *new_image, size_t new_len,
+                             uint64_t *values, size_t values_len);
 
 /*
  * Writes the report at the start of `out` and returns its length; bytes past that length stay as they were. A report is
@@ -114,7 +126,7 @@ uint64_t vexil_compat_report(const uint8_t *old_image, size_t old_len,
                              uint8_t *out, size_t out_len);
 
 /*
- * The contents of one image, from liblisting.a: writes a line `id;kind;name` for each entry that is not empty at the start of `out`, each
+ * The contents of one image: writes a line `id;kind;name` for each entry that is not empty at the start of `out`, each
  * ended by byte 10, and returns their length; bytes past that length stay as they were.
  *
  * 0 is a refusal, and then `out` is as it was, or an image without an entry: VEXIL_COMPAT_NUMBER of the verdict below tells which.

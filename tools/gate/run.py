@@ -126,6 +126,7 @@ def loader(gate: Gate):
 def program(gate: Gate):
     """On the program that `rt ci` has linked."""
     if not is_left_out(gate, "tools/program", "rustc"):
+        gate.command("tools/program/build.sh", "bash", "tools/program/build.sh")
         gate.suite("tools/program/test.py", sys.executable, "tools/program/test.py")
 
 

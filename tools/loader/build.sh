@@ -1,5 +1,5 @@
 #!/usr/bin/env bash
-# Builds the loading tool into target/loader/loader, with the libraries of library.sh, whose folder target/loader/library tells.
+# Builds the loading tool into target/loader/loader, with the library of library.sh, whose folder target/loader/library tells.
 set -euo pipefail
 here=$(cd "$(dirname "${BASH_SOURCE[0]}")" && pwd)
 repo=$(cd "$here/../.." && pwd)
@@ -9,6 +9,6 @@ mkdir -p "$out"
 # A build that fails leaves no older loader behind.
 rm -f "$out/loader"
 library=$(bash "$here/library.sh")
-gcc -std=c11 -Wall -Wextra -Werror -O2 -I "$repo/include" -o "$out/loader" "$here/loader.c" "$library/libcompat.a" "$library/liblisting.a"
+gcc -std=c11 -Wall -Wextra -Werror -O2 -I "$repo/include" -o "$out/loader" "$here/loader.c" "$library/libvexil_compat.a"
 echo "$library" > "$out/library"
 echo "built $out/loader with $library"

@@ -1,22 +1,20 @@
 #!/usr/bin/env bash
-# Prints the folder that holds libcompat.a and liblisting.a: $VEXIL_COMPAT_LIB, or else target/staticlib, where they are built. That
-# proves what was not proved before; the log is target/staticlib.log.
+# Prints the folder that holds libvexil_compat.a: $VEXIL_COMPAT_LIB, or else target/staticlib, where it is built. That proves what was not
+# proved before; the log is target/staticlib.log.
 set -euo pipefail
 repo=$(cd "$(dirname "${BASH_SOURCE[0]}")/../.." && pwd)
 folder=${VEXIL_COMPAT_LIB:-}
 if [ -z "$folder" ]; then
     folder=$repo/target/staticlib
     mkdir -p "$repo/target"
-    if ! (cd "$repo" && rt staticlib compat > target/staticlib.log 2>&1 && rt staticlib listing >> target/staticlib.log 2>&1); then
+    if ! (cd "$repo" && rt staticlib vexil_compat > target/staticlib.log 2>&1); then
         tail -20 "$repo/target/staticlib.log" >&2
         echo 'library.sh: rt staticlib failed' >&2
         exit 1
     fi
 fi
-for name in libcompat.a liblisting.a; do
-    if [ ! -f "$folder/$name" ]; then
-        echo "library.sh: there is no $name in $folder" >&2
-        exit 1
-    fi
-done
+if [ ! -f "$folder/libvexil_compat.a" ]; then
+    echo "library.sh: there is no libvexil_compat.a in $folder" >&2
+    exit 1
+fi
 (cd "$folder" && pwd)

@@ -38,7 +38,7 @@ static void fail(const char *what)
 }
 
 /* So many bytes before a page that nobody may touch: whoever runs past their end faults. */
-static uint8_t *guarded(size_t length)
+static void *guarded(size_t length)
 {
     size_t page = (size_t)sysconf(_SC_PAGESIZE);
     size_t room = (length + page - 1) / page * page;
@@ -67,9 +67,12 @@ static struct image read_image(const char *path)
     return (struct image){copy, length};
 }
 
-static uint64_t verdict(const struct pair *pair, uint64_t selector)
+/* The values of the verdict by their selectors, all of one comparison. */
+static const uint64_t *verdict(const struct pair *pair)
 {
-    return vexil_compat_verdict(pair->old.bytes, pair->old.length, pair->new.bytes, pair->new.length, selector);
+    uint64_t *values = guarded(VEXIL_COMPAT_VALUES * sizeof *values);
+    vexil_compat_values(pair->old.bytes, pair->old.length, pair->new.bytes, pair->new.length, values, VEXIL_COMPAT_VALUES);
+    return values;
 }
 
 static int refuse(uint64_t number, uint64_t side)
@@ -85,7 +88,7 @@ static int refuse(uint64_t number, uint64_t side)
 }
 
 /* A line for each kind of change that there is. */
-static void print_counts(const struct pair *pair)
+static void print_counts(const uint64_t *values)
 {
     static const char *const names[VEXIL_COMPAT_KINDS] = {
         [VEXIL_COMPAT_FIELD_ADDED] = "FieldAdded",
@@ -108,7 +111,7 @@ static void print_counts(const struct pair *pair)
         [VEXIL_COMPAT_FLAGS_BIT_ORDINAL_CHANGED] = "FlagsBitOrdinalChanged",
     };
     for (uint64_t kind = 0; kind < VEXIL_COMPAT_KINDS; kind++) {
-        uint64_t count = verdict(pair, VEXIL_COMPAT_COUNT_OF(kind));
+        uint64_t count = values[VEXIL_COMPAT_COUNT_OF(kind)];
         if (count != 0)
             printf("%s %" PRIu64 "\n", names[kind], count);
     }
@@ -116,17 +119,17 @@ static void print_counts(const struct pair *pair)
 
 static int compare(const struct pair *pair, bool counts)
 {
-    uint64_t number = verdict(pair, VEXIL_COMPAT_NUMBER);
-    if (number != VEXIL_COMPAT_NOT_REFUSED)
-        return refuse(number, verdict(pair, VEXIL_COMPAT_SIDE));
+    const uint64_t *values = verdict(pair);
+    if (values[VEXIL_COMPAT_NUMBER] != VEXIL_COMPAT_NOT_REFUSED)
+        return refuse(values[VEXIL_COMPAT_NUMBER], values[VEXIL_COMPAT_SIDE]);
     uint8_t *out = guarded(REPORT_BYTES);
     uint64_t length = vexil_compat_report(pair->old.bytes, pair->old.length, pair->new.bytes, pair->new.length, out, REPORT_BYTES);
     if (length == 0)
         return refuse(VEXIL_COMPAT_FULL, VEXIL_COMPAT_BOTH);
     if (counts)
-        print_counts(pair);
+        print_counts(values);
     fwrite(out, 1, length, stdout);
-    return verdict(pair, VEXIL_COMPAT_RESULT) == VEXIL_COMPAT_COMPATIBLE ? LOAD : DO_NOT_LOAD;
+    return values[VEXIL_COMPAT_RESULT] == VEXIL_COMPAT_COMPATIBLE ? LOAD : DO_NOT_LOAD;
 }
 
 static int list(const struct image *image)

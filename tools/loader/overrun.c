@@ -1,17 +1,18 @@
 /* A library that reads or writes one byte too many, at the place that OVERRUN names: the loading tool must fault on it. */
 #include "vexil_compat.h"
 
-enum { OLD_IMAGE, NEW_IMAGE, REPORT_BUFFER };
+enum { OLD_IMAGE, NEW_IMAGE, VALUES_BUFFER, REPORT_BUFFER };
 
 static volatile uint8_t seen;
 
-uint64_t vexil_compat_verdict(const uint8_t *old_image, size_t old_len, const uint8_t *new_image, size_t new_len, uint64_t selector)
+uint64_t vexil_compat_values(const uint8_t *old_image, size_t old_len, const uint8_t *new_image, size_t new_len, uint64_t *values, size_t values_len)
 {
-    (void)selector;
     if (OVERRUN == OLD_IMAGE)
         seen = old_image[old_len];
     if (OVERRUN == NEW_IMAGE)
         seen = new_image[new_len];
+    if (OVERRUN == VALUES_BUFFER)
+        values[values_len] = 0;
     return 0;
 }
 

@@ -1,5 +1,6 @@
 /*
- * Calls the library on a stack of 64 KiB with a page below it that nobody may touch, and prints how many bytes of it were used at most.
+ * Calls the library on a stack of 64 KiB with a page below it that nobody may touch, and prints how many bytes of it were used at most. The
+ * values call is also held against the verdict call, and must leave what stands past its buffer.
  * The pairs come from standard input: each image as its length, four bytes from the lowest on, and its bytes.
  */
 #define _DEFAULT_SOURCE /* MAP_ANONYMOUS */
@@ -14,15 +15,21 @@
 #include <sys/mman.h>
 #include <unistd.h>
 
-enum { STACK_BYTES = 65536, REPORT_BYTES = 131072, UNUSED = 0xA5 };
+enum { STACK_BYTES = 65536, REPORT_BYTES = 131072, MOST_VALUES = VEXIL_COMPAT_VALUES + 2, UNUSED = 0xA5 };
 
 struct image {
     uint8_t bytes[VEXIL_COMPAT_IMAGE_BYTES + 1];
     size_t length;
 };
 
+struct told {
+    unsigned pairs;
+    unsigned differences;
+};
+
 static struct image old, new;
 static uint8_t out[REPORT_BYTES];
+static uint64_t values[MOST_VALUES + 1];
 
 static bool next_image(struct image *image)
 {
@@ -33,12 +40,32 @@ static bool next_image(struct image *image)
     return image->length <= sizeof image->bytes && fread(image->bytes, 1, image->length, stdin) == image->length;
 }
 
-static void *call_all(void *pairs)
+static uint64_t verdict(uint64_t selector)
 {
+    return vexil_compat_verdict(old.bytes, old.length, new.bytes, new.length, selector);
+}
+
+/* Whether the values call, lent so many places, answers anything else than the verdict call does by these values. */
+static bool differs(const uint64_t *wanted, size_t places)
+{
+    memset(values, UNUSED, sizeof values);
+    uint64_t past = values[places];
+    uint64_t number = vexil_compat_values(old.bytes, old.length, new.bytes, new.length, values, places);
+    return number != wanted[VEXIL_COMPAT_NUMBER] || memcmp(values, wanted, places * sizeof *values) != 0 || values[places] != past;
+}
+
+static void *call_all(void *told)
+{
+    static const size_t places[] = {0, 1, VEXIL_COMPAT_COUNTS, VEXIL_COMPAT_VALUES, MOST_VALUES};
+    static uint64_t wanted[MOST_VALUES];
+    struct told *t = told;
     while (next_image(&old) && next_image(&new)) {
-        vexil_compat_verdict(old.bytes, old.length, new.bytes, new.length, VEXIL_COMPAT_LENGTH);
+        for (uint64_t selector = 0; selector < MOST_VALUES; selector++)
+            wanted[selector] = verdict(selector);
+        for (size_t i = 0; i < sizeof places / sizeof *places; i++)
+            t->differences += differs(wanted, places[i]);
         vexil_compat_report(old.bytes, old.length, new.bytes, new.length, out, sizeof out);
-        ++*(unsigned *)pairs;
+        t->pairs++;
     }
     return NULL;
 }
@@ -52,16 +79,16 @@ int main(void)
     uint8_t *stack = start + page;
     memset(stack, UNUSED, STACK_BYTES);
 
-    unsigned pairs = 0;
+    struct told told = {0, 0};
     pthread_t thread;
     pthread_attr_t attributes;
     if (pthread_attr_init(&attributes) != 0 || pthread_attr_setstack(&attributes, stack, STACK_BYTES) != 0
-        || pthread_create(&thread, &attributes, call_all, &pairs) != 0 || pthread_join(thread, NULL) != 0)
+        || pthread_create(&thread, &attributes, call_all, &told) != 0 || pthread_join(thread, NULL) != 0)
         return 1;
 
     size_t unused = 0;
     while (unused < STACK_BYTES && stack[unused] == UNUSED)
         unused++;
-    printf("%u pairs, %zu bytes of stack\n", pairs, STACK_BYTES - unused);
+    printf("%u pairs, %u differences, %zu bytes of stack\n", told.pairs, told.differences, STACK_BYTES - unused);
     return 0;
 }

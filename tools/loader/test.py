@@ -6,6 +6,7 @@ It needs target/loader/loader (build.sh) and target/oracle/oracle. The last line
 """
 
 import os
+import re
 import shutil
 import signal
 import subprocess
@@ -79,14 +80,19 @@ def build(program: Path, *words) -> int:
 
 
 def stack(suite: Suite):
-    """All recorded pairs on a stack of 64 KiB; no heap and no statics."""
-    program, library = suite.folder / "stack", Path((ROOT / "target" / "loader" / "library").read_text().strip()) / "libcompat.a"
+    """All recorded pairs on a stack of 64 KiB, with the values call against the verdict call; the archive has the calls of the header, no
+    heap and no statics."""
+    program, library = suite.folder / "stack", Path((ROOT / "target" / "loader" / "library").read_text().strip()) / "libvexil_compat.a"
     suite.equal("stack.c builds", build(program, HERE / "stack.c", library, "-pthread"), 0)
     images = [image for _, old, new, *_ in recorded() for image in (old, new)]
     framed = b"".join(len(image).to_bytes(4, "little") + image for image in images)
     done = subprocess.run([program], input=framed, stdout=subprocess.PIPE)
     print(f"the library on a stack of 64 KiB: {done.stdout.decode().strip()}")
     suite.equal("a stack of 64 KiB is enough", (done.returncode, done.stdout.split()[:1]), (0, [str(len(images) // 2).encode()]))
+    suite.equal("the values are those of the verdict call", b" 0 differences," in done.stdout, True)
+    declared = set(re.findall(r"^uint64_t (\w+)\(", (ROOT / "include" / "vexil_compat.h").read_text(), re.MULTILINE))
+    defined = {line.split()[-1] for line in output("nm", "-g", "--defined-only", library)[1].splitlines() if " T " in line}
+    suite.equal("the archive has the calls of the header", defined, declared)
     undefined = {line.split()[-1] for line in output("nm", "-u", library)[1].splitlines() if " U " in line}
     suite.equal("it calls nothing but memcpy and memset", undefined - {"memcpy", "memset"}, set())
     _, data, bss, *_ = output("size", library)[1].splitlines()[1].split()
@@ -96,7 +102,7 @@ def stack(suite: Suite):
 def overruns(suite: Suite):
     """The guard pages are where they must be: a library that takes one byte too many faults."""
     program = suite.folder / "overrun"
-    for place in ("OLD_IMAGE", "NEW_IMAGE", "REPORT_BUFFER"):
+    for place in ("OLD_IMAGE", "NEW_IMAGE", "VALUES_BUFFER", "REPORT_BUFFER"):
         words = (f"-DOVERRUN={place}", HERE / "loader.c", HERE / "overrun.c")
         suite.equal(f"overrun.c at {place} builds", build(program, *words), 0)
         suite.equal(f"a byte past {place}", output(program, *SAMPLE)[0], -signal.SIGSEGV)

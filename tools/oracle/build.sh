@@ -3,7 +3,7 @@
 #
 #   tools/oracle/build.sh                     with the real `check`
 #   tools/oracle/build.sh --without-vexil     without it: the reader and the model only
-#   tools/oracle/build.sh --with-library DIR  target/oracle/oracle-library instead, which DIR/libcompat.a is linked into;
+#   tools/oracle/build.sh --with-library DIR  target/oracle/oracle-library instead, which DIR/libvexil_compat.a is linked into;
 #                                             with or without the real `check`
 #
 # The Vexil sources come from $VEXIL_SRC, or else from ../shared/docs/src beside
@@ -22,12 +22,12 @@ while [ $# -gt 0 ]; do
   case $1 in
     --without-vexil) cfg=() ;;
     --with-library)
-      if [ ! -f "${2-}/libcompat.a" ]; then
-        echo "build.sh: --with-library: no libcompat.a in '${2-}'" >&2
+      if [ ! -f "${2-}/libvexil_compat.a" ]; then
+        echo "build.sh: --with-library: no libvexil_compat.a in '${2-}'" >&2
         exit 2
       fi
       name=oracle-library
-      library=(--cfg library -L "native=$2" -l static=compat)
+      library=(--cfg library -L "native=$2" -l static=vexil_compat)
       shift ;;
     *) echo "build.sh: unknown word: $1" >&2; exit 2 ;;
   esac

@@ -1,7 +1,7 @@
 #!/usr/bin/env python3
 """Tests of the small program vexil_compat. What it prints is what `oracle report` and `oracle list` print; its exit status is always 0.
 
-It needs target/bin/vexil_compat (rt check vexil_compat) and target/oracle/oracle. The last line is `N passed, M failed`.
+It needs target/bin/vexil_compat (build.sh) and target/oracle/oracle. The last line is `N passed, M failed`.
 """
 
 import subprocess
@@ -13,7 +13,7 @@ sys.path.append(str(ROOT / "tools"))
 import pairs  # noqa: E402
 from pairs import SAMPLE, SAMPLE_REPORT, both_bad, files, listings, of_record, output, samples  # noqa: E402
 
-CRATE = ROOT / "crates" / "vexil_compat"
+CRATE = ROOT / "crates" / "program"
 PROGRAM = ROOT / "target" / "bin" / "vexil_compat"
 # A guard against a hang: a file without end, read whole, takes for ever.
 GUARD_SECONDS = 60

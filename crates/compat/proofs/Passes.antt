@@ -19,8 +19,9 @@ use Rattle.tally.proofs.Running.{ready-start, ran-tally, ran-lines}
 use Rattle.lines.specs.Last.{lastLineOf}
 use Rattle.lines.proofs.Lines.{last-line}
 use Rattle.details.proofs.Writers.{space-as, puts-as}
-use Rattle.compat.specs.Verdicts.{ofTally, verdictIs, Passed}
-use Rattle.compat.specs.declared.verdicts.Verdict.{Verdict}
+use Rattle.verdicts.specs.Verdicts.{ofTally, verdictIs}
+use Rattle.verdicts.specs.declared.Verdict.{Verdict}
+use Rattle.compat.specs.Passes.{Passed}
 
 -- a tally's verdict, with the report's length, is that of its changes
 tally-verdict : (cs : List Change) (t : Tally) (n : ℕ) → TallyOf cs t → n ≡ length (report cs) → ofTally t n ≡ verdictIs (compared cs)

@@ -1,2 +1,3 @@
--- A verdict, and what the two calls answer.
-pub mod Verdicts
+-- Policies: what the code's policies stand for. Passes: what a pass and the report call answer.
+pub mod Policies
+pub mod Passes

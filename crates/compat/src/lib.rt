@@ -1,103 +1,104 @@
-// Whether a new schema may be loaded where an old one runs: the verdict on two images and its report, for all bytes.
-pub mod verdicts;
+// Whether a new schema may be loaded where an old one runs: the verdict on two images and its report, for all bytes, by stages: accept
+// the old image, accept the new one, judge the pair, measure the report, write it.
+pub mod policies;
 
-use crate::verdicts::Verdict;
-use checking::aliases::alias_pair;
+use crate::policies::BOTH;
+use crate::policies::Judged;
+use crate::policies::NEW;
+use crate::policies::OLD;
+use crate::policies::Policy;
+use crate::policies::judge_alone;
+use crate::policies::judge_pair;
+use crate::policies::walk_of;
 use checking::check;
+use items::Walk;
 use lines::reporting::put_last_line;
 use reader::Acceptance;
 use reader::read_image;
 use text::Mode;
+use verdicts::Verdict;
 ghost use mathlib.Core.Path.{_≡_};
-ghost use lib.ListN.{length};
-ghost use Rattle.parts.specs.Promise.{Accepted, schemaOf};
-ghost use Rattle.text.specs.Text.{Space};
-ghost use Rattle.rules.specs.Survivors.{viewOf};
-ghost use Rattle.rules.specs.Types.{sameType};
-ghost use Rattle.rules.specs.Report.{report};
-ghost use Rattle.rules.specs.Answer.{checked, comparePair, verdictOf, reported, reportLength, written};
+ghost use Rattle.image.specs.Image.{readImage};
+ghost use Rattle.parts.specs.Promise.{schemaOf};
+ghost use Rattle.rules.specs.Answer.{oldSide, compared, comparePair, outcome};
 ghost use Rattle.items.specs.Pairs.{BothAccepted};
 ghost use Rattle.checking.specs.Decls.{allChanges};
-ghost use Rattle.compat.specs.Verdicts.{verdictIs, Passed, Reported};
+ghost use Rattle.verdicts.specs.Verdicts.{verdictIs};
+ghost use Rattle.compat.specs.Policies.{policyOf, changesBy, faultOf, imageFault, Passing};
+ghost use Rattle.compat.specs.Passes.{ReportSpace, Passed, Reported};
 
-// The sides of a refusal.
-const OLD: u8 = 1;
-
-const NEW: u8 = 2;
-
-const BOTH: u8 = 3;
+// One image: 1 to 10, and then the check of one image.
+fn accept(policy: Policy, image: &[u8], side: u8) -> Judged
+    ensures { λ r. ⌜ faultOf r ≡ imageFault (policyOf policy) side (readImage (now (image .entry))) ⌝ }
+{
+    match read_image(image) {
+        Acceptance::Accepted => judge_alone(policy, image, side),
+        Acceptance::Rejected(number) => Judged::Fault(number, side),
+    }
+}
 
 // One pass over two accepted images: the lines of the changes, and the last.
-fn pass(mode: Mode, old: &[u8], new: &[u8], out: &mut [u8]) -> Verdict
-    requires { ⌜ BothAccepted (now old) (now new) × Space mode (now out) 0 (length (report (allChanges (now old) (now new)))) ⌝ }
-    ensures { λ r. ⌜ Passed mode (now (out .entry)) (allChanges (now (old .entry)) (now (new .entry))) r (now (out .exit)) ⌝ }
+fn pass(walk: Walk, old: &[u8], new: &[u8], out: &mut [u8]) -> Verdict
+    requires { ⌜ BothAccepted (now old) (now new) × ReportSpace (walk .mode) (now out) (allChanges (walk .reading) (now old) (now new)) ⌝ }
+    ensures { λ r. ⌜ Passed (walk .mode) (now (out .entry)) (allChanges (walk .reading) (now (old .entry)) (now (new .entry))) r (now (out .exit)) ⌝ }
 {
-    let t = check(mode, old, new, out);
+    let t = check(walk, old, new, out);
+    let mode = walk.mode;
     let length = put_last_line(mode, out, t);
     Verdict::of_tally(t, length)
 }
 
-// The comparison of two accepted images: refusal 11, or the verdict. Nothing is written.
-fn compare(old: &[u8], new: &[u8]) -> Verdict
+// The verdict of the changes. Nothing is written.
+fn measure(policy: Policy, old: &[u8], new: &[u8]) -> Verdict
     requires { ⌜ BothAccepted (now old) (now new) ⌝ }
-    ensures { λ r. ⌜ r ≡ verdictIs (comparePair sameType (viewOf (schemaOf (now (old .entry)))) (viewOf (schemaOf (now (new .entry))))) ⌝ }
+    ensures { λ r. ⌜ r ≡ verdictIs (compared (changesBy policy (now (old .entry)) (now (new .entry)))) ⌝ }
 {
-    if alias_pair(old, new) {
-        return Verdict::refused(11, BOTH);
-    }
     let mut none = [0u8; 1];
-    pass(Mode::Measure, old, new, &mut none)
+    pass(walk_of(policy, Mode::Measure), old, new, &mut none)
+}
+
+// Two accepted images: the fault of the pair, or the verdict.
+fn compare(policy: Policy, old: &[u8], new: &[u8]) -> Verdict
+    requires { ⌜ BothAccepted (now old) (now new) ⌝ }
+    ensures { λ r. ⌜ r ≡ verdictIs (comparePair (policyOf policy) (schemaOf (now (old .entry))) (schemaOf (now (new .entry)))) ⌝ }
+{
+    match judge_pair(policy, old, new) {
+        Judged::Passes => measure(policy, old, new),
+        Judged::Fault(number, side) => Verdict::refused(number, side),
+    }
 }
 
 // The new image, after the old one is accepted.
-fn verdict_new(old: &[u8], new: &[u8]) -> Verdict
-    requires { ⌜ Accepted (now old) ⌝ }
-    ensures { λ r. ⌜ r ≡ verdictIs (checked (now (old .entry)) (now (new .entry))) ⌝ }
+fn verdict_new(policy: Policy, old: &[u8], new: &[u8]) -> Verdict
+    requires { ⌜ Passing policy oldSide (now old) ⌝ }
+    ensures { λ r. ⌜ r ≡ verdictIs (outcome (policyOf policy) (now (old .entry)) (now (new .entry))) ⌝ }
 {
-    match read_image(new) {
-        Acceptance::Accepted => compare(old, new),
-        Acceptance::Rejected(number) => Verdict::refused(number, NEW),
+    match accept(policy, new, NEW) {
+        Judged::Passes => compare(policy, old, new),
+        Judged::Fault(number, side) => Verdict::refused(number, side),
     }
 }
 
 // The verdict on two images: "old before new".
-pub fn verdict(old: &[u8], new: &[u8]) -> Verdict
-    ensures { λ r. ⌜ r ≡ verdictIs (checked (now (old .entry)) (now (new .entry))) ⌝ }
+pub fn verdict(policy: Policy, old: &[u8], new: &[u8]) -> Verdict
+    ensures { λ r. ⌜ r ≡ verdictIs (outcome (policyOf policy) (now (old .entry)) (now (new .entry))) ⌝ }
 {
-    match read_image(old) {
-        Acceptance::Accepted => verdict_new(old, new),
-        Acceptance::Rejected(number) => Verdict::refused(number, OLD),
+    match accept(policy, old, OLD) {
+        Judged::Passes => verdict_new(policy, old, new),
+        Judged::Fault(number, side) => Verdict::refused(number, side),
     }
 }
 
 // The verdict with its report: 12 if the report is longer than the buffer. A refusal leaves the buffer as it was.
-pub fn report(old: &[u8], new: &[u8], out: &mut [u8]) -> Verdict
-    ensures { λ r. ⌜ Reported (now (old .entry)) (now (new .entry)) (now (out .entry)) r (now (out .exit)) ⌝ }
+pub fn report(policy: Policy, old: &[u8], new: &[u8], out: &mut [u8]) -> Verdict
+    ensures { λ r. ⌜ Reported policy (now (old .entry)) (now (new .entry)) (now (out .entry)) r (now (out .exit)) ⌝ }
 {
-    let v = verdict(old, new);
+    let v = verdict(policy, old, new);
     if v.number != 0 {
         return v;
     }
     if out.len() < v.length {
         return Verdict::refused(12, BOTH);
     }
-    pass(Mode::Write, old, new, out)
-}
-
-// One value of the verdict, by its selector.
-#[no_mangle]
-pub extern "C" fn vexil_compat_verdict(old: &[u8], new: &[u8], selector: u64) -> u64
-    ensures { λ r. ⌜ r ≡ verdictOf (now (old .entry)) (now (new .entry)) selector ⌝ }
-{
-    let v = verdict(old, new);
-    v.select(selector)
-}
-
-// The report's length, 0 if refused; the report stands at the start of the buffer.
-#[no_mangle]
-pub extern "C" fn vexil_compat_report(old: &[u8], new: &[u8], out: &mut [u8]) -> u64
-    ensures { λ r. ⌜ (r ≡ reportLength (reported (now (old .entry)) (now (new .entry)) (length (now (out .entry))))) × (now (out .exit) ≡ written (reported (now (old .entry)) (now (new .entry)) (length (now (out .entry)))) (now (out .entry))) ⌝ }
-{
-    let v = report(old, new, out);
-    v.length as u64
+    pass(walk_of(policy, Mode::Write), old, new, out)
 }

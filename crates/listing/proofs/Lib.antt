@@ -3,7 +3,7 @@
 -- Refusals: when each number is given.
 mod Lines
 mod Bounds
-mod Outcomes
+pub mod Outcomes
 mod Returned
 mod Apart
 pub mod Pinned

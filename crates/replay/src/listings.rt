@@ -9,17 +9,17 @@ use crate::texts::Call;
 
 // One selector of the listing's verdict.
 fn replay_value(image: &[u8], room: u64, selector: u64, wanted: u64, t: Tally) -> Tally {
-    let got = listing::vexil_compat_listing_verdict(image, room, selector);
+    let got = vexil_compat::vexil_compat_listing_verdict(image, room, selector);
     compared(t, got, wanted)
 }
 
-// The listing's verdict: number, side and length, and selectors that give 0.
+// The listing's verdict: number, side and length; a refusal is Major and Breaking; and selectors that give 0.
 fn replay_verdict(image: &[u8], room: u64, number: usize, length: usize, t: Tally) -> Tally {
-    let side = if number == 0 { 0 } else { 1 };
+    let one = if number == 0 { 0 } else { 1 };
     let next = replay_value(image, room, 0, number as u64, t);
-    let next = replay_value(image, room, 1, side, next);
-    let next = replay_value(image, room, 2, 0, next);
-    let next = replay_value(image, room, 3, 0, next);
+    let next = replay_value(image, room, 1, one, next);
+    let next = replay_value(image, room, 2, one + one, next);
+    let next = replay_value(image, room, 3, one, next);
     let next = replay_value(image, room, 4, length as u64, next);
     let next = replay_value(image, room, 5, 0, next);
     replay_value(image, room, 18446744073709551615, 0, next)

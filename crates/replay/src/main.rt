@@ -1,9 +1,10 @@
-// Replays the recorded answers: each image of each pair is read and listed, both calls are asked for the pair, and what is answered is
-// compared with what is recorded.
+// Replays the recorded answers: each image of each pair is read and listed, the verdict, its values and the report are asked for, and what
+// is answered is compared with what is recorded.
 mod counting;
 mod file;
 mod listings;
 mod texts;
+mod values;
 mod verdicts;
 
 use counting::Step;
@@ -49,28 +50,21 @@ fn replay_text(fd: i32, old: &[u8], new: &[u8], length: usize, t: Tally) -> Step
 
 // The answer of a pair: number, side, bump, result, length, counts and report.
 fn replay_answer(fd: i32, counts: usize, old: &[u8], new: &[u8], t: Tally) -> Step {
-    let byte = file::read_u8(fd);
-    let Number::Is(number) = byte else {
-        return Step::Broken;
-    };
-    let next = verdicts::replay_value(old, new, 0, number, t);
-    let step = verdicts::replay_bytes(fd, old, new, next);
+    let mut recorded = values::none();
+    let step = verdicts::replay_bytes(fd, old, new, &mut recorded, t);
     let Step::Next(after) = step else {
         return step;
     };
-    let size = file::read_u32(fd);
-    let Number::Is(length) = size else {
-        return Step::Broken;
-    };
-    let next = verdicts::replay_value(old, new, 4, length, after);
-    let step = verdicts::replay_counts(fd, old, new, counts, next);
+    let step = verdicts::replay_numbers(fd, old, new, counts, &mut recorded, after);
     let Step::Next(after) = step else {
         return step;
     };
-    if number != 0 {
-        return Step::Next(texts::replay_refused(Call::Report, old, new, after));
+    let all = std::num::wrapping_add_usize(5, counts);
+    let next = values::replay_values(old, new, recorded, all, after);
+    if recorded[0] != 0 {
+        return Step::Next(texts::replay_refused(Call::Report, old, new, next));
     }
-    replay_text(fd, old, new, length, after)
+    replay_text(fd, old, new, recorded[4] as usize, next)
 }
 
 // Both images of a pair: the reader's numbers, and then the listings.

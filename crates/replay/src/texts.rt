@@ -25,8 +25,8 @@ pub enum Call {
 
 fn called(call: Call, old: &[u8], new: &[u8], out: &mut [u8]) -> u64 {
     match call {
-        Call::Report => compat::vexil_compat_report(old, new, out),
-        Call::Listing => listing::vexil_compat_listing(old, out),
+        Call::Report => vexil_compat::vexil_compat_report(old, new, out),
+        Call::Listing => vexil_compat::vexil_compat_listing(old, out),
     }
 }
 

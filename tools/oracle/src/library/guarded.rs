@@ -59,6 +59,13 @@ impl Guarded {
         unsafe { slice::from_raw_parts_mut(self.start.add(self.room - length), length) }
     }
 
+    /// The last numbers before the guard page, which are aligned, as it is.
+    pub fn last_numbers(&mut self, count: usize) -> &mut [u64] {
+        let bytes = self.last(count * size_of::<u64>());
+        // As many bytes as so many numbers have, of which any are a number.
+        unsafe { slice::from_raw_parts_mut(bytes.as_mut_ptr().cast(), count) }
+    }
+
     /// These bytes before the guard page, where they can only be read.
     pub fn lend(&mut self, bytes: &[u8]) -> &[u8] {
         self.protect(READ | WRITE);

@@ -1,6 +1,7 @@
 //! Many pairs through the library against the oracle: every selector, and the
-//! report in buffers of several lengths, all against guard pages. Of pairs without
-//! repeats also copies that are filed anew, which must get the same answer.
+//! values and the report in buffers of several lengths, all against guard pages. Of
+//! pairs without repeats also copies that are filed anew, which must get the same
+//! answer.
 
 use super::guarded::Guarded;
 use crate::answer::{judge, Answer, SELECTORS};
@@ -20,6 +21,10 @@ const REPORT_ROOM: usize = 1 << 20;
 const UNTOUCHED: u8 = 0xa5;
 /// So many bytes before a report buffer are watched.
 const BEFORE: usize = 64;
+/// No value of an answer.
+const UNTOUCHED_VALUE: u64 = u64::MAX / 3;
+/// So many places before a values buffer are watched.
+const PLACES_BEFORE: usize = 8;
 /// After so many random pairs one more is run, with its copies.
 const REFILED_ONCE_IN: u64 = 4;
 
@@ -84,6 +89,10 @@ impl Hammer {
     fn pair(&mut self, old: &[u8], new: &[u8], answer: &Answer) -> Outcome {
         let (old, new) = (self.old.lend(old), self.new.lend(new));
         verdicts(old, new, answer)?;
+        let all = SELECTORS as usize;
+        for places in [0, 1, 5, all, all + 1, all + 40] {
+            values(old, new, &mut self.out, places, answer)?;
+        }
         let length = answer.report.len();
         let less = length.saturating_sub(1);
         for room in [length, less, length + 1, length + 300, 0] {
@@ -115,6 +124,27 @@ fn verdicts(old: &[u8], new: &[u8], answer: &Answer) -> Outcome {
         }
     }
     Ok(())
+}
+
+/// The values in a buffer of so many places: the number is returned, each place has
+/// what its selector gives, and those before it stay.
+fn values(old: &[u8], new: &[u8], out: &mut Guarded, places: usize, answer: &Answer) -> Outcome {
+    let memory = out.last_numbers(PLACES_BEFORE + places);
+    memory.fill(UNTOUCHED_VALUE);
+    let number = super::values(old, new, &mut memory[PLACES_BEFORE..]);
+    let mut wanted = vec![UNTOUCHED_VALUE; PLACES_BEFORE];
+    wanted.extend((0..places as u64).map(|selector| answer.select(selector)));
+    if number != answer.select(0) {
+        let wanted = answer.select(0);
+        return Err(format!(
+            "values in {places} places: number {number}, wanted {wanted}"
+        ));
+    }
+    // As with the report.
+    match black_box(&*memory) == wanted {
+        true => Ok(()),
+        false => Err(format!("values in {places} places are not as wanted")),
+    }
 }
 
 /// The report in a buffer of `room` bytes: its length and its bytes, and that all

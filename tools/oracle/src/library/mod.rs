@@ -1,5 +1,5 @@
-//! The proved library, in a build that links it: its two functions, and what is
-//! run through them beside the oracle.
+//! The proved library, in a build that links it: its functions on two images, and
+//! what is run through them beside the oracle.
 
 #[cfg(vexil)]
 pub mod bench;
@@ -17,6 +17,14 @@ extern "C" {
         new_len: usize,
         selector: u64,
     ) -> u64;
+    fn vexil_compat_values(
+        old_image: *const u8,
+        old_len: usize,
+        new_image: *const u8,
+        new_len: usize,
+        values: *mut u64,
+        values_len: usize,
+    ) -> u64;
     fn vexil_compat_report(
         old_image: *const u8,
         old_len: usize,
@@ -32,9 +40,24 @@ pub fn verdict(old: &[u8], new: &[u8], selector: u64) -> u64 {
     unsafe { vexil_compat_verdict(old.as_ptr(), old.len(), new.as_ptr(), new.len(), selector) }
 }
 
-pub fn report(old: &[u8], new: &[u8], out: &mut [u8]) -> u64 {
+pub fn values(old: &[u8], new: &[u8], out: &mut [u64]) -> u64 {
     let (place, room) = (out.as_mut_ptr(), out.len());
     // As above; `out` overlaps neither image, for it is borrowed alone.
+    unsafe {
+        vexil_compat_values(
+            old.as_ptr(),
+            old.len(),
+            new.as_ptr(),
+            new.len(),
+            place,
+            room,
+        )
+    }
+}
+
+pub fn report(old: &[u8], new: &[u8], out: &mut [u8]) -> u64 {
+    let (place, room) = (out.as_mut_ptr(), out.len());
+    // As above.
     unsafe {
         vexil_compat_report(
             old.as_ptr(),

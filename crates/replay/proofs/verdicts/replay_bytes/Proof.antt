@@ -1,18 +1,20 @@
--- `replay::verdicts::replay_bytes` is safe and ends: the selector rises to 4. Assumes nothing.
+-- `replay::verdicts::replay_bytes` is safe and ends: the selector rises to 4; the buffer keeps its length. Assumes nothing.
+use mathlib.Core.Path.{_≡_, refl}
 use borrow.Author.Needs.{needs}
 use Prim.Native.Nat.{_-_}
 use native.Mathlib.Omega.{arith}
+use lib.ListN.{length}
 use Rattle.replay.proofs.verdicts.replay_bytes.Statement.{statement}
 use Rattle.replay.proofs.verdicts.replay_bytes.Tie as tie
 
 abbrev Inv-loop : tie.InvT-loop
-Inv-loop fd old new next₀ selector₀ next selector = Unit {0}
+Inv-loop fd old new values₀ next₀ selector₀ values next selector = length values ≡ length values₀
 
 abbrev μ-loop : tie.MeasureT-loop
-μ-loop fd old new next₀ selector₀ next selector = 4 - selector
+μ-loop fd old new values₀ next₀ selector₀ values next selector = 4 - selector
 
 loop-holds : tie.Need-loop-holds Inv-loop μ-loop
-loop-holds c = tt
+loop-holds c = refl
 
 replay-byte-requires : tie.Need-replay-byte-requires Inv-loop μ-loop
 replay-byte-requires c κs = tt
@@ -22,6 +24,9 @@ enum-known-step c = search needs
 
 enum-told : tie.Need-enum-told Inv-loop μ-loop
 enum-told c = search needs
+
+same-length : tie.Need-same-length Inv-loop μ-loop
+same-length c = search needs
 
 returns : tie.Need-returns Inv-loop μ-loop
 returns c = tt
@@ -33,7 +38,10 @@ loop-less : tie.Need-loop-less Inv-loop μ-loop
 loop-less c = omega arith
 
 loop-again : tie.Need-loop-again Inv-loop μ-loop
-loop-again c = tt
+loop-again c = search needs
+
+same-length-2 : tie.Need-same-length-2 Inv-loop μ-loop
+same-length-2 c = search needs
 
 returns-2 : tie.Need-returns-2 Inv-loop μ-loop
 returns-2 c = tt
@@ -48,8 +56,10 @@ replay-bytes-spec =
     replay-byte-requires
     enum-known-step
     enum-told
+    same-length
     returns
     add-selector
     loop-less
     loop-again
+    same-length-2
     returns-2)

@@ -9,7 +9,7 @@ mod printing;
 // The report of two images, in a buffer of 65,536 bytes; a longer one is refused by the library.
 fn compare(old: &[u8], new: &[u8]) {
     let mut out = io::large_buffer();
-    let verdict = compat::report(old, new, &mut out);
+    let verdict = compat::report(compat::policies::Policy::Plain, old, new, &mut out);
     if verdict.number != 0 {
         printing::print_refusal(verdict.number as u64, verdict.side as u64);
         return;

@@ -2,7 +2,7 @@
 use crate::printing::print_refusal;
 use crate::printing::print_text;
 use listing::checked;
-use listing::vexil_compat_listing;
+use listing::write_listing;
 
 // In a buffer as large as the report's.
 pub fn list(image: &[u8]) {
@@ -12,6 +12,6 @@ pub fn list(image: &[u8]) {
         print_refusal(answer.number as u64, answer.side as u64);
         return;
     }
-    vexil_compat_listing(image, &mut out);
+    write_listing(image, &mut out);
     print_text(&out, answer.length);
 }

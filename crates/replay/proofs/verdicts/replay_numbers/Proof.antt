@@ -1,17 +1,22 @@
--- `replay::verdicts::replay_counts` is safe and ends: fewer counts are left with each turn. Assumes nothing.
+-- `replay::verdicts::replay_numbers` is safe and ends: fewer numbers are left with each turn; the buffer keeps its length. Assumes nothing.
+use mathlib.Core.Path.{_≡_, refl}
 use borrow.Author.Needs.{needs}
 use native.Mathlib.Omega.{arith}
-use Rattle.replay.proofs.verdicts.replay_counts.Statement.{statement}
-use Rattle.replay.proofs.verdicts.replay_counts.Tie as tie
+use lib.ListN.{length}
+use Rattle.replay.proofs.verdicts.replay_numbers.Statement.{statement}
+use Rattle.replay.proofs.verdicts.replay_numbers.Tie as tie
 
 abbrev Inv-loop : tie.InvT-loop
-Inv-loop fd old new counts next₀ selector₀ left₀ next selector left = Unit {0}
+Inv-loop fd old new counts values₀ next₀ selector₀ left₀ values next selector left = length values ≡ length values₀
 
 abbrev μ-loop : tie.MeasureT-loop
-μ-loop fd old new counts next₀ selector₀ left₀ next selector left = left
+μ-loop fd old new counts values₀ next₀ selector₀ left₀ values next selector left = left
+
+wrapping-add-usize-requires : tie.Need-wrapping-add-usize-requires Inv-loop μ-loop
+wrapping-add-usize-requires c κs = tt
 
 loop-holds : tie.Need-loop-holds Inv-loop μ-loop
-loop-holds c = tt
+loop-holds c = refl
 
 read-u32-requires : tie.Need-read-u32-requires Inv-loop μ-loop
 read-u32-requires c κs = tt
@@ -22,8 +27,14 @@ enum-known-count c = search needs
 enum-told : tie.Need-enum-told Inv-loop μ-loop
 enum-told c = search needs
 
+same-length : tie.Need-same-length Inv-loop μ-loop
+same-length c = search needs
+
 returns : tie.Need-returns Inv-loop μ-loop
 returns c = tt
+
+keep-requires : tie.Need-keep-requires Inv-loop μ-loop
+keep-requires c κs = tt
 
 replay-value-requires : tie.Need-replay-value-requires Inv-loop μ-loop
 replay-value-requires c κs = tt
@@ -38,7 +49,7 @@ loop-less : tie.Need-loop-less Inv-loop μ-loop
 loop-less c = omega arith
 
 loop-again : tie.Need-loop-again Inv-loop μ-loop
-loop-again c = tt
+loop-again c = search needs
 
 replay-value-requires-2 : tie.Need-replay-value-requires-2 Inv-loop μ-loop
 replay-value-requires-2 c κs = tt
@@ -52,20 +63,26 @@ replay-value-requires-3 c κs = tt
 replay-value-requires-4 : tie.Need-replay-value-requires-4 Inv-loop μ-loop
 replay-value-requires-4 c κs = tt
 
+same-length-2 : tie.Need-same-length-2 Inv-loop μ-loop
+same-length-2 c = search needs
+
 returns-2 : tie.Need-returns-2 Inv-loop μ-loop
 returns-2 c = tt
 
-pub replay-counts-spec : {M : Type 1} → statement M
-replay-counts-spec =
+pub replay-numbers-spec : {M : Type 1} → statement M
+replay-numbers-spec =
     tie.close
     (tie.spec
     Inv-loop
     μ-loop
+    wrapping-add-usize-requires
     loop-holds
     read-u32-requires
     enum-known-count
     enum-told
+    same-length
     returns
+    keep-requires
     replay-value-requires
     more-requires
     sub-left
@@ -75,4 +92,5 @@ replay-counts-spec =
     more-requires-2
     replay-value-requires-3
     replay-value-requires-4
+    same-length-2
     returns-2)

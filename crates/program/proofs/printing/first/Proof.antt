@@ -1,9 +1,9 @@
--- `vexil_compat::printing::first` is safe: the part that is returned has n bytes. Assumes nothing.
+-- `program::printing::first` is safe: the part that is returned has n bytes. Assumes nothing.
 use borrow.Author.Needs.{needs}
 use native.Mathlib.Omega.{arith}
 use lib.ListN.{length-take}
-use Rattle.vexil_compat.proofs.printing.first.Statement.{statement}
-use Rattle.vexil_compat.proofs.printing.first.Tie as tie
+use Rattle.program.proofs.printing.first.Statement.{statement}
+use Rattle.program.proofs.printing.first.Tie as tie
 
 returns : tie.Need-returns
 returns c = search needs
