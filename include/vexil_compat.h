@@ -135,8 +135,8 @@ uint64_t vexil_compat_listing(const uint8_t *image, size_t len, uint8_t *out, si
 
 /*
  * What the call above answers for a buffer of `out_len` bytes: VEXIL_COMPAT_NUMBER (VEXIL_COMPAT_FULL too), VEXIL_COMPAT_SIDE
- * (VEXIL_COMPAT_OLD of every refusal) or VEXIL_COMPAT_LENGTH; 0 for every other selector. With UINT64_MAX bytes the length says how large
- * a buffer is needed.
+ * (VEXIL_COMPAT_OLD of every refusal) or VEXIL_COMPAT_LENGTH. Of a refusal VEXIL_COMPAT_BUMP is Major and VEXIL_COMPAT_RESULT Breaking, as
+ * of two images; every other selector gives 0. With UINT64_MAX bytes the length says how large a buffer is needed.
  */
 uint64_t vexil_compat_listing_verdict(const uint8_t *image, size_t len, uint64_t out_len, uint64_t selector);
 

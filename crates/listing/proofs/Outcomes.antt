@@ -1,6 +1,6 @@
 -- An image and a buffer by stages: what is measured of an accepted one, the three cases, and what the listing call makes of them.
 -- Assumes nothing.
-use mathlib.Core.Path.{_≡_, refl, sym, ap, subst, _∙_}
+use mathlib.Core.Path.{_≡_, refl, sym, ap, _∙_}
 use mathlib.Core.Bool.{Bool, true, false, cond}
 use mathlib.Core.List.{List}
 use Prim.Native.Nat.{ℕ, _≤_, _<_}
@@ -8,10 +8,6 @@ use native.Mathlib.Omega.{arith}
 use borrow.Author.Tests.{le-leb, lt-leb, leb-true, leb-false}
 use lib.Dec.{leb}
 use lib.ListN.{length, replicate}
-use Rattle.image.specs.Schema.{Schema}
-use Rattle.image.specs.Parse.{Parsed, ok, no}
-use Rattle.image.specs.Image.{readImage}
-use Rattle.refusals.proofs.Refusals.{only-ten}
 use Rattle.parts.specs.Promise.{Accepted, schemaOf}
 use Rattle.parts.proofs.Promise.{accepted-read, read-accepted}
 use Rattle.text.specs.Text.{Space, Puts}
@@ -19,6 +15,9 @@ use Rattle.text.specs.declared.Mode.the-variants.{Measure, Write}
 use Rattle.text.proofs.Writing.{space-measure, space-write, puts-written}
 use Rattle.rules.specs.Outcome.{Outcome, refused, answered, textOnly, fit, textLength, written}
 use Rattle.image.specs.Codes.{oldSide}
+use Rattle.rules.specs.Answer.{plain}
+use Rattle.rules.specs.Refusals.{OneToTen, Decided, oldRefused, oldAlone, newRefused, newAlone, pairRefused, verdict}
+use Rattle.rules.proofs.Answer.{decided}
 use Rattle.tally.specs.Tallies.{noChange}
 use Rattle.tally.specs.declared.Tally.{Tally}
 use Rattle.verdicts.specs.Verdicts.{refusedBy, ofTally, verdictIs}
@@ -63,7 +62,7 @@ module _ (s : List ℕ) (g : Accepted s) where
 
 module _ (s : List ℕ) (room : ℕ) where
   pub data Case : Outcome → Type 0 where
-    turned : {k : ℕ} → (1 ≤ k) × (k ≤ 10) → RefusedBy s k → Case (refused k oldSide)
+    turned : {k : ℕ} → OneToTen k → RefusedBy s k → Case (refused k oldSide)
     full : Accepted s → room < length (text s) → Case (refused 12 oldSide)
     fits : Accepted s → length (text s) ≤ room → Case (textOnly (text s))
 
@@ -74,13 +73,18 @@ module _ (s : List ℕ) (room : ℕ) where
       go true q = fits g (leb-true (length (text s)) room q)
       go false q = full g (leb-false (length (text s)) room q)
 
+  -- what is said of it against itself says it of the image alone
   pub case : Case (outcome s room)
   unfolding outcome accept fit
-  case = go (readImage s) refl
+  case = go (decided plain s s)
     where
-      go : (r : Parsed Schema) → readImage s ≡ r → Case (fit oldSide room (accept r))
-      go (ok x n) p = subst (λ (r : Parsed Schema). Case (fit oldSide room (accept r))) p (held (read-accepted s p .0))
-      go (no k) p = turned (only-ten s k p) p
+      go : {o : Outcome} → Decided plain s s o → Case (outcome s room)
+      go (oldRefused l p) = rw p (turned l p)
+      go (oldAlone p e) = held (read-accepted s p .0)
+      go (newRefused a l p) = held (read-accepted s (a .read) .0)
+      go (newAlone a p e) = held (read-accepted s p .0)
+      go (pairRefused a b e) = held (read-accepted s (a .read) .0)
+      go (verdict a b e) = held (read-accepted s (a .read) .0)
 
 -- ---- the listing call, by what is said first
 

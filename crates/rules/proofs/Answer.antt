@@ -19,7 +19,7 @@ use Rattle.rules.specs.Verdict.{bumpOf, resultOf, countOf, aliasPair}
 use Rattle.rules.specs.Report.{report}
 use Rattle.rules.specs.Outcome.{Outcome, refused, answered, selected, select}
 use Rattle.image.specs.Codes.{oldSide, newSide, bothSides}
-use Rattle.rules.specs.Answer.{Fault, fault, Policy, compared, counts, firstFault, judged, onSide, comparePair, acceptNew, acceptOld, outcome, aliasCheck, plain}
+use Rattle.rules.specs.Answer.{Fault, fault, Policy, compared, counts, firstFault, judged, onSide, imageFault, faultIn, comparePair, acceptNew, acceptOld, outcome, aliasCheck, plain}
 use Rattle.rules.specs.Refusals.{Passes, Decided, oldRefused, oldAlone, newRefused, newAlone, pairRefused, verdict, Numbered}
 
 -- ---- where they are decided
@@ -42,25 +42,76 @@ module _ (p : Policy) (old new : List ℕ) where
       first : (x : Schema) (m : ℕ) → readImage old ≡ ok x m → (s : Parsed Schema) → readImage new ≡ s → (k : Option ℕ) → p .alone x ≡ k
           → Decided p old new (judged (onSide oldSide k) (acceptNew p x s))
       first x m q (ok y n) r none e = second x (record { end = m; read = q; alone = e }) y n r (p .alone y) refl
-      first x m q (no k) r none e = newRefused (record { end = m; read = q; alone = e }) r
+      first x m q (no k) r none e = newRefused (record { end = m; read = q; alone = e }) (only-ten new k r) r
       first x m q s r (some k) e = oldAlone q e
 
       go : (r s : Parsed Schema) → readImage old ≡ r → readImage new ≡ s → Decided p old new (acceptOld p r s)
       go (ok x m) s q t = first x m q s t (p .alone x) refl
-      go (no k) s q t = oldRefused q
+      go (no k) s q t = oldRefused (only-ten old k q) q
 
   -- and in no other way
   pub decides : {o : Outcome} → Decided p old new o → outcome p old new ≡ o
   unfolding outcome acceptOld acceptNew comparePair onSide judged
-  decides (oldRefused q) = rw q
+  decides (oldRefused l q) = rw q
   decides (oldAlone q e) = rw (q, e)
-  decides (newRefused a q) = rw (a .read, a .alone, q)
+  decides (newRefused a l q) = rw (a .read, a .alone, q)
   decides (newAlone a q e) = rw (a .read, a .alone, q, e)
   decides (pairRefused a b e) = rw (a .read, a .alone, b .read, b .alone, e)
   decides (verdict a b e) = rw (a .read, a .alone, b .read, b .alone, e)
 
   pub exactly : (o : Outcome) → (outcome p old new ≡ o) ↔ Decided p old new o
   exactly o = (λ e. rw (sym e) decided, decides)
+
+-- ---- by what each image alone is refused by
+
+module _ (p : Policy) where
+  module _ (side : ℕ) (s : List ℕ) where
+    pub accepted-fault : {x : Schema} {n : ℕ} → readImage s ≡ ok x n → onSide side (p .alone x) ≡ faultIn p side s
+    unfolding faultIn imageFault
+    accepted-fault e = rw e
+
+    pub rejected-fault : {k : ℕ} → readImage s ≡ no k → some (fault k side) ≡ faultIn p side s
+    unfolding faultIn imageFault
+    rejected-fault e = rw e
+
+    -- an image without a fault is accepted, and passes alone
+    pub no-fault : faultIn p side s ≡ none → (x : Schema) × Passes p s x
+    unfolding faultIn imageFault onSide
+    no-fault = go (readImage s) refl
+      where
+        passes : (x : Schema) (n : ℕ) → readImage s ≡ ok x n → (k : Option ℕ) → p .alone x ≡ k → onSide side k ≡ none → (x : Schema) × Passes p s x
+        passes x n q none e z = (x, record { end = n; read = q; alone = e })
+        passes x n q (some k) e z = absurd (Option·none-ne-some (fault k side) (sym z))
+
+        go : (r : Parsed Schema) → readImage s ≡ r → imageFault p side r ≡ none → (x : Schema) × Passes p s x
+        go (ok x n) q e = passes x n q (p .alone x) refl e
+        go (no k) q e = absurd (Option·none-ne-some (fault k side) (sym e))
+
+  -- what a fault comes to, in each image
+  old-stage : (f : Fault) (s r : Parsed Schema) → imageFault p oldSide r ≡ some f → acceptOld p r s ≡ refused (f .number) (f .side)
+  unfolding acceptOld imageFault judged
+  old-stage f s (ok x n) e = rw e
+  old-stage f s (no k) e = rw (← Option·some-injective (fault k oldSide) f e)
+
+  new-stage : (f : Fault) (x : Schema) (s : Parsed Schema) → imageFault p newSide s ≡ some f → acceptNew p x s ≡ refused (f .number) (f .side)
+  unfolding acceptNew imageFault judged
+  new-stage f x (ok y n) e = rw e
+  new-stage f x (no k) e = rw (← Option·some-injective (fault k newSide) f e)
+
+  module _ (old new : List ℕ) where
+    -- the old image has a fault, or the new one after it
+    pub old-fault : {f : Fault} → faultIn p oldSide old ≡ some f → outcome p old new ≡ refused (f .number) (f .side)
+    unfolding faultIn outcome
+    old-fault {f} e = old-stage f (readImage new) (readImage old) e
+
+    pub new-fault : {x : Schema} → Passes p old x → {f : Fault} → faultIn p newSide new ≡ some f → outcome p old new ≡ refused (f .number) (f .side)
+    unfolding faultIn outcome acceptOld onSide judged
+    new-fault {x} a {f} e = rw (a .read, a .alone) (new-stage f x (readImage new) e)
+
+    -- neither has one
+    pub both-pass : {x y : Schema} → Passes p old x → Passes p new y → outcome p old new ≡ comparePair p x y
+    unfolding outcome acceptOld acceptNew onSide judged
+    both-pass a b = rw (a .read, a .alone, b .read, b .alone)
 
 -- ---- a pair with number 0 has the changes of what the two images hold
 
@@ -79,9 +130,9 @@ module _ (p : Policy) where
   compared-of n a b = go (decided p a b)
     where
       go : {o : Outcome} → Decided p a b o → select o 0 ≡ 0 → o ≡ compared (changesOf a b)
-      go (oldRefused q) z = absurd (omega (arith, only-ten a _ q))
+      go (oldRefused l q) z = absurd (omega arith)
       go (oldAlone q e) z = absurd (n .alone _ _ e .0 z)
-      go (newRefused c q) z = absurd (omega (arith, only-ten b _ q))
+      go (newRefused c l q) z = absurd (omega arith)
       go (newAlone c q e) z = absurd (n .alone _ _ e .0 z)
       go (pairRefused c d e) z = absurd (n .pair _ _ _ e .0 z)
       go (verdict c d e) z = rw (c .read, d .read)

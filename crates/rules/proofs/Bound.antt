@@ -33,7 +33,6 @@ use Rattle.text.proofs.Numbers.{decimal-length}
 use Rattle.rules.proofs.Texts.{word-length, Short, line-some}
 use Rattle.rules.proofs.Weights.{lineLength, Light, clauses-light, changes-weight}
 use Rattle.rules.proofs.Held.{Small, Held, image-held}
-use Rattle.refusals.proofs.Refusals.{only-ten}
 use Rattle.rules.proofs.Answer.{decided, plain-fault}
 use Rattle.rules.proofs.Chain.{largest-two}
 use Rattle.rules.proofs.Distance.{view-rises}
@@ -199,9 +198,9 @@ unfolding verdictBy
 selector-bound p b old new n = go (decided p old new)
   where
     go : {o : Outcome} → Decided p old new o → select o n < 2 ^ 62
-    go (oldRefused q) = refused-below _ _ n (omega (arith, only-ten old _ q)) (omega arith)
+    go (oldRefused l q) = refused-below _ _ n (omega arith) (omega arith)
     go (oldAlone q e) = refused-below _ _ n (b .alone _ _ e) (omega arith)
-    go (newRefused a q) = refused-below _ _ n (omega (arith, only-ten new _ q)) (omega arith)
+    go (newRefused a l q) = refused-below _ _ n (omega arith) (omega arith)
     go (newAlone a q e) = refused-below _ _ n (b .alone _ _ e) (omega arith)
     go (pairRefused a c e) = refused-below _ _ n (b .pair _ _ _ e .0) (b .pair _ _ _ e .1)
     go (verdict {x = x} {y = y} a c e) = compared-below _ n (report-bound p b old new x y (a .end) (c .end) (a .read) (c .read))

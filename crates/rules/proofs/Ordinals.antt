@@ -181,9 +181,9 @@ module _ (p : Policy) (o : Ordinary (p .reading)) (old new : List ℕ) where
   none-selected kind l e = go (decided p old new)
     where
       go : {u : Outcome} → Decided p old new u → select u (5 + kind) ≡ 0
-      go (oldRefused q) = refusal-is _ _ .rest (5 + kind) (omega arith)
+      go (oldRefused l q) = refusal-is _ _ .rest (5 + kind) (omega arith)
       go (oldAlone q i) = refusal-is _ _ .rest (5 + kind) (omega arith)
-      go (newRefused a q) = refusal-is _ _ .rest (5 + kind) (omega arith)
+      go (newRefused a l q) = refusal-is _ _ .rest (5 + kind) (omega arith)
       go (newAlone a q i) = refusal-is _ _ .rest (5 + kind) (omega arith)
       go (pairRefused a b i) = refusal-is _ _ .rest (5 + kind) (omega arith)
       go (verdict {x = x} {y = y} a b i) =

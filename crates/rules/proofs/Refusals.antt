@@ -106,9 +106,9 @@ module _ (x y : Schema) where
 module _ (p : Policy) (numbered : Numbered p) (old new : List ℕ) where
   no-side : {o : Outcome} → Decided p old new o → select o 0 ≡ 0 → select o 1 ≡ 0
   unfolding select selected
-  no-side (oldRefused q) z = absurd (omega (arith, only-ten old _ q))
+  no-side (oldRefused l q) z = absurd (omega arith)
   no-side (oldAlone q e) z = absurd (numbered .alone _ _ e .0 z)
-  no-side (newRefused a q) z = absurd (omega (arith, only-ten new _ q))
+  no-side (newRefused a l q) z = absurd (omega arith)
   no-side (newAlone a q e) z = absurd (numbered .alone _ _ e .0 z)
   no-side (pairRefused a b e) z = absurd (numbered .pair _ _ _ e .0 z)
   no-side (verdict a b e) z = refl
@@ -124,9 +124,9 @@ module _ (p : Policy) (numbered : Numbered p) (old new : List ℕ) where
   -- 12 is the report's
   not-full : {o : Outcome} → Decided p old new o → select o 0 ≡ 12 → ⊥
   unfolding select selected
-  not-full (oldRefused q) z = absurd (omega (arith, only-ten old _ q))
+  not-full (oldRefused l q) z = absurd (omega arith)
   not-full (oldAlone q e) z = numbered .alone _ _ e .1 z
-  not-full (newRefused a q) z = absurd (omega (arith, only-ten new _ q))
+  not-full (newRefused a l q) z = absurd (omega arith)
   not-full (newAlone a q e) z = numbered .alone _ _ e .1 z
   not-full (pairRefused a b e) z = numbered .pair _ _ _ e .1 z
   not-full (verdict a b e) z = absurd (omega arith)
@@ -165,9 +165,9 @@ module _ (old new : List ℕ) where
 
   verdict-only : {o : Outcome} → Of o → select o 0 ≡ 0 → AcceptedPair old new (λ x y. AliasPair x y → ⊥)
   unfolding select selected
-  verdict-only (oldRefused q) z = absurd (omega (arith, only-ten old _ q))
+  verdict-only (oldRefused l q) z = absurd (omega arith)
   verdict-only (oldAlone q e) z = none-alone e
-  verdict-only (newRefused a q) z = absurd (omega (arith, only-ten new _ q))
+  verdict-only (newRefused a l q) z = absurd (omega arith)
   verdict-only (newAlone a q e) z = none-alone e
   verdict-only (pairRefused a b e) z = absurd (omega (arith, eleven _ _ _ e .0))
   verdict-only (verdict {x = x} {y = y} a b e) z =
@@ -175,9 +175,9 @@ module _ (old new : List ℕ) where
 
   alias-only : {o : Outcome} → Of o → select o 0 ≡ 11 → AcceptedPair old new AliasPair
   unfolding select selected
-  alias-only (oldRefused q) z = absurd (omega (arith, only-ten old _ q))
+  alias-only (oldRefused l q) z = absurd (omega arith)
   alias-only (oldAlone q e) z = none-alone e
-  alias-only (newRefused a q) z = absurd (omega (arith, only-ten new _ q))
+  alias-only (newRefused a l q) z = absurd (omega arith)
   alias-only (newAlone a q e) z = none-alone e
   alias-only (pairRefused {x = x} {y = y} a b e) z = both-read a b (pair-found x y (plain-fault _ _ _ e .0))
   alias-only (verdict a b e) z = absurd (omega arith)
@@ -212,22 +212,22 @@ module _ (old new : List ℕ) where
   -- the old image's number, and the new one's
   old-only : (k : ℕ) {o : Outcome} → Of o → (select o 0 ≡ k) × (select o 1 ≡ 1) → readImage old ≡ no k
   unfolding select selected
-  old-only k (oldRefused q) z = q ∙ ap no (z .0)
+  old-only k (oldRefused l q) z = q ∙ ap no (z .0)
   old-only k (oldAlone q e) z = none-alone e
-  old-only k (newRefused a q) z = absurd (omega (arith, z .1))
+  old-only k (newRefused a l q) z = absurd (omega (arith, z .1))
   old-only k (newAlone a q e) z = none-alone e
   old-only k (pairRefused a b e) z = absurd (omega (arith, z .1, eleven _ _ _ e .1))
   old-only k (verdict a b e) z = absurd (omega (arith, z .1))
 
   old-given : (k : ℕ) → readImage old ≡ no k → (select (checked old new) 0 ≡ k) × (select (checked old new) 1 ≡ 1)
   unfolding select selected
-  old-given k e = let d = decides plain old new (oldRefused e) in (ap (λ o. select o 0) d, ap (λ o. select o 1) d)
+  old-given k e = let d = decides plain old new (oldRefused (only-ten old k e) e) in (ap (λ o. select o 0) d, ap (λ o. select o 1) d)
 
   new-only : (k : ℕ) {o : Outcome} → Of o → (select o 0 ≡ k) × (select o 1 ≡ 2) → NewRefused old new k
   unfolding select selected
-  new-only k (oldRefused q) z = absurd (omega (arith, z .1))
+  new-only k (oldRefused l q) z = absurd (omega (arith, z .1))
   new-only k (oldAlone q e) z = none-alone e
-  new-only k (newRefused {x = x} a q) z = record { oldSchema = x; oldEnd = a .end; oldRead = a .read; newRead = q ∙ ap no (z .0) }
+  new-only k (newRefused {x = x} a l q) z = record { oldSchema = x; oldEnd = a .end; oldRead = a .read; newRead = q ∙ ap no (z .0) }
   new-only k (newAlone a q e) z = none-alone e
   new-only k (pairRefused a b e) z = absurd (omega (arith, z .1, eleven _ _ _ e .1))
   new-only k (verdict a b e) z = absurd (omega (arith, z .1))
@@ -235,23 +235,23 @@ module _ (old new : List ℕ) where
   new-given : (k : ℕ) → NewRefused old new k → (select (checked old new) 0 ≡ k) × (select (checked old new) 1 ≡ 2)
   unfolding select selected
   new-given k r =
-      let d = decides plain old new (newRefused (record { end = r .oldEnd; read = r .oldRead; alone = refl }) (r .newRead)) in
+      let d = decides plain old new (newRefused (record { end = r .oldEnd; read = r .oldRead; alone = refl }) (only-ten new k (r .newRead)) (r .newRead)) in
       (ap (λ o. select o 0) d, ap (λ o. select o 1) d)
 
   both-sides : {o : Outcome} → Of o → select o 0 ≡ 11 → select o 1 ≡ 3
   unfolding select selected
-  both-sides (oldRefused q) z = absurd (omega (arith, only-ten old _ q))
+  both-sides (oldRefused l q) z = absurd (omega arith)
   both-sides (oldAlone q e) z = none-alone e
-  both-sides (newRefused a q) z = absurd (omega (arith, only-ten new _ q))
+  both-sides (newRefused a l q) z = absurd (omega arith)
   both-sides (newAlone a q e) z = none-alone e
   both-sides (pairRefused a b e) z = eleven _ _ _ e .1
   both-sides (verdict a b e) z = absurd (omega arith)
 
   at-most : {o : Outcome} → Of o → select o 0 ≤ 11
   unfolding select selected
-  at-most (oldRefused q) = omega (arith, only-ten old _ q)
+  at-most (oldRefused l q) = omega arith
   at-most (oldAlone q e) = none-alone e
-  at-most (newRefused a q) = omega (arith, only-ten new _ q)
+  at-most (newRefused a l q) = omega arith
   at-most (newAlone a q e) = none-alone e
   at-most (pairRefused a b e) = omega (arith, eleven _ _ _ e .0)
   at-most (verdict a b e) = omega arith

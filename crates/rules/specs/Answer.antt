@@ -70,6 +70,14 @@ onSide side (some number) = some (fault number side)
 
 -- "old before new; in each 1 .. Then 11"
 module _ (p : Policy) where
+  -- what one image alone is refused by: 1 to 10, and then its check
+  unfoldable pub imageFault : ℕ → Parsed Schema → Option Fault
+  imageFault side (ok x n) = onSide side (p .alone x)
+  imageFault side (no k) = some (fault k side)
+
+  unfoldable pub faultIn : ℕ → List ℕ → Option Fault
+  faultIn side image = imageFault side (readImage image)
+
   unfoldable pub comparePair : Schema → Schema → Outcome
   comparePair x y = judged (firstFault (p .pair) x y) (compared (changes (p .reading) (p .view x) (p .view y)))
 

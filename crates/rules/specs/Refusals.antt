@@ -9,7 +9,7 @@ use Rattle.maps.specs.Keyed.{lookup}
 use Rattle.maps.specs.Orders.{before}
 use Rattle.image.specs.Schema.{Name, Decl, Schema}
 use Rattle.image.specs.Kinds.{aliasKind}
-use Rattle.image.specs.Codes.{notRefused, aliasPairRefusal, fullRefusal, noSide, oldSide, newSide, bothSides}
+use Rattle.image.specs.Codes.{notRefused, longRefusal, deepRefusal, aliasPairRefusal, fullRefusal, noSide, oldSide, newSide, bothSides}
 use Rattle.image.specs.Parse.{ok, no}
 use Rattle.image.specs.Image.{readImage}
 use Rattle.rules.specs.Survivors.{nameOf, declarations}
@@ -31,12 +31,16 @@ pub record Passes (p : Policy) (image : List ℕ) (x : Schema) : Type 0 where
   pub read : readImage image ≡ ok x end
   pub alone : p .alone x ≡ none
 
+-- a number of one image
+abbrev pub OneToTen : ℕ → Type 0
+OneToTen k = (longRefusal ≤ k) × (k ≤ deepRefusal)
+
 -- where two images are decided, and to what outcome
 pub data Decided (p : Policy) (old new : List ℕ) : Outcome → Type 0 where
   -- 1 to 10, "old before new", and after them the check of one image
-  oldRefused : {k : ℕ} → readImage old ≡ no k → Decided p old new (refused k oldSide)
+  oldRefused : {k : ℕ} → OneToTen k → readImage old ≡ no k → Decided p old new (refused k oldSide)
   oldAlone : {x : Schema} {end k : ℕ} → readImage old ≡ ok x end → p .alone x ≡ some k → Decided p old new (refused k oldSide)
-  newRefused : {x : Schema} {k : ℕ} → Passes p old x → readImage new ≡ no k → Decided p old new (refused k newSide)
+  newRefused : {x : Schema} {k : ℕ} → Passes p old x → OneToTen k → readImage new ≡ no k → Decided p old new (refused k newSide)
   newAlone : {x y : Schema} {end k : ℕ} → Passes p old x → readImage new ≡ ok y end → p .alone y ≡ some k
       → Decided p old new (refused k newSide)
   -- the checks of the pair
