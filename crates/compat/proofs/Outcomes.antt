@@ -1,6 +1,6 @@
 -- Two images by stages: from what the checks say to the outcome, and what the report call makes of the verdict. Assumes nothing.
 use mathlib.Core.Path.{_≡_, refl, sym, ap, _∙_}
-use mathlib.Core.Option.{Option, none, some, Option·none-ne-some}
+use mathlib.Core.Option.{Option, none}
 use mathlib.Core.List.{List}
 use Prim.Native.Nat.{ℕ, _^_, _≤_, _<_}
 use native.Mathlib.Nat.{zero-add}
@@ -8,106 +8,75 @@ use native.Mathlib.Omega.{arith}
 use borrow.Author.Tests.{le-leb, lt-leb}
 use lib.ListN.{length}
 use Rattle.image.specs.Schema.{Schema}
-use Rattle.image.specs.Parse.{Parsed, ok, no}
-use Rattle.image.specs.Image.{readImage}
-use Rattle.refusals.proofs.Refusals.{only-ten}
+use Rattle.image.specs.Codes.{oldSide, newSide, bothSides}
 use Rattle.text.specs.Text.{put, putIn, Space}
 use Rattle.text.specs.declared.Mode.the-variants.{Measure, Write}
 use Rattle.text.proofs.Writing.{space-measure, space-write}
-use Rattle.parts.specs.Promise.{Accepted, schemaOf}
+use Rattle.parts.specs.Promise.{schemaOf}
 use Rattle.parts.proofs.Promise.{accepted-read, read-accepted}
 use Rattle.rules.specs.Report.{report}
 use Rattle.rules.specs.Outcome.{Outcome, refused, answered, fit, written}
-use Rattle.rules.specs.Answer.{oldSide, newSide, bothSides, Fault, fault, Policy as Definition, compared, firstFault, judged, onSide, comparePair, acceptNew, acceptOld, outcome, aliasCheck, plain, reportBy}
-use Rattle.rules.specs.Refusals.{Decided, oldRefused, oldAlone, newRefused, newAlone, pairRefused, verdict}
-use Rattle.rules.proofs.Answer.{decided}
+use Rattle.rules.specs.Answer.{Fault, Policy as Definition, compared, judged, faultIn, comparePair, outcome, reportBy}
+use Rattle.rules.specs.Refusals.{Passes, Decided, oldRefused, oldAlone, newRefused, newAlone, pairRefused, verdict}
+use Rattle.rules.proofs.Answer.{no-fault, old-fault, new-fault, both-pass, decided}
 use Rattle.rules.proofs.Bound.{report-bound}
 use Rattle.items.specs.Pairs.{BothAccepted}
 use Rattle.verdicts.specs.Verdicts.{refusedBy, verdictIs}
 use Rattle.verdicts.specs.declared.Verdict.{Verdict}
-use Rattle.compat.specs.Policies.{policyOf, changesBy, faultOf, imageFault, Passing}
+use Rattle.compat.specs.Policies.{policyOf, changesBy, faultOf, Passing}
 use Rattle.compat.specs.Passes.{Passed, Reported}
 use Rattle.compat.specs.declared.policies.Policy.{Policy}
 use Rattle.compat.specs.declared.policies.Judged.{Judged}
-use Rattle.compat.specs.declared.policies.Judged.the-variants.{Passes, Fault as Faulty}
+use Rattle.compat.specs.declared.policies.Judged.the-variants as judging
 use Rattle.compat.proofs.Policies.{policy-numbered, policy-bounded}
 
 -- ---- what a check says
 
 module _ {j : Judged} {o : Option Fault} (e : faultOf j ≡ o) where
-  pub says-none : j ≡ Passes → o ≡ none
+  pub says-none : j ≡ judging.Passes → o ≡ none
   unfolding faultOf
   says-none p = sym e ∙ ap faultOf p
 
-  pub passes-on : j ≡ Passes → (u : Outcome) → u ≡ judged o u
+  pub passes-on : j ≡ judging.Passes → (u : Outcome) → u ≡ judged o u
   unfolding judged
   passes-on p u = rw (says-none p)
 
-  pub fault-told : {n s : ℕ} → j ≡ Faulty n s → (u : Outcome) → refusedBy n s ≡ verdictIs (judged o u)
+  pub fault-told : {n s : ℕ} → j ≡ judging.Fault n s → (u : Outcome) → refusedBy n s ≡ verdictIs (judged o u)
   unfolding faultOf judged verdictIs
   fault-told p u = rw (sym e ∙ ap faultOf p)
-
--- ---- one image
-
-module _ (p : Definition) (side : ℕ) (s : List ℕ) where
-  pub accepted-fault : Accepted s → onSide side (p .alone (schemaOf s)) ≡ imageFault p side (readImage s)
-  unfolding imageFault
-  accepted-fault g = rw (accepted-read s g .1)
-
-  pub rejected-fault : {k : ℕ} → readImage s ≡ no k → some (fault k side) ≡ imageFault p side (readImage s)
-  unfolding imageFault
-  rejected-fault e = rw e
-
-  -- an image without a fault is accepted, and passes alone
-  no-fault : imageFault p side (readImage s) ≡ none → Accepted s × (onSide side (p .alone (schemaOf s)) ≡ none)
-  unfolding imageFault
-  no-fault = go (readImage s) refl
-    where
-      go : (r : Parsed Schema) → readImage s ≡ r → imageFault p side r ≡ none → Accepted s × (onSide side (p .alone (schemaOf s)) ≡ none)
-      go (ok x n) q e = let a = read-accepted s q in (a .0, rw (a .1) e)
-      go (no k) q e = absurd (Option·none-ne-some _ (sym e))
 
 -- ---- two images
 
 module _ (p : Policy) (old new : List ℕ) where
-  pub old-fault : {j : Judged} → faultOf j ≡ imageFault (policyOf p) oldSide (readImage old) → {n s : ℕ} → j ≡ Faulty n s
+  pub old-refused : {j : Judged} → faultOf j ≡ faultIn (policyOf p) oldSide old → {n s : ℕ} → j ≡ judging.Fault n s
       → refusedBy n s ≡ verdictIs (outcome (policyOf p) old new)
-  unfolding outcome
-  old-fault {j} e {n} {s} q = go (readImage old) e
-    where
-      go : (r : Parsed Schema) → faultOf j ≡ imageFault (policyOf p) oldSide r → refusedBy n s ≡ verdictIs (acceptOld (policyOf p) r (readImage new))
-      unfolding acceptOld imageFault judged
-      go (ok x m) e = fault-told e q (acceptNew (policyOf p) x (readImage new))
-      go (no k) e = fault-told e q (refused 0 0)
+  unfolding faultOf verdictIs
+  old-refused e q = sym (ap verdictIs (old-fault (policyOf p) old new (sym e ∙ ap faultOf q)))
 
   module _ (a : Passing p oldSide old) where
-    pub old-accepted : Accepted old
+    old-passes : (x : Schema) × Passes (policyOf p) old x
     unfolding Passing
-    old-accepted = no-fault (policyOf p) oldSide old a .0
+    old-passes = no-fault (policyOf p) oldSide old a
 
-    outcome-new : outcome (policyOf p) old new ≡ acceptNew (policyOf p) (schemaOf old) (readImage new)
-    unfolding outcome acceptOld judged Passing
-    outcome-new = rw (accepted-read old old-accepted .1, no-fault (policyOf p) oldSide old a .1)
-
-    pub new-fault : {j : Judged} → faultOf j ≡ imageFault (policyOf p) newSide (readImage new) → {n s : ℕ} → j ≡ Faulty n s
+    pub new-refused : {j : Judged} → faultOf j ≡ faultIn (policyOf p) newSide new → {n s : ℕ} → j ≡ judging.Fault n s
         → refusedBy n s ≡ verdictIs (outcome (policyOf p) old new)
-    new-fault {j} e {n} {s} q = rw outcome-new (go (readImage new) e)
-      where
-        go : (r : Parsed Schema) → faultOf j ≡ imageFault (policyOf p) newSide r → refusedBy n s ≡ verdictIs (acceptNew (policyOf p) (schemaOf old) r)
-        unfolding acceptNew imageFault judged
-        go (ok y m) e = fault-told e q (comparePair (policyOf p) (schemaOf old) y)
-        go (no k) e = fault-told e q (refused 0 0)
+    unfolding faultOf verdictIs
+    new-refused e q = sym (ap verdictIs (new-fault (policyOf p) old new (old-passes .1) (sym e ∙ ap faultOf q)))
 
     module _ (b : Passing p newSide new) where
-      pub both-accepted : BothAccepted old new
+      new-passes : (y : Schema) × Passes (policyOf p) new y
       unfolding Passing
-      both-accepted = (old-accepted, no-fault (policyOf p) newSide new b .0)
+      new-passes = no-fault (policyOf p) newSide new b
 
-      pub both-pass : comparePair (policyOf p) (schemaOf old) (schemaOf new) ≡ outcome (policyOf p) old new
-      unfolding acceptNew judged Passing
-      both-pass = rw (outcome-new, accepted-read new (both-accepted .1) .1, no-fault (policyOf p) newSide new b .1)
+      pub both-accepted : BothAccepted old new
+      both-accepted = (read-accepted old (old-passes .1 .read) .0, read-accepted new (new-passes .1 .read) .0)
 
-  pub passing : (side : ℕ) (s : List ℕ) {j : Judged} → faultOf j ≡ imageFault (policyOf p) side (readImage s) → j ≡ Passes → Passing p side s
+      pub pair-outcome : comparePair (policyOf p) (schemaOf old) (schemaOf new) ≡ outcome (policyOf p) old new
+      pair-outcome =
+          rw (read-accepted old (old-passes .1 .read) .1, read-accepted new (new-passes .1 .read) .1)
+          (sym (both-pass (policyOf p) old new (old-passes .1) (new-passes .1)))
+
+  pub passing : (side : ℕ) (s : List ℕ) {j : Judged} → faultOf j ≡ faultIn (policyOf p) side s → j ≡ judging.Passes → Passing p side s
   unfolding Passing
   passing side s e q = says-none e q
 
@@ -137,9 +106,9 @@ module _ (p : Policy) (old new : List ℕ) where
   told = go (decided (policyOf p) old new)
     where
       go : {o : Outcome} → Decided (policyOf p) old new o → verdictIs o .number ≡ 0 → Told o
-      go (oldRefused q) z = absurd (omega (arith, only-ten old _ q))
+      go (oldRefused l q) z = absurd (omega arith)
       go (oldAlone q e) z = absurd (policy-numbered p .alone _ _ e .0 z)
-      go (newRefused a q) z = absurd (omega (arith, only-ten new _ q))
+      go (newRefused a l q) z = absurd (omega arith)
       go (newAlone a q e) z = absurd (policy-numbered p .alone _ _ e .0 z)
       go (pairRefused a b e) z = absurd (policy-numbered p .pair _ _ _ e .0 z)
       go (verdict a b e) z =

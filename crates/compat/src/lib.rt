@@ -2,15 +2,16 @@
 // the old image, accept the new one, judge the pair, measure the report, write it.
 pub mod policies;
 
-use crate::policies::BOTH;
 use crate::policies::Judged;
-use crate::policies::NEW;
-use crate::policies::OLD;
 use crate::policies::Policy;
 use crate::policies::judge_alone;
 use crate::policies::judge_pair;
 use crate::policies::walk_of;
 use checking::check;
+use image::refusals::FULL;
+use image::sides::BOTH;
+use image::sides::NEW;
+use image::sides::OLD;
 use items::Walk;
 use lines::reporting::put_last_line;
 use reader::Acceptance;
@@ -18,18 +19,18 @@ use reader::read_image;
 use text::Mode;
 use verdicts::Verdict;
 ghost use mathlib.Core.Path.{_≡_};
-ghost use Rattle.image.specs.Image.{readImage};
 ghost use Rattle.parts.specs.Promise.{schemaOf};
-ghost use Rattle.rules.specs.Answer.{oldSide, compared, comparePair, outcome};
+ghost use Rattle.image.specs.Codes.{oldSide};
+ghost use Rattle.rules.specs.Answer.{compared, faultIn, comparePair, outcome};
 ghost use Rattle.items.specs.Pairs.{BothAccepted};
 ghost use Rattle.checking.specs.Decls.{allChanges};
 ghost use Rattle.verdicts.specs.Verdicts.{verdictIs};
-ghost use Rattle.compat.specs.Policies.{policyOf, changesBy, faultOf, imageFault, Passing};
+ghost use Rattle.compat.specs.Policies.{policyOf, changesBy, faultOf, Passing};
 ghost use Rattle.compat.specs.Passes.{ReportSpace, Passed, Reported};
 
 // One image: 1 to 10, and then the check of one image.
 fn accept(policy: Policy, image: &[u8], side: u8) -> Judged
-    ensures { λ r. ⌜ faultOf r ≡ imageFault (policyOf policy) side (readImage (now (image .entry))) ⌝ }
+    ensures { λ r. ⌜ faultOf r ≡ faultIn (policyOf policy) side (now (image .entry)) ⌝ }
 {
     match read_image(image) {
         Acceptance::Accepted => judge_alone(policy, image, side),
@@ -98,7 +99,7 @@ pub fn report(policy: Policy, old: &[u8], new: &[u8], out: &mut [u8]) -> Verdict
         return v;
     }
     if out.len() < v.length {
-        return Verdict::refused(12, BOTH);
+        return Verdict::refused(FULL, BOTH);
     }
     pass(walk_of(policy, Mode::Write), old, new, out)
 }

@@ -1,5 +1,7 @@
 // What is special to a verdict: a further one is a further case of `Policy`, here and in the functions that take a policy apart.
 use checking::aliases::alias_pair;
+use image::refusals::ALIAS_PAIR;
+use image::sides::BOTH;
 use items::Walk;
 use text::Mode;
 use types::Reading;
@@ -19,13 +21,6 @@ pub enum Judged {
     Passes,
     Fault(u8, u8),
 }
-
-// The sides.
-pub const OLD: u8 = 1;
-
-pub const NEW: u8 = 2;
-
-pub const BOTH: u8 = 3;
 
 // How the walk of a verdict reads.
 pub fn walk_of(policy: Policy, mode: Mode) -> Walk
@@ -55,7 +50,7 @@ fn judge_aliases(old: &[u8], new: &[u8]) -> Judged
     ensures { λ r. ⌜ faultOf r ≡ firstFault (plain .pair) (schemaOf (now (old .entry))) (schemaOf (now (new .entry))) ⌝ }
 {
     if alias_pair(old, new) {
-        return Judged::Fault(11, BOTH);
+        return Judged::Fault(ALIAS_PAIR, BOTH);
     }
     Judged::Passes
 }
