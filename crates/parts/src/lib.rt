@@ -6,6 +6,10 @@ pub mod entries;
 pub mod names;
 pub mod types;
 
+// The names of the kinds and tags that the accessors answer.
+pub use image::kinds;
+pub use image::tags;
+
 // What an id stands for: a declaration whose body starts at a place, or nothing.
 pub enum Entry {
     Body(usize),
