@@ -7,16 +7,15 @@ from pathlib import Path
 BUILT = {"logic-built", "libraries-built"}
 # Libraries of the kit whose contracts lean on assumed ones. The verdict of a library above them does not say so.
 ASSUMED = {"libc", "io", "os"}
-# What the crates above `parts` may not name: the modules of `image`, and of the crates between it and `parts`, but for the values, the words
-# and the names of numbers; and the laws that the promise of `parts` rests on. `members` reads parts of an accepted image, as `parts` does,
-# and rests on both; `claims` has no code and gathers the theorems of all crates.
+# What the crates above `parts` may not name: the modules of `image`, and of the crates between it and `parts`, but for the values and the
+# words; and the laws that the promise of `parts` rests on. `members` reads parts of an accepted image, as `parts` does, and rests on both;
+# `claims` has no code and gathers the theorems of all crates.
 BEHIND = re.compile(
-    r"Rattle·(?:(?:image|refusals|written|reader)\.(?!specs\.(?:Schema|Words|Kinds|Codes|declared)\b)\w+|parts\.proofs\.Laws\b)(?:\.\w+)*"
+    r"Rattle·(?:(?:image|refusals|written|reader)\.(?!specs\.Schema\b|specs\.Words\b|specs\.declared\b)\w+|parts\.proofs\.Laws\b)(?:\.\w+)*"
 )
 INSIDE = {"members", "claims"}
-# What their code may not call: what `image` and `reader` read by, but for reading an image; the names of numbers, and how many inner types
-# a tag has, ask for no image.
-CALLED = re.compile(r"\b(?:image::(?!types::inner_types\b|(?:refusals|sides|kinds|tags)\b)|reader::(?!(?:Acceptance|read_image)\b)|use (?:image|reader)\b(?!::))[\w:]*")
+# What their code may not call: what `image` and `reader` read by, but for reading an image; how many inner types a tag has asks for no image.
+CALLED = re.compile(r"\b(?:image::(?!types::inner_types\b)|reader::(?!(?:Acceptance|read_image)\b)|use (?:image|reader)\b(?!::))[\w:]*")
 # Crates above `parts` whose definitions start from what reading an image gives; their proofs rest on the promise.
 DEFINE = {"listing"}
 

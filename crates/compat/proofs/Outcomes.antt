@@ -8,7 +8,7 @@ use native.Mathlib.Omega.{arith}
 use borrow.Author.Tests.{le-leb, lt-leb}
 use lib.ListN.{length}
 use Rattle.image.specs.Schema.{Schema}
-use Rattle.image.specs.Codes.{oldSide, newSide, bothSides}
+use Rattle.parts.specs.Codes.{oldSide, newSide, bothSides}
 use Rattle.text.specs.Text.{put, putIn, Space}
 use Rattle.text.specs.declared.Mode.the-variants.{Measure, Write}
 use Rattle.text.proofs.Writing.{space-measure, space-write}

@@ -1,7 +1,7 @@
 // What is special to a verdict: a further one is a further case of `Policy`, here and in the functions that take a policy apart.
 use checking::aliases::alias_pair;
-use image::refusals::ALIAS_PAIR;
-use image::sides::BOTH;
+use parts::refusals::ALIAS_PAIR;
+use parts::sides::BOTH;
 use items::Walk;
 use text::Mode;
 use types::Reading;

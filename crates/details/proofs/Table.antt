@@ -11,7 +11,7 @@ use lib.Dec.{leb}
 use lib.ListN.{length, getD, take, drop, List·getD-append}
 use lib.Seq.{getD-append-add}
 use Rattle.image.specs.Words.{bytes, kindNames, kindWord}
-use Rattle.image.proofs.Laws.Kinds.{kind-named}
+use Rattle.parts.proofs.Promise.{kind-named}
 use Rattle.maps.proofs.Tests.{both}
 use Rattle.rules.specs.Equal.{sameName}
 use Rattle.rules.specs.Text.{word}

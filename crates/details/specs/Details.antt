@@ -28,11 +28,15 @@ use Rattle.details.specs.declared.Values.{Values}
 use Rattle.details.specs.declared.Values.the-variants as values
 use Rattle.details.specs.declared.Detail.{Detail}
 
+-- a union's variant, by the places of the union's body and of the variant
+abbrev pub variantName : List ℕ → ℕ → ℕ → Name
+variantName s decl at = variantDecl (declIn s decl .name) (variantIn s at)
+
 unfoldable pub declarationOf : List ℕ → List ℕ → Scope → Name
 declarationOf old new scope.Schema = []
 declarationOf old new (scope.Old at) = declIn old at .name
 declarationOf old new (scope.New at) = declIn new at .name
-declarationOf old new (scope.Variant decl at) = variantDecl (declIn old decl .name) (variantIn old at)
+declarationOf old new (scope.Variant decl at) = variantName old decl at
 
 unfoldable pub itemOf : List ℕ → List ℕ → Item → Option Name
 itemOf old new item.Nothing = none
@@ -89,9 +93,13 @@ valueText s (value.Type at) = showType (resolve (schemaOf s .registry) (treeIn s
 valueText s (value.Encoding at) = showEncoding (fieldIn s at .encoding)
 valueText s value.Namespace = showNamespace (schemaOf s .namespace)
 
+-- a value of the old image and one of the new
+abbrev pub fromToText : List ℕ → List ℕ → Value → Value → List ℕ
+fromToText old new a b = fromTo (valueText old a) (valueText new b)
+
 unfoldable pub valuesText : List ℕ → List ℕ → Values → List ℕ
 valuesText old new values.Unsaid = []
-valuesText old new (values.FromTo a b) = fromTo (valueText old a) (valueText new b)
+valuesText old new (values.FromTo a b) = fromToText old new a b
 
 unfoldable pub detailText : List ℕ → List ℕ → Detail → List ℕ
 detailText old new d = subjectText old new (d .subject) ++ (verbText (d .verb) ++ valuesText old new (d .values))
@@ -133,6 +141,13 @@ ValueHere s value.Namespace = Unit {0}
 unfoldable pub ValuesHere : List ℕ → List ℕ → Values → Type 0
 ValuesHere old new values.Unsaid = Unit {0}
 ValuesHere old new (values.FromTo a b) = ValueHere old a × ValueHere new b
+
+-- what is asked before a value of each image is shown, and before the values of a detail are: both images are accepted too
+abbrev pub FromToHere : List ℕ → List ℕ → Value → Value → Type 0
+FromToHere old new a b = Accepted old × Accepted new × ValueHere old a × ValueHere new b
+
+abbrev pub ShownHere : List ℕ → List ℕ → Values → Type 0
+ShownHere old new v = Accepted old × Accepted new × ValuesHere old new v
 
 pub record DetailHere (old new : List ℕ) (d : Detail) : Type 0 where
   pub accepted : Accepted old × Accepted new

@@ -60,6 +60,7 @@ pub enum Subject {
     FieldOrdinal(usize),
 }
 
+// What happened to the subject.
 pub enum Verb {
     Removed,
     Added,
@@ -87,12 +88,14 @@ pub enum Values {
     FromTo(Value, Value),
 }
 
+// A detail in its parts.
 pub struct Detail {
     pub subject: Subject,
     pub verb: Verb,
     pub values: Values,
 }
 
+// What happened to the subject.
 fn put_verb(mode: Mode, out: &mut [u8], at: usize, verb: Verb) -> usize
     requires { ⌜ Space mode (now out) at (length (verbText verb)) ⌝ }
     ensures { λ r. ⌜ Puts mode (now (out .entry)) at (verbText verb) r (now (out .exit)) ⌝ }
@@ -108,6 +111,7 @@ fn put_verb(mode: Mode, out: &mut [u8], at: usize, verb: Verb) -> usize
     }
 }
 
+// Subject, verb and values.
 pub fn put_detail(
     mode: Mode,
     old: &[u8],

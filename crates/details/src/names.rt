@@ -8,14 +8,14 @@ use text::put_byte;
 use text::put_text;
 ghost use mathlib.Core.Option.{some};
 ghost use lib.ListN.{length};
-ghost use Rattle.parts.specs.Promise.{ItemHere, variantIn, DeclHere, declIn};
+ghost use Rattle.parts.specs.Promise.{ItemHere, DeclHere};
 ghost use Rattle.parts.specs.declared.Shape.{Shape};
 ghost use Rattle.rules.specs.Changes.{quoted};
-ghost use Rattle.rules.specs.Clauses.{variantDecl};
 ghost use Rattle.rules.specs.Report.{fieldPart};
 ghost use Rattle.text.specs.Text.{Space, Puts};
-ghost use Rattle.details.specs.Details.{declarationOf, itemOf, ScopeHere, ItemOfHere};
+ghost use Rattle.details.specs.Details.{variantName, declarationOf, itemOf, ScopeHere, ItemOfHere};
 
+// 'Drive'
 pub(crate) fn put_quoted(mode: Mode, out: &mut [u8], at: usize, name: &[u8]) -> usize
     requires { ⌜ Space mode (now out) at (length (quoted (now name))) ⌝ }
     ensures { λ r. ⌜ Puts mode (now (out .entry)) at (quoted (now (name .entry))) r (now (out .exit)) ⌝ }
@@ -34,14 +34,15 @@ fn put_variant(
     decl: usize,
     variant: usize,
 ) -> usize
-    requires { ⌜ DeclHere (now old) decl × ItemHere Shape.Variant (now old) variant × Space mode (now out) at (length (variantDecl (declIn (now old) decl .name) (variantIn (now old) variant))) ⌝ }
-    ensures { λ r. ⌜ Puts mode (now (out .entry)) at (variantDecl (declIn (now (old .entry)) decl .name) (variantIn (now (old .entry)) variant)) r (now (out .exit)) ⌝ }
+    requires { ⌜ DeclHere (now old) decl × ItemHere Shape.Variant (now old) variant × Space mode (now out) at (length (variantName (now old) decl variant)) ⌝ }
+    ensures { λ r. ⌜ Puts mode (now (out .entry)) at (variantName (now (old .entry)) decl variant) r (now (out .exit)) ⌝ }
 {
     let at = put_text(mode, out, at, decl_name(old, decl));
     let at = put_text(mode, out, at, b"::");
     put_text(mode, out, at, item_name(old, variant))
 }
 
+// The name of the declaration that a change is in.
 pub fn put_declaration(
     mode: Mode,
     old: &[u8],
@@ -61,6 +62,7 @@ pub fn put_declaration(
     }
 }
 
+// `+` and a field's name.
 fn put_plus(mode: Mode, out: &mut [u8], at: usize, name: &[u8]) -> usize
     requires { ⌜ Space mode (now out) at (length (fieldPart (some (now name)))) ⌝ }
     ensures { λ r. ⌜ Puts mode (now (out .entry)) at (fieldPart (some (now (name .entry)))) r (now (out .exit)) ⌝ }

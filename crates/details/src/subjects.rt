@@ -18,6 +18,7 @@ ghost use Rattle.rules.specs.Clauses.{declText};
 ghost use Rattle.text.specs.Text.{Space, Puts};
 ghost use Rattle.details.specs.Details.{wordText, itemText, newtypeText, fieldNameText, fieldOrdinalText, subjectText, SubjectHere};
 
+// What an item is called.
 fn put_item_word(mode: Mode, out: &mut [u8], at: usize, word: Word) -> usize
     requires { ⌜ Space mode (now out) at (length (wordText word)) ⌝ }
     ensures { λ r. ⌜ Puts mode (now (out .entry)) at (wordText word) r (now (out .exit)) ⌝ }
@@ -79,6 +80,7 @@ fn put_field_ordinal(mode: Mode, image: &[u8], out: &mut [u8], at: usize, field:
     put_number(mode, out, at, ordinal_at(image, field) as u64)
 }
 
+// What the detail says something of.
 pub fn put_subject(
     mode: Mode,
     old: &[u8],

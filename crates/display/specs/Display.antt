@@ -5,10 +5,10 @@ use Prim.Native.Nat.{ℕ, zero, suc}
 use Rattle.image.specs.Schema.{Name}
 use Rattle.image.specs.Words.{bytes}
 use Rattle.parts.specs.Promise.{typeEnd}
-use Rattle.rules.specs.Text.{joined, showType}
+use Rattle.rules.specs.Text.{joined, showLeaf, showSize, showType}
 use Rattle.text.specs.Text.{Puts}
 use Rattle.text.specs.declared.Mode.{Mode}
-use Rattle.types.specs.Resolved.{typeIn}
+use Rattle.types.specs.Resolved.{nodeIn, typeIn}
 use Rattle.display.specs.declared.Shown.{Shown}
 
 -- a namespace without the quotes
@@ -20,7 +20,17 @@ unfoldable pub repeated : ℕ → List ℕ → List ℕ
 repeated zero text = []
 repeated (suc n) text = text ++ repeated n text
 
+-- the text of the type whose node stands at a place of s: without inner types, its size, and whole
+abbrev pub leafText : List ℕ → ℕ → List ℕ
+leafText s node = showLeaf (nodeIn s node)
+
+abbrev pub sizeText : List ℕ → ℕ → List ℕ
+sizeText s node = showSize (nodeIn s node)
+
+abbrev pub typeText : List ℕ → ℕ → List ℕ
+typeText s node = showType (typeIn s node)
+
 -- the type at a place of s is shown at a place of the buffer d, and r has the places after both
-pub record Displayed (mode : Mode) (d : List ℕ) (at : ℕ) (s : List ℕ) (t : ℕ) (r : Shown) (d′ : List ℕ) : Type 0 where
-  pub puts : Puts mode d at (showType (typeIn s t)) (r .text) d′
-  pub end : r .next ≡ typeEnd s t
+pub record Displayed (mode : Mode) (d : List ℕ) (at : ℕ) (s : List ℕ) (node : ℕ) (r : Shown) (d′ : List ℕ) : Type 0 where
+  pub puts : Puts mode d at (typeText s node) (r .text) d′
+  pub end : r .next ≡ typeEnd s node

@@ -9,6 +9,7 @@ ghost use Rattle.rules.specs.Text.{showEncoding};
 ghost use Rattle.text.specs.Text.{Space, Puts};
 ghost use Rattle.display.specs.Display.{repeated};
 
+// A text so many times.
 fn put_times(mode: Mode, out: &mut [u8], at: usize, s: &[u8], times: usize) -> usize
     requires { ⌜ Space mode (now out) at (length (repeated times (now s))) ⌝ }
     ensures { λ r. ⌜ Puts mode (now (out .entry)) at (repeated times (now (s .entry))) r (now (out .exit)) ⌝ }
@@ -22,6 +23,7 @@ fn put_times(mode: Mode, out: &mut [u8], at: usize, s: &[u8], times: usize) -> u
     done
 }
 
+// `delta(varint)`: the base inside of its deltas.
 pub fn encoding_display(mode: Mode, out: &mut [u8], at: usize, e: Encoding) -> usize
     requires { ⌜ Space mode (now out) at (length (showEncoding (codingOf e))) ⌝ }
     ensures { λ r. ⌜ Puts mode (now (out .entry)) at (showEncoding (codingOf e)) r (now (out .exit)) ⌝ }

@@ -6,6 +6,7 @@ ghost use lib.ListN.{length};
 ghost use Rattle.text.specs.Text.{Space, Puts};
 ghost use Rattle.display.specs.Words.{wordIn, WordEnd, WordStart};
 
+// Where the word from a place on ends.
 fn word_end(words: &[u8], at: usize) -> usize
     requires { ⌜ at ≤ length (now words) ⌝ }
     ensures { λ r. ⌜ WordEnd (now (words .entry)) at r ⌝ }
@@ -20,6 +21,7 @@ fn word_end(words: &[u8], at: usize) -> usize
     end
 }
 
+// Where the word with a number starts.
 fn word_start(words: &[u8], number: u8) -> usize
     ensures { λ r. ⌜ WordStart (now (words .entry)) number r ⌝ }
 {
@@ -36,6 +38,7 @@ fn word_start(words: &[u8], number: u8) -> usize
     at
 }
 
+// The word with a number.
 pub fn put_word(mode: Mode, out: &mut [u8], at: usize, words: &[u8], number: u8) -> usize
     requires { ⌜ Space mode (now out) at (length (wordIn (now words) number)) ⌝ }
     ensures { λ r. ⌜ Puts mode (now (out .entry)) at (wordIn (now (words .entry)) number) r (now (out .exit)) ⌝ }

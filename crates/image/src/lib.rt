@@ -9,6 +9,7 @@ pub mod sides;
 pub mod tags;
 pub mod types;
 
+// What a read answers.
 pub enum Read {
     // The position after what was read.
     At(usize),

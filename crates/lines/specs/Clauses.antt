@@ -51,8 +51,8 @@ fieldRenamed scope i j =
 
 -- with the places of the two types
 abbrev pub fieldTypeChanged : Scope → ℕ → ℕ → ℕ → Site
-fieldTypeChanged scope j t u =
-    site FieldTypeChanged 2 scope (Item.New j) (Subject.NewItem Word.Field j) Verb.TypeChanged (Values.FromTo (Value.Type t) (Value.Type u))
+fieldTypeChanged scope j from to =
+    site FieldTypeChanged 2 scope (Item.New j) (Subject.NewItem Word.Field j) Verb.TypeChanged (Values.FromTo (Value.Type from) (Value.Type to))
 
 abbrev pub fieldEncodingChanged : Scope → ℕ → ℕ → Site
 fieldEncodingChanged scope i j =
@@ -88,5 +88,5 @@ bitAdded decl j = site FlagsBitAdded 1 (Scope.Old decl) (Item.New j) (Subject.Ne
 -- 8. newtypes, with the places of the two types
 
 abbrev pub newtypeChanged : ℕ → ℕ → ℕ → Site
-newtypeChanged decl t u =
-    site FieldTypeChanged 2 (Scope.Old decl) Item.Nothing (Subject.Newtype decl) Verb.TypeChanged (Values.FromTo (Value.Type t) (Value.Type u))
+newtypeChanged decl from to =
+    site FieldTypeChanged 2 (Scope.Old decl) Item.Nothing (Subject.Newtype decl) Verb.TypeChanged (Values.FromTo (Value.Type from) (Value.Type to))

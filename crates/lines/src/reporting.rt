@@ -20,7 +20,7 @@ ghost use Rattle.tally.specs.Reporting.{Ready, Ran};
 ghost use Rattle.lines.specs.Sites.{changeOf, SiteHere};
 ghost use Rattle.lines.specs.Last.{lastLineOf};
 
-// From the start of the part of the buffer that it is lent.
+// The line of a change, from the start of the part of the buffer that it is lent.
 fn put_line(mode: Mode, old: &[u8], new: &[u8], out: &mut [u8], site: Site) -> usize
     requires { ⌜ SiteHere (now old) (now new) site × Space mode (now out) 0 (length (changeLine (changeOf (now old) (now new) site))) ⌝ }
     ensures { λ r. ⌜ Puts mode (now (out .entry)) 0 (changeLine (changeOf (now (old .entry)) (now (new .entry)) site)) r (now (out .exit)) ⌝ }
@@ -41,6 +41,7 @@ fn put_line(mode: Mode, old: &[u8], new: &[u8], out: &mut [u8], site: Site) -> u
     put_byte(mode, out, at, b'\n')
 }
 
+// A change is counted, and its line measured or written after the lines before it.
 pub fn emit(mode: Mode, old: &[u8], new: &[u8], out: &mut [u8], t: Tally, site: Site) -> Tally
     requires { ⌜ SiteHere (now old) (now new) site × Ready mode (now out) t (changeOf (now old) (now new) site ∷ []) ⌝ }
     ensures { λ r. ⌜ Ran mode (now (out .entry)) t (changeOf (now (old .entry)) (now (new .entry)) site ∷ []) r (now (out .exit)) ⌝ }
@@ -49,10 +50,10 @@ pub fn emit(mode: Mode, old: &[u8], new: &[u8], out: &mut [u8], t: Tally, site: 
     let bump = site.bump;
     let done = start_in(mode, t.length);
     let n = put_line(mode, old, new, &mut out[done..], site);
-    t.counted(kind, bump, n)
+    t.with_change(kind, bump, n)
 }
 
-// From the start of the part of the buffer that it is lent.
+// The last line, from the start of the part of the buffer that it is lent.
 fn put_result(mode: Mode, out: &mut [u8], t: Tally) -> usize
     requires { ⌜ (t .bump .level ≤ 2) × Space mode (now out) 0 (length (lastLineOf t)) ⌝ }
     ensures { λ r. ⌜ Puts mode (now (out .entry)) 0 (lastLineOf t) r (now (out .exit)) ⌝ }

@@ -1,5 +1,5 @@
-// A site for each change that a clause reports. i and j are places in the old and in the new image, t and u those of types in them; `decl`
-// is the place of a body in the old image.
+// A site for each change that a clause reports. i and j are places in the old and in the new image, `from` and `to` those of types in them;
+// `decl` is the place of a body in the old image.
 use crate::Site;
 use details::Detail;
 use details::Item;
@@ -61,7 +61,7 @@ pub fn namespace_changed() -> Site
     }
 }
 
-// 2. and 3. Declarations.
+// 2. A declaration that only the old image has.
 pub fn decl_removed(i: usize) -> Site
     ensures { λ r. ⌜ r ≡ declRemoved i ⌝ }
 {
@@ -78,6 +78,7 @@ pub fn decl_removed(i: usize) -> Site
     }
 }
 
+// And one that only the new image has.
 pub fn decl_added(j: usize) -> Site
     ensures { λ r. ⌜ r ≡ declAdded j ⌝ }
 {
@@ -94,6 +95,7 @@ pub fn decl_added(j: usize) -> Site
     }
 }
 
+// 3. A declaration of another kind.
 pub fn kind_changed(i: usize, j: usize) -> Site
     ensures { λ r. ⌜ r ≡ kindChanged i j ⌝ }
 {
@@ -110,7 +112,7 @@ pub fn kind_changed(i: usize, j: usize) -> Site
     }
 }
 
-// 4. Fields, and a message's own deprecation.
+// 4. A field that only the old image has.
 pub fn field_removed(scope: Scope, i: usize) -> Site
     ensures { λ r. ⌜ r ≡ fieldRemoved scope i ⌝ }
 {
@@ -127,6 +129,7 @@ pub fn field_removed(scope: Scope, i: usize) -> Site
     }
 }
 
+// And one that only the new image has.
 pub fn field_added(scope: Scope, j: usize) -> Site
     ensures { λ r. ⌜ r ≡ fieldAdded scope j ⌝ }
 {
@@ -143,6 +146,7 @@ pub fn field_added(scope: Scope, j: usize) -> Site
     }
 }
 
+// A field of another name.
 pub fn field_renamed(scope: Scope, i: usize, j: usize) -> Site
     ensures { λ r. ⌜ r ≡ fieldRenamed scope i j ⌝ }
 {
@@ -159,8 +163,9 @@ pub fn field_renamed(scope: Scope, i: usize, j: usize) -> Site
     }
 }
 
-pub fn field_type_changed(scope: Scope, j: usize, t: usize, u: usize) -> Site
-    ensures { λ r. ⌜ r ≡ fieldTypeChanged scope j t u ⌝ }
+// A field of another type.
+pub fn field_type_changed(scope: Scope, j: usize, from: usize, to: usize) -> Site
+    ensures { λ r. ⌜ r ≡ fieldTypeChanged scope j from to ⌝ }
 {
     Site {
         kind: FIELD_TYPE_CHANGED,
@@ -170,11 +175,12 @@ pub fn field_type_changed(scope: Scope, j: usize, t: usize, u: usize) -> Site
         detail: Detail {
             subject: Subject::NewItem(Word::Field, j),
             verb: Verb::TypeChanged,
-            values: Values::FromTo(Value::Type(t), Value::Type(u)),
+            values: Values::FromTo(Value::Type(from), Value::Type(to)),
         },
     }
 }
 
+// A field of another encoding or limit.
 pub fn field_encoding_changed(scope: Scope, i: usize, j: usize) -> Site
     ensures { λ r. ⌜ r ≡ fieldEncodingChanged scope i j ⌝ }
 {
@@ -191,6 +197,7 @@ pub fn field_encoding_changed(scope: Scope, i: usize, j: usize) -> Site
     }
 }
 
+// A field that has become deprecated.
 pub fn field_deprecated(scope: Scope, j: usize) -> Site
     ensures { λ r. ⌜ r ≡ fieldDeprecated scope j ⌝ }
 {
@@ -207,6 +214,7 @@ pub fn field_deprecated(scope: Scope, j: usize) -> Site
     }
 }
 
+// A message that has become deprecated.
 pub fn decl_deprecated(i: usize) -> Site
     ensures { λ r. ⌜ r ≡ declDeprecated i ⌝ }
 {
@@ -223,7 +231,7 @@ pub fn decl_deprecated(i: usize) -> Site
     }
 }
 
-// 5. and 7. Variants of enums and of unions.
+// 5. An enum whose mark for non-exhaustive has changed.
 pub fn non_exhaustive_changed(i: usize, j: usize) -> Site
     ensures { λ r. ⌜ r ≡ nonExhaustiveChanged i j ⌝ }
 {
@@ -240,6 +248,7 @@ pub fn non_exhaustive_changed(i: usize, j: usize) -> Site
     }
 }
 
+// 5. and 7. A variant that only the old image has.
 pub fn variant_removed(decl: usize, i: usize) -> Site
     ensures { λ r. ⌜ r ≡ variantRemoved decl i ⌝ }
 {
@@ -256,6 +265,7 @@ pub fn variant_removed(decl: usize, i: usize) -> Site
     }
 }
 
+// And one that only the new image has; its bump is that of the enum or the union.
 pub fn variant_added(bump: Bump, decl: usize, j: usize) -> Site
     ensures { λ r. ⌜ r ≡ variantAdded (bump .level) decl j ⌝ }
 {
@@ -272,7 +282,7 @@ pub fn variant_added(bump: Bump, decl: usize, j: usize) -> Site
     }
 }
 
-// 6. Flags.
+// 6. A bit that only the old image has.
 pub fn bit_removed(decl: usize, i: usize) -> Site
     ensures { λ r. ⌜ r ≡ bitRemoved decl i ⌝ }
 {
@@ -289,6 +299,7 @@ pub fn bit_removed(decl: usize, i: usize) -> Site
     }
 }
 
+// And one that only the new image has.
 pub fn bit_added(decl: usize, j: usize) -> Site
     ensures { λ r. ⌜ r ≡ bitAdded decl j ⌝ }
 {
@@ -305,9 +316,9 @@ pub fn bit_added(decl: usize, j: usize) -> Site
     }
 }
 
-// 8. Newtypes.
-pub fn newtype_changed(decl: usize, t: usize, u: usize) -> Site
-    ensures { λ r. ⌜ r ≡ newtypeChanged decl t u ⌝ }
+// 8. A newtype of another inner type.
+pub fn newtype_changed(decl: usize, from: usize, to: usize) -> Site
+    ensures { λ r. ⌜ r ≡ newtypeChanged decl from to ⌝ }
 {
     Site {
         kind: FIELD_TYPE_CHANGED,
@@ -317,7 +328,7 @@ pub fn newtype_changed(decl: usize, t: usize, u: usize) -> Site
         detail: Detail {
             subject: Subject::Newtype(decl),
             verb: Verb::TypeChanged,
-            values: Values::FromTo(Value::Type(t), Value::Type(u)),
+            values: Values::FromTo(Value::Type(from), Value::Type(to)),
         },
     }
 }

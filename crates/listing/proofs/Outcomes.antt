@@ -14,7 +14,7 @@ use Rattle.text.specs.Text.{Space, Puts}
 use Rattle.text.specs.declared.Mode.the-variants.{Measure, Write}
 use Rattle.text.proofs.Writing.{space-measure, space-write, puts-written}
 use Rattle.rules.specs.Outcome.{Outcome, refused, answered, textOnly, fit, textLength, written}
-use Rattle.image.specs.Codes.{oldSide}
+use Rattle.parts.specs.Codes.{oldSide}
 use Rattle.rules.specs.Answer.{plain}
 use Rattle.rules.specs.Refusals.{OneToTen, Decided, oldRefused, oldAlone, newRefused, newAlone, pairRefused, verdict}
 use Rattle.rules.proofs.Answer.{decided}

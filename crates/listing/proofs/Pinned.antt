@@ -4,7 +4,7 @@ use mathlib.Core.Path.{_≡_, refl}
 use mathlib.Core.Option.{none, some}
 use mathlib.Core.List.{[], _∷_}
 use Rattle.image.specs.Schema.{unmarked, noType, decl, Schema}
-use Rattle.image.specs.Kinds.{kindOf}
+use Rattle.parts.specs.Kinds.{kindOf}
 use Rattle.image.specs.Words.{bytes, kindWord}
 use Rattle.text.specs.Decimal.{digits, decimal}
 use Rattle.listing.specs.Listing.{lineOf, entryLine, entryText, linesFrom, listing}

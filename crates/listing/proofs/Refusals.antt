@@ -13,7 +13,7 @@ use Rattle.parts.specs.Promise.{Accepted, schemaOf}
 use Rattle.parts.proofs.Promise.{accepted-read}
 use Rattle.rules.specs.Changes.{kindCount}
 use Rattle.rules.specs.Outcome.{Outcome, refused, textOnly, selected, select, fit}
-use Rattle.image.specs.Codes.{oldSide}
+use Rattle.parts.specs.Codes.{oldSide}
 use Rattle.rules.proofs.Outcomes.{not-answered, nothing-told, nothing-written, length-selected}
 use Rattle.listing.specs.Listing.{entryText, linesFrom, listing, accept, outcome, listingVerdict}
 use Rattle.listing.specs.Refusals.{Holds, RefusedBy, ListingRefusals}

@@ -10,7 +10,7 @@ use Rattle.image.specs.Parse.{Parsed, ok, no}
 use Rattle.image.specs.Image.{readImage}
 use Rattle.text.specs.Decimal.{decimal}
 use Rattle.rules.specs.Outcome.{Outcome, refused, textOnly, select, fit, textLength, written}
-use Rattle.image.specs.Codes.{oldSide}
+use Rattle.parts.specs.Codes.{oldSide}
 
 -- ---- the text
 

@@ -4,6 +4,8 @@ mod line;
 
 use crate::body::put_entry;
 use parts::entries::entry_count;
+use parts::refusals::FULL;
+use parts::sides::OLD;
 use reader::Acceptance;
 use reader::read_image;
 use tally::Tally;
@@ -18,9 +20,6 @@ ghost use Rattle.parts.specs.Promise.{Accepted, schemaOf};
 ghost use Rattle.text.specs.Text.{Space, Puts};
 ghost use Rattle.verdicts.specs.Verdicts.{verdictIs};
 ghost use Rattle.listing.specs.Listing.{entryText, listing, outcome, Wrote};
-
-// The side of a refusal.
-const OLD: u8 = 1;
 
 // The line of an entry, after the lines before it; nothing for an empty entry.
 fn put_one(mode: Mode, image: &[u8], out: &mut [u8], at: usize, id: usize) -> usize
@@ -62,7 +61,7 @@ fn measured(image: &[u8], room: usize) -> Verdict
     let mut none = [0u8; 1];
     let length = put_listing(Mode::Measure, image, &mut none);
     if room < length {
-        return Verdict::refused(12, OLD);
+        return Verdict::refused(FULL, OLD);
     }
     Verdict::of_tally(Tally::empty(), length)
 }

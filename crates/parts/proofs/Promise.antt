@@ -28,6 +28,8 @@ pub use Rattle.parts.proofs.Laws.Skips.{names-first, names-rest}
 pub use Rattle.parts.proofs.Laws.Items.{items-first, items-rest}
 -- a declaration: the items of a message, an enum, flags, a union, and that they are its fields or its variants; a newtype's type
 pub use Rattle.parts.proofs.Laws.Decls.{message-listed, enum-listed, flags-listed, union-listed, inner-here, inner-tree}
+-- a kind: its word in the table of all
+pub use Rattle.image.proofs.Laws.Kinds.{kind-named}
 -- an item: what holds of a bare one holds of its start; the values of a field and of a union's variant
 pub use Rattle.parts.proofs.Laws.Items.{item-bare, field-ordinal, field-name, field-type-here, field-type, variant-ordinal, variant-name, variant-listed}
 -- a type has a label; a node by how many inner types its tag has

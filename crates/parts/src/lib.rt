@@ -6,6 +6,12 @@ pub mod entries;
 pub mod names;
 pub mod types;
 
+// The names of the kinds and tags that the accessors answer, and of refusals and sides.
+pub use image::kinds;
+pub use image::refusals;
+pub use image::sides;
+pub use image::tags;
+
 // What an id stands for: a declaration whose body starts at a place, or nothing.
 pub enum Entry {
     Body(usize),

@@ -7,6 +7,7 @@ use image::Read;
 ghost use Rattle.image.specs.Image.{readImage};
 ghost use Rattle.reader.specs.Answer.{Answers};
 
+// Whether an image is accepted.
 pub enum Acceptance {
     Accepted,
     // The number of the refusal.

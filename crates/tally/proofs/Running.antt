@@ -14,7 +14,7 @@ use Rattle.text.proofs.Lending.{part, withPart, Lent, lent}
 use Rattle.maps.specs.Lists.{pass}
 use Rattle.rules.specs.Changes.{level, kindCount, Change}
 use Rattle.rules.specs.Report.{changeLine}
-use Rattle.tally.specs.Tallies.{noChange, counted, tallied, tallyFrom, linesOf, TallyOf, Sound, Countable}
+use Rattle.tally.specs.Tallies.{noChange, withChange, tallied, tallyFrom, linesOf, TallyOf, Sound, Countable}
 use Rattle.tally.specs.Reporting.{Ready, Ran}
 use Rattle.tally.specs.declared.Tally.{Tally}
 use Rattle.tally.proofs.Totals.{tally-append, lines-append, tally-lines, tally-of, none-sound, tally-sound}
@@ -105,7 +105,7 @@ module _ {m : Mode} {d : List ℕ} {t : Tally} {c : Change} (q : Ready m d t (c 
     pub one-countable : {kind : ℕ} → kind < kindCount → Countable t kind n
     one-countable k = record { sound = q .sound; known = k; small = omega (arith, one-space .small, w .end) }
 
-    pub ran-one : {kind l : ℕ} {r : Tally} → r ≡ counted t kind l n → kind ≡ c .kind → l ≡ level (c .bump) → Ran m d t (c ∷ []) r (withPart d done ys)
+    pub ran-one : {kind l : ℕ} {r : Tally} → r ≡ withChange t kind l n → kind ≡ c .kind → l ≡ level (c .bump) → Ran m d t (c ∷ []) r (withPart d done ys)
     unfolding tallyFrom pass tallied linesOf flatMap
     ran-one p k l = record {
       tally = p ∙ rw (k, l, w .end, zero-add (length (changeLine c)));

@@ -17,7 +17,7 @@ use Rattle.rules.specs.Verdict.{bumpOf, countOf}
 use Rattle.rules.specs.Answer.{counts}
 use Rattle.rules.proofs.Answer.{counts-at}
 use Rattle.rules.proofs.Texts.{line-some}
-use Rattle.tally.specs.Tallies.{noChange, counted, tallied, tallyFrom, linesOf, TallyOf, Sound}
+use Rattle.tally.specs.Tallies.{noChange, withChange, tallied, tallyFrom, linesOf, TallyOf, Sound}
 use Rattle.tally.specs.declared.Tally.{Tally}
 
 pub tally-append : (t : Tally) (xs ys : List Change) → tallyFrom t (xs ++ ys) ≡ tallyFrom (tallyFrom t xs) ys
@@ -31,22 +31,22 @@ lines-append xs ys = flatMap-append changeLine xs ys
 -- ---- each part of a tally
 
 pub tally-lines : (t : Tally) (cs : List Change) → tallyFrom t cs .length ≡ t .length + length (linesOf cs)
-unfolding tallyFrom pass tallied counted linesOf flatMap
+unfolding tallyFrom pass tallied withChange linesOf flatMap
 tally-lines t [] = omega arith
 tally-lines t (c ∷ cs) = omega (arith, tally-lines (tallied t c) cs, length-append (changeLine c) (linesOf cs))
 
 tally-changes : (t : Tally) (cs : List Change) → tallyFrom t cs .changes ≡ t .changes + length cs
-unfolding tallyFrom pass tallied counted
+unfolding tallyFrom pass tallied withChange
 tally-changes t [] = omega arith
 tally-changes t (c ∷ cs) = omega (arith, tally-changes (tallied t c) cs)
 
 tally-bump : (t : Tally) (cs : List Change) → tallyFrom t cs .bump .level ≡ max (t .bump .level) (bumpOf cs)
-unfolding tallyFrom pass tallied counted bumpOf largest
+unfolding tallyFrom pass tallied withChange bumpOf largest
 tally-bump t [] = omega arith
 tally-bump t (c ∷ cs) = omega (arith, tally-bump (tallied t c) cs)
 
 tally-kinds : (t : Tally) (cs : List Change) → length (tallyFrom t cs .counts) ≡ length (t .counts)
-unfolding tallyFrom pass tallied counted
+unfolding tallyFrom pass tallied withChange
 tally-kinds t [] = refl
 tally-kinds t (c ∷ cs) = tally-kinds (tallied t c) cs ∙ length-set (t .counts) (c .kind) (getD (t .counts) (c .kind) 0 + 1)
 
@@ -59,7 +59,7 @@ set-count l i k h = go (eqb i k) refl
     go false e = getD-set-other l i k (getD l i 0 + 1) 0 (λ p. eqb-false i k e (sym p)) ∙ omega arith
 
 tally-count : (t : Tally) (cs : List Change) (k : ℕ) → k < length (t .counts) → getD (tallyFrom t cs .counts) k 0 ≡ getD (t .counts) k 0 + countOf k cs
-unfolding tallyFrom pass tallied counted countOf count total
+unfolding tallyFrom pass tallied withChange countOf count total
 tally-count t [] k h = omega arith
 tally-count t (c ∷ cs) k h =
     omega (
@@ -107,7 +107,7 @@ set-le (x ∷ l) (suc i) v b h p zero = h zero
 set-le (x ∷ l) (suc i) v b h p (suc k) = set-le l i v b (λ j. h (suc j)) p k
 
 pub tally-sound : (t : Tally) (cs : List Change) → Sound t → Sound (tallyFrom t cs)
-unfolding tallyFrom pass tallied counted
+unfolding tallyFrom pass tallied withChange
 tally-sound t [] s = s
 tally-sound t (c ∷ cs) s =
     tally-sound (tallied t c) cs

@@ -15,8 +15,8 @@ unfoldable pub noChange : Tally
 noChange = record { counts = replicate kindCount 0; bump = record { level = 0 }; length = 0; changes = 0 }
 
 -- with a change more, of a kind and a level, whose line has n bytes
-unfoldable pub counted : Tally → ℕ → ℕ → ℕ → Tally
-counted t kind l n = record {
+unfoldable pub withChange : Tally → ℕ → ℕ → ℕ → Tally
+withChange t kind l n = record {
   counts = set (t .counts) kind (getD (t .counts) kind 0 + 1);
   bump = record { level = max (t .bump .level) l };
   length = t .length + n;
@@ -24,7 +24,7 @@ counted t kind l n = record {
 }
 
 unfoldable pub tallied : Tally → Change → Tally
-tallied t c = counted t (c .kind) (level (c .bump)) (length (changeLine c))
+tallied t c = withChange t (c .kind) (level (c .bump)) (length (changeLine c))
 
 -- with the changes cs more
 unfoldable pub tallyFrom : Tally → List Change → Tally

@@ -2,11 +2,12 @@
 ghost use mathlib.Core.Path.{_≡_};
 ghost use Prim.Native.Nat.{max};
 ghost use Rattle.rules.specs.Verdict.{resultAt};
-ghost use Rattle.tally.specs.Tallies.{Countable, counted, noChange};
+ghost use Rattle.tally.specs.Tallies.{Countable, noChange, withChange};
 
 // How many kinds are counted.
 pub const KINDS: usize = 18;
 
+// The weight of a change.
 pub struct Bump {
     pub level: u8,
 }
@@ -18,6 +19,7 @@ impl Bump {
 
     pub const MAJOR: Bump = Bump { level: 2 };
 
+    // The larger of two.
     pub fn larger(self, other: Bump) -> Bump
         ensures { λ r. ⌜ r .level ≡ max (self .level) (other .level) ⌝ }
     {
@@ -39,6 +41,7 @@ impl Bump {
     }
 }
 
+// What is known of the changes so far.
 pub struct Tally {
     pub counts: [u64; KINDS],
     pub bump: Bump,
@@ -47,6 +50,7 @@ pub struct Tally {
 }
 
 impl Tally {
+    // Of no change.
     pub fn empty() -> Tally
         ensures { λ r. ⌜ r ≡ noChange ⌝ }
     {
@@ -59,9 +63,9 @@ impl Tally {
     }
 
     // With a change more, whose line has n bytes.
-    pub fn counted(self, kind: usize, bump: Bump, n: usize) -> Tally
+    pub fn with_change(self, kind: usize, bump: Bump, n: usize) -> Tally
         requires { ⌜ Countable self kind n ⌝ }
-        ensures { λ r. ⌜ r ≡ counted self kind (bump .level) n ⌝ }
+        ensures { λ r. ⌜ r ≡ withChange self kind (bump .level) n ⌝ }
     {
         let mut counts = self.counts;
         counts[kind] += 1;

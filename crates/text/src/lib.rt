@@ -18,6 +18,7 @@ struct Digits {
     from: usize,
 }
 
+// Text into its place.
 fn copy(out: &mut [u8], at: usize, s: &[u8])
     requires { ⌜ at + length (now s) ≤ length (now out) ⌝ }
     ensures { λ _. ⌜ now (out .exit) ≡ put (now (out .entry)) at (now (s .entry)) ⌝ }
@@ -43,6 +44,7 @@ pub fn put_text(mode: Mode, out: &mut [u8], at: usize, s: &[u8]) -> usize
     }
 }
 
+// A byte in its place, and the place after it.
 pub fn put_byte(mode: Mode, out: &mut [u8], at: usize, b: u8) -> usize
     requires { ⌜ Space mode (now out) at 1 ⌝ }
     ensures { λ r. ⌜ Puts mode (now (out .entry)) at (b ∷ []) r (now (out .exit)) ⌝ }
@@ -51,6 +53,7 @@ pub fn put_byte(mode: Mode, out: &mut [u8], at: usize, b: u8) -> usize
     put_text(mode, out, at, &s)
 }
 
+// A number in decimal.
 fn spelled(n: u64) -> Digits
     ensures { λ r. ⌜ Spelled n (r .bytes) (r .from) ⌝ }
 {
@@ -70,6 +73,7 @@ fn spelled(n: u64) -> Digits
     }
 }
 
+// A number in decimal in its place, and the place after it.
 pub fn put_number(mode: Mode, out: &mut [u8], at: usize, n: u64) -> usize
     requires { ⌜ Space mode (now out) at (length (decimal n)) ⌝ }
     ensures { λ r. ⌜ Puts mode (now (out .entry)) at (decimal n) r (now (out .exit)) ⌝ }

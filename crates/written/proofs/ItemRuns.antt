@@ -131,7 +131,7 @@ module _ (s : List ℕ) (bytes : Each Byte s) where
   decl-keeps Says.alias at h = told-bind _ (name-keeps s bytes 8 at) (λ x n q. told-ok (refl, alias (q .0), q .1))
   decl-keeps Says.trait at h = told-bind _ (name-keeps s bytes 8 at) (λ x n q. told-ok (refl, trait (q .0), q .1))
   decl-keeps Says.impl at h = told-ok (refl, impl, run-none h)
-  decl-keeps Says.other at h = told-no tt
+  decl-keeps (Says.other _ _) at h = told-no tt
 
   pub body-keeps : Told (λ d n. DeclWithin d × (s ≡ writeBody d)) Free (bodyOf s)
   unfolding Declared bodyOf writeBody

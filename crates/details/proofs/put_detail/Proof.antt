@@ -56,7 +56,7 @@ put-values-requires : tie.Need-put-values-requires
 put-values-requires c κs =
     let p = c .before .before .before in
     let h = s₂ p .pre .0 in
-    (h .accepted .0, h .accepted .1, h .values, owes-room (o₂ p))
+    ((h .accepted .0, h .accepted .1, h .values), owes-room (o₂ p))
 
 returns : tie.Need-returns
 returns c = owes-end (o₃ (c .before .before))

@@ -102,17 +102,17 @@ module _ (t : ℕ) where
   label-end-requires : here t lts.Need-label-end-requires
   label-end-requires c κs = type-label _ _ _ (c .before .before .before .before .pre .1 .1)
 
-  the-node : (c : here t lts.After-label-end) → Node (start c .args .left) (image c) (start c .args .t) (c .before .inner-types .result)
+  the-node : (c : here t lts.After-label-end) → Node (start c .args .left) (image c) (start c .args .node) (c .before .inner-types .result)
   the-node c = node (c .before .inner-types .ensures) (start c .pre .1 .1) (sym (c .before .before .type-tag .ensures))
 
   -- what the function promises of the text's end, the next type and the buffer
   abbrev Shown : (c : here t lts.After-label-end) (text next : ℕ) → List ℕ → Type 0
   Shown c text next d =
-      Displayed (start c .args .mode) (now (start c .args .out)) (start c .args .at) (image c) (start c .args .t) record { text = text; next = next } d
+      Displayed (start c .args .mode) (now (start c .args .out)) (start c .args .at) (image c) (start c .args .node) record { text = text; next = next } d
 
   -- ---- without inner types
 
-  leaf : (c : here t lts.Then1) → Leaf (image (c .before)) (start (c .before) .args .t)
+  leaf : (c : here t lts.Then1) → Leaf (image (c .before)) (start (c .before) .args .node)
   leaf c = the-node (c .before) .none (c .if1 .taken)
 
   leaf-display-requires : here t lts.Need-leaf-display-requires
@@ -138,14 +138,14 @@ module _ (t : ℕ) where
   abbrev Owed : (c : here t lts.Else1) (r : ℕ) (d : List ℕ) → List (List ℕ) → Type 0
   Owed c r d ps =
       let l = c .before in
-      Owes (start l .args .mode) (now (start l .args .out)) (start l .args .at) (showType (typeIn (image l) (start l .args .t))) r d ps
+      Owes (start l .args .mode) (now (start l .args .out)) (start l .args .at) (showType (typeIn (image l) (start l .args .node))) r d ps
 
   -- the text of an inner type, and what stands after the first one
   abbrev inner : here t lts.Else1 → ℕ → List ℕ
   inner c p = showType (typeIn (image (c .before)) p)
 
   abbrev rest : here t lts.Else1 → List ℕ
-  rest c = closing (image (c .before)) (start (c .before) .args .t) (c .before .before .inner-types .result)
+  rest c = closing (image (c .before)) (start (c .before) .args .node) (c .before .before .inner-types .result)
 
   slice-aggregate-put-word : here t lts.Need-slice-aggregate-put-word
   slice-aggregate-put-word c = search needs
@@ -184,14 +184,14 @@ module _ (t : ℕ) where
 
   -- where the first inner type ends, and a second one starts
   second : (c : here t lts.After-node-display) → let l = some₂ c .before in
-      c .node-display .result .next ≡ typeEnd (image l) (labelEnd (image l) (start l .args .t))
+      c .node-display .result .next ≡ typeEnd (image l) (labelEnd (image l) (start l .args .node))
   second c = c .node-display .ensures .end ∙ ap (typeEnd _) (some₂ c .before .label-end .ensures)
 
   -- one inner type
 
   size-owed : (c : here t lts.Then2) → let f = c .before .before .before in
       Owed (some₂ f) (f .node-display .result .text) (f .node-display .last .1 .1 .0)
-      (showSize (nodeIn (image (some₂ f .before)) (start (some₂ f .before) .args .t)) ∷ bytes ">" ∷ [])
+      (showSize (nodeIn (image (some₂ f .before)) (start (some₂ f .before) .args .node)) ∷ bytes ">" ∷ [])
   size-owed c = owes-cut (closing-one _ _ _ (c .if2 .taken)) (first-shown (c .before .before .before))
 
   size-display-requires : here t lts.Need-size-display-requires

@@ -10,6 +10,7 @@ use lib.Dec.{eqb}
 use lib.ListN.{length}
 use Rattle.image.specs.Schema.{Name}
 use Rattle.image.specs.Words.{bytes}
+use Rattle.parts.specs.Kinds.{primitiveTag, subByteTag, semanticTag, namedTag, fixedArrayTag, bitsTag}
 use Rattle.parts.specs.Promise.{LabelHere, labelIn, labelEnd, typeEnd, bitsIn, codingOf}
 use Rattle.parts.proofs.Promise.{label-regular, bits-listed}
 use Rattle.parts.specs.declared.Run.{Run}
@@ -70,77 +71,77 @@ opening-words tag = table-word _ refl tag
 
 -- ---- a node without inner types
 
-module _ (s : List ℕ) (t : ℕ) where
-  unnamed : (labelIn s t .tag ≡ 3 → ⊥) → nodeIn s t ≡ labelIn s t
-  unnamed n = not-named _ (labelIn s t) n
+module _ (s : List ℕ) (node : ℕ) where
+  unnamed : (labelIn s node .tag ≡ namedTag → ⊥) → nodeIn s node ≡ labelIn s node
+  unnamed n = not-named _ (labelIn s node) n
 
-  pub leaf-primitive : labelIn s t .tag ≡ 0 → {x : ℕ} → x ≡ labelIn s t .first
-      → showLeaf (nodeIn s t) ≡ wordIn (bytes "bool u8 u16 u32 u64 i8 i16 i32 i64 f32 f64 fixed32 fixed64 void ") x
+  pub leaf-primitive : labelIn s node .tag ≡ primitiveTag → {x : ℕ} → x ≡ labelIn s node .first
+      → showLeaf (nodeIn s node) ≡ wordIn (bytes "bool u8 u16 u32 u64 i8 i16 i32 i64 f32 f64 fixed32 fixed64 void ") x
   unfolding showLeaf
-  leaf-primitive e q = rw (unnamed (λ z. absurd (omega arith)), e, q) (sym (primitive-words (labelIn s t .first)))
+  leaf-primitive e q = rw (unnamed (λ z. absurd (omega arith)), e, q) (sym (primitive-words (labelIn s node .first)))
 
-  pub leaf-sub-byte : labelIn s t .tag ≡ 1 → {x y : ℕ} → x ≡ labelIn s t .first → y ≡ labelIn s t .second
-      → showLeaf (nodeIn s t) ≡ together (wordIn (bytes "u i ") x ∷ decimal y ∷ [])
+  pub leaf-sub-byte : labelIn s node .tag ≡ subByteTag → {x y : ℕ} → x ≡ labelIn s node .first → y ≡ labelIn s node .second
+      → showLeaf (nodeIn s node) ≡ together (wordIn (bytes "u i ") x ∷ decimal y ∷ [])
   unfolding showLeaf together
-  leaf-sub-byte e p q = rw (unnamed (λ z. absurd (omega arith)), e, p, q, sign-words (labelIn s t .first))
+  leaf-sub-byte e p q = rw (unnamed (λ z. absurd (omega arith)), e, p, q, sign-words (labelIn s node .first))
 
-  pub leaf-semantic : labelIn s t .tag ≡ 2 → {x : ℕ} → x ≡ labelIn s t .first → showLeaf (nodeIn s t) ≡ wordIn (bytes "string bytes rgb uuid timestamp hash ") x
+  pub leaf-semantic : labelIn s node .tag ≡ semanticTag → {x : ℕ} → x ≡ labelIn s node .first → showLeaf (nodeIn s node) ≡ wordIn (bytes "string bytes rgb uuid timestamp hash ") x
   unfolding showLeaf
-  leaf-semantic e q = rw (unnamed (λ z. absurd (omega arith)), e, q) (sym (semantic-words (labelIn s t .first)))
+  leaf-semantic e q = rw (unnamed (λ z. absurd (omega arith)), e, q) (sym (semantic-words (labelIn s node .first)))
 
-  pub leaf-named : labelIn s t .tag ≡ 3 → {x : ℕ} → x ≡ labelIn s t .first → showLeaf (nodeIn s t) ≡ showName (namedBy s x)
+  pub leaf-named : labelIn s node .tag ≡ namedTag → {x : ℕ} → x ≡ labelIn s node .first → showLeaf (nodeIn s node) ≡ showName (namedBy s x)
   unfolding showLeaf
-  leaf-named e q = rw (named _ (labelIn s t) e, q)
+  leaf-named e q = rw (named _ (labelIn s node) e, q)
 
-  pub leaf-bits : 3 < labelIn s t .tag → {names : List Name} → names ≡ labelIn s t .names
-      → showLeaf (nodeIn s t) ≡ together (bytes "bits { " ∷ joined (bytes ", ") names ∷ bytes " }" ∷ [])
+  pub leaf-bits : namedTag < labelIn s node .tag → {names : List Name} → names ≡ labelIn s node .names
+      → showLeaf (nodeIn s node) ≡ together (bytes "bits { " ∷ joined (bytes ", ") names ∷ bytes " }" ∷ [])
   unfolding showLeaf together
   leaf-bits l n =
-      let past : (k : ℕ) → k < 4 → eqb (labelIn s t .tag) k ≡ false = (λ k h. ne-eqb _ k (λ z. absurd (omega arith))) in
+      let past : (k : ℕ) → k < 4 → eqb (labelIn s node .tag) k ≡ false = (λ k h. ne-eqb _ k (λ z. absurd (omega arith))) in
       rw (unnamed (λ z. absurd (omega arith)), past 0 (omega arith), past 1 (omega arith), past 2 (omega arith), past 3 (omega arith), n)
 
-  pub size-none : (labelIn s t .tag ≡ 6 → ⊥) → showSize (nodeIn s t) ≡ []
+  pub size-none : (labelIn s node .tag ≡ fixedArrayTag → ⊥) → showSize (nodeIn s node) ≡ []
   unfolding showSize
-  size-none n = rw (tag-resolved _ (labelIn s t), ne-eqb (labelIn s t .tag) 6 n)
+  size-none n = rw (tag-resolved _ (labelIn s node), ne-eqb (labelIn s node .tag) 6 n)
 
-  pub size-some : labelIn s t .tag ≡ 6 → {x : ℕ} → x ≡ labelIn s t .first → showSize (nodeIn s t) ≡ together (bytes ", " ∷ decimal x ∷ [])
+  pub size-some : labelIn s node .tag ≡ fixedArrayTag → {x : ℕ} → x ≡ labelIn s node .first → showSize (nodeIn s node) ≡ together (bytes ", " ∷ decimal x ∷ [])
   unfolding showSize together
   size-some e q = rw (unnamed (λ z. absurd (omega arith)), e, q)
 
 -- the names of a node
-module _ (s : List ℕ) (t : ℕ) (g : LabelHere s t) {x : ℕ} (e : x ≡ labelIn s t .tag) where
-  pub no-label-names : (x ≡ 16 → ⊥) → {at : ℕ} → LabelNames s t (run at 0)
+module _ (s : List ℕ) (node : ℕ) (g : LabelHere s node) {x : ℕ} (e : x ≡ labelIn s node .tag) where
+  pub no-label-names : (x ≡ bitsTag → ⊥) → {at : ℕ} → LabelNames s node (run at 0)
   unfolding NamesIn
-  no-label-names n {at} = record { here = λ l. absurd (omega arith); are = names-none s at 0 refl ∙ sym (label-regular s t g .names (λ z. n (e ∙ z))) }
+  no-label-names n {at} = record { here = λ l. absurd (omega arith); are = names-none s at 0 refl ∙ sym (label-regular s node g .names (λ z. n (e ∙ z))) }
 
-  pub bits-label-names : x ≡ 16 → {r : Run} → r ≡ bitsIn s t → LabelNames s t r
+  pub bits-label-names : x ≡ bitsTag → {r : Run} → r ≡ bitsIn s node → LabelNames s node r
   unfolding namesIn
-  bits-label-names q k = record { here = bits-in s t g (sym e ∙ q) k; are = rw k (sym (bits-listed s t g (sym e ∙ q) .are)) }
+  bits-label-names q k = record { here = bits-in s node g (sym e ∙ q) k; are = rw k (sym (bits-listed s node g (sym e ∙ q) .are)) }
 
 -- ---- a node with inner types: what stands after the first of them
 
 unfoldable pub closing : List ℕ → ℕ → ℕ → List ℕ
-closing s t inner = cond (eqb inner 1) (showSize (nodeIn s t) ++ bytes ">") (bytes ", " ++ (showType (typeIn s (typeEnd s (labelEnd s t))) ++ bytes ">"))
+closing s node inner = cond (eqb inner 1) (showSize (nodeIn s node) ++ bytes ">") (bytes ", " ++ (showType (typeIn s (typeEnd s (labelEnd s node))) ++ bytes ">"))
 
-module _ (s : List ℕ) (t inner : ℕ) where
-  pub text-leaf : Leaf s t → showType (typeIn s t) ≡ showLeaf (nodeIn s t)
+module _ (s : List ℕ) (node inner : ℕ) where
+  pub text-leaf : Leaf s node → showType (typeIn s node) ≡ showLeaf (nodeIn s node)
   unfolding showType resolve
   text-leaf n = rw (n .tree)
 
-  pub text-some : {left : ℕ} → Node left s t inner → (inner ≡ 0 → ⊥) → {x : ℕ} → x ≡ labelIn s t .tag → {p : ℕ} → p ≡ labelEnd s t
-      → showType (typeIn s t) ≡ together (wordIn openings x ∷ showType (typeIn s p) ∷ closing s t inner ∷ [])
+  pub text-some : {left : ℕ} → Node left s node inner → (inner ≡ 0 → ⊥) → {x : ℕ} → x ≡ labelIn s node .tag → {p : ℕ} → p ≡ labelEnd s node
+      → showType (typeIn s node) ≡ together (wordIn openings x ∷ showType (typeIn s p) ∷ closing s node inner ∷ [])
   unfolding showType resolve together closing
-  text-some n f {x} e {p} q = rw (q, e, opening-words (labelIn s t .tag)) (go (eqb inner 1) refl)
+  text-some n f {x} e {p} q = rw (q, e, opening-words (labelIn s node .tag)) (go (eqb inner 1) refl)
     where
-      go : (b : Bool) → eqb inner 1 ≡ b → showType (typeIn s t) ≡ opening (labelIn s t .tag) ++ (showType (typeIn s (labelEnd s t)) ++ closing s t inner)
-      go true k = rw (k, n .single (eqb-true inner 1 k) .tree, tag-resolved _ (labelIn s t))
-      go false k = rw (k, n .pair f (eqb-false inner 1 k) .tree, tag-resolved _ (labelIn s t))
+      go : (b : Bool) → eqb inner 1 ≡ b → showType (typeIn s node) ≡ opening (labelIn s node .tag) ++ (showType (typeIn s (labelEnd s node)) ++ closing s node inner)
+      go true k = rw (k, n .single (eqb-true inner 1 k) .tree, tag-resolved _ (labelIn s node))
+      go false k = rw (k, n .pair f (eqb-false inner 1 k) .tree, tag-resolved _ (labelIn s node))
 
-  pub closing-one : inner ≡ 1 → together (closing s t inner ∷ []) ≡ together (showSize (nodeIn s t) ∷ bytes ">" ∷ [])
+  pub closing-one : inner ≡ 1 → together (closing s node inner ∷ []) ≡ together (showSize (nodeIn s node) ∷ bytes ">" ∷ [])
   unfolding together closing
   closing-one e = rw (eq-eqb inner 1 e)
 
-  pub closing-two : (inner ≡ 1 → ⊥) → {q : ℕ} → q ≡ typeEnd s (labelEnd s t) → together (closing s t inner ∷ []) ≡ together (bytes ", " ∷ showType (typeIn s q) ∷ bytes ">" ∷ [])
+  pub closing-two : (inner ≡ 1 → ⊥) → {q : ℕ} → q ≡ typeEnd s (labelEnd s node) → together (closing s node inner ∷ []) ≡ together (bytes ", " ∷ showType (typeIn s q) ∷ bytes ">" ∷ [])
   unfolding together closing
   closing-two n e = rw (ne-eqb inner 1 n, e)
 

@@ -22,7 +22,7 @@ text c = c .before .before .before .before
 
 -- what is owed of the node's text
 abbrev Owed : tie.Start → ℕ → List ℕ → List (List ℕ) → Type 0
-Owed s r d ps = Owes (s .args .mode) (now (s .args .out)) (s .args .at) (showLeaf (nodeIn (now (s .args .image)) (s .args .t))) r d ps
+Owed s r d ps = Owes (s .args .mode) (now (s .args .out)) (s .args .at) (showLeaf (nodeIn (now (s .args .image)) (s .args .node))) r d ps
 
 slice-aggregate-put-text : tie.Need-slice-aggregate-put-text
 slice-aggregate-put-text c = search needs

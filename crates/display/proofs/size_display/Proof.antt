@@ -26,7 +26,7 @@ slice-aggregate-put-text c = search needs
 abbrev start : tie.Else1 → tie.Start
 start c = c .before .before .before .before
 
-six : (c : tie.Else1) → labelIn (now (start c .args .image)) (start c .args .t) .tag ≡ 6
+six : (c : tie.Else1) → labelIn (now (start c .args .image)) (start c .args .node) .tag ≡ 6
 six c = sym (c .before .type-tag .ensures) ∙ c .if1 .left
 
 abbrev some : tie.After-put-text → tie.Else1
@@ -45,7 +45,7 @@ type-size-requires c κs = search needs
 parted : (c : tie.After-type-size) →
     let x = c .before .before .before .before in
     let a = start (some x) .args in
-    Owes (a .mode) (now (a .out)) (a .at) (showSize (nodeIn (now (a .image)) (a .t))) (x .put-text .result) (x .put-text .last .1 .0)
+    Owes (a .mode) (now (a .out)) (a .at) (showSize (nodeIn (now (a .image)) (a .node))) (x .put-text .result) (x .put-text .last .1 .0)
     (decimal (c .type-size .result) ∷ [])
 unfolding bytes
 parted c =

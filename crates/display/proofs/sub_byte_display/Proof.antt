@@ -36,7 +36,7 @@ cast-put-number c = search needs
 signed : (c : tie.After-type-bits) →
     let w = c .before .before .before .before in
     let a = start (w .before) .args in
-    Owes (a .mode) (now (a .out)) (a .at) (showLeaf (nodeIn (now (a .image)) (a .t))) (w .put-word .result) (w .put-word .last .1 .0)
+    Owes (a .mode) (now (a .out)) (a .at) (showLeaf (nodeIn (now (a .image)) (a .node))) (w .put-word .result) (w .put-word .last .1 .0)
     (decimal (c .type-bits .result) ∷ [])
 unfolding bytes
 signed c =

@@ -1,6 +1,6 @@
 -- A number beside the kind that it says, for proofs by kind that need the number too; and the words of kinds. Assumes nothing.
 use mathlib.Core.Path.{_≡_, refl}
-use Prim.Native.Nat.{ℕ, zero, suc, _≤_}
+use Prim.Native.Nat.{ℕ, zero, suc, _≤_, _<_}
 use native.Mathlib.Omega.{arith}
 use lib.ListN.{length, getD}
 use Rattle.image.specs.Kinds.{Kind, kindOf, messageKind, enumKind, flagsKind, unionKind, newtypeKind, configKind, aliasKind, traitKind, implKind}
@@ -16,7 +16,7 @@ pub data Says : ℕ → Kind → Type 0 where
   alias : Says aliasKind Kind.alias
   trait : Says traitKind Kind.trait
   impl : Says implKind Kind.impl
-  other : {n : ℕ} → Says n Kind.other
+  other : (n : ℕ) → implKind < n → Says n Kind.other
 
 pub says : (n : ℕ) → Says n (kindOf n)
 unfolding kindOf
@@ -29,7 +29,7 @@ says (suc (suc (suc (suc (suc zero))))) = config
 says (suc (suc (suc (suc (suc (suc zero)))))) = alias
 says (suc (suc (suc (suc (suc (suc (suc zero))))))) = trait
 says (suc (suc (suc (suc (suc (suc (suc (suc zero)))))))) = impl
-says (suc (suc (suc (suc (suc (suc (suc (suc (suc k))))))))) = other
+says (suc (suc (suc (suc (suc (suc (suc (suc (suc k))))))))) = other (suc (suc (suc (suc (suc (suc (suc (suc (suc k))))))))) (omega arith)
 
 -- the words of kinds: the table has each at its number, and none is longer than `generic_alias`
 pub kind-named : (n : ℕ) → getD kindNames n "" ≡ kindName (kindOf n)

@@ -90,7 +90,7 @@ module _ (s : List ℕ) (at : ℕ) where
   head-sure trait = sure-bind _ name-sure-here (λ x n q. sure-ok (without traitKind (omega arith) (omega arith) q [] [] noType))
   head-sure impl =
       sure-ok (record { is = refl; most = omega arith; nameless = λ _. refl; named = λ z. absurd (omega arith); marked = λ z. absurd (omega arith); plain = λ _. refl })
-  head-sure other = sure-no
+  head-sure (other _ _) = sure-no
 
 -- a declaration is its kind, and what follows it
 module _ (s : List ℕ) (at : ℕ) (g : DeclHere s at) where

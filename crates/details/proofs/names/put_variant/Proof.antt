@@ -10,13 +10,14 @@ use Rattle.parts.specs.Promise.{variantIn, declIn, itemName}
 use Rattle.parts.specs.declared.Shape.{Shape}
 use Rattle.parts.proofs.Promise.{item-bare, variant-name}
 use Rattle.rules.specs.Clauses.{variantDecl}
+use Rattle.details.specs.Details.{variantName}
 use Rattle.details.proofs.Writers.{space-as, puts-as}
 use borrow.Author.Needs.{needs}
 use Rattle.details.proofs.names.put_variant.Statement.{statement}
 use Rattle.details.proofs.names.put_variant.Tie as tie
 
 abbrev text : tie.Start → List ℕ
-text s = let old = s .args .old .now in variantDecl (declIn old (s .args .decl) .name) (variantIn old (s .args .variant))
+text s = variantName (s .args .old .now) (s .args .decl) (s .args .variant)
 
 abbrev pieces : tie.Start → List (List ℕ)
 pieces s = let old = s .args .old .now in declIn old (s .args .decl) .name ∷ bytes "::" ∷ variantIn old (s .args .variant) .name ∷ []

@@ -7,13 +7,13 @@ use Rattle.text.proofs.Writing.{puts-length}
 use Rattle.text.proofs.Pieces.{together, Owes, owes-start, owes-room, owes-next, owes-end}
 use Rattle.image.specs.Words.{bytes}
 use Rattle.rules.specs.Changes.{fromTo}
-use Rattle.details.specs.Details.{valueText}
+use Rattle.details.specs.Details.{valueText, fromToText}
 use borrow.Author.Needs.{needs}
 use Rattle.details.proofs.shown.put_from_to.Statement.{statement}
 use Rattle.details.proofs.shown.put_from_to.Tie as tie
 
 abbrev text : tie.Start → List ℕ
-text s = fromTo (valueText (s .args .old .now) (s .args .a)) (valueText (s .args .new .now) (s .args .b))
+text s = fromToText (s .args .old .now) (s .args .new .now) (s .args .a) (s .args .b)
 
 abbrev pieces : tie.Start → List (List ℕ)
 pieces s = bytes " from " ∷ valueText (s .args .old .now) (s .args .a) ∷ bytes " to " ∷ valueText (s .args .new .now) (s .args .b) ∷ []
@@ -37,7 +37,7 @@ Left k s r d = Owes (s .args .mode) (s .args .out .now) (s .args .at) (text s) r
 
 o₀ : (s : tie.Start) → Left 0 s (s .args .at) (s .args .out .now)
 unfolding together fromTo
-o₀ s = owes-start refl (s .pre .4)
+o₀ s = owes-start refl (s .pre .1)
 
 o₁ : (c : tie.After-put-text) → Left 1 (s₁ c) (c .put-text .result) (c .put-text .last .1 .0)
 unfolding bytes
@@ -61,7 +61,7 @@ put-text-requires c κs = owes-room (o₀ (c .before .before .before .before .be
 
 put-value-requires : tie.Need-put-value-requires
 unfolding bytes
-put-value-requires c κs = let p = c .before .before .before in (s₁ p .pre .0, s₁ p .pre .2, owes-room (o₁ p))
+put-value-requires c κs = let p = c .before .before .before in (s₁ p .pre .0 .0, s₁ p .pre .0 .2, owes-room (o₁ p))
 
 put-text-requires-2 : tie.Need-put-text-requires-2
 unfolding bytes
@@ -69,7 +69,7 @@ put-text-requires-2 c κs = owes-room (o₂ (c .before .before .before .before))
 
 put-value-requires-2 : tie.Need-put-value-requires-2
 unfolding bytes
-put-value-requires-2 c κs = let p = c .before .before .before in (s₃ p .pre .1, s₃ p .pre .3, owes-room (o₃ p))
+put-value-requires-2 c κs = let p = c .before .before .before in (s₃ p .pre .0 .1, s₃ p .pre .0 .3, owes-room (o₃ p))
 
 slice-aggregate-put-text : tie.Need-slice-aggregate-put-text
 slice-aggregate-put-text c = search needs
@@ -81,7 +81,7 @@ returns : tie.Need-returns
 returns c = owes-end (o₄ (c .before .before))
 
 same-length : tie.Need-same-length
-same-length c = let s = s₄ (c .before .before) in puts-length (text s) (s .pre .4) (returns c)
+same-length c = let s = s₄ (c .before .before) in puts-length (text s) (s .pre .1) (returns c)
 
 pub put-from-to-spec : {M : Type 1} → statement M
 put-from-to-spec =

@@ -24,10 +24,10 @@ module _ (m : tie.After-slice-known) where
     same = sym (ap (text start) e)
 
     here : ValuesHere (start .args .old .now) (start .args .new .now) p
-    here = subst (ValuesHere (start .args .old .now) (start .args .new .now)) e (start .pre .2)
+    here = subst (ValuesHere (start .args .old .now) (start .args .new .now)) e (start .pre .0 .2)
 
     room : Space (start .args .mode) (start .args .out .now) (start .args .at) (length (text start p))
-    room = space-as same (start .pre .3)
+    room = space-as same (start .pre .1)
 
 enum-told : tie.Need-enum-told
 enum-told c = search needs
@@ -41,7 +41,7 @@ put-from-to-requires c κs =
     let a = c .before .before in
     let m = a .before .before in
     let h = here m (a .values .given .1) in
-    (start m .pre .0, start m .pre .1, h .0, h .1, room m (a .values .given .1))
+    ((start m .pre .0 .0, start m .pre .0 .1, h .0, h .1), room m (a .values .given .1))
 
 returns : tie.Need-returns
 unfolding valuesText

@@ -29,8 +29,8 @@ put-line-requires c κs =
     let l = c .before in
     (st l .pre .0, one-lent (st l .pre .1) (l .start-in .ensures) .space)
 
-counted-requires : tie.Need-counted-requires
-counted-requires c κs =
+with-change-requires : tie.Need-with-change-requires
+with-change-requires c κs =
     let l = c .before .before .before .before in
     one-countable (st l .pre .1) (l .start-in .ensures) (c .before .before .put-line .ensures) (st l .pre .0 .known)
 
@@ -42,7 +42,7 @@ unfolding changeOf
 returns c =
     let l = c .before .before .before .before .before in
     let s = st l in
-    ran-one (s .pre .1) (l .start-in .ensures) (c .before .before .before .put-line .ensures) (c .counted .ensures) refl
+    ran-one (s .pre .1) (l .start-in .ensures) (c .before .before .before .put-line .ensures) (c .with-change .ensures) refl
     (sym (level-bump (s .args .site .bump .level) (s .pre .0 .weighed)))
 
 pub emit-spec : {M : Type 1} → statement M
@@ -54,6 +54,6 @@ emit-spec =
     part-put-line-start
     part-put-line-end
     put-line-requires
-    counted-requires
+    with-change-requires
     same-length
     returns)

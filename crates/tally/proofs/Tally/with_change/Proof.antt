@@ -1,9 +1,9 @@
--- `tally::Tally::counted` meets its contract. A count is at most the length, so it can be raised. Assumes nothing.
+-- `tally::Tally::with_change` meets its contract. A count is at most the length, so it can be raised. Assumes nothing.
 use native.Mathlib.Omega.{arith}
-use Rattle.tally.specs.Tallies.{counted}
+use Rattle.tally.specs.Tallies.{withChange}
 use borrow.Author.Needs.{needs}
-use Rattle.tally.proofs.Tally.counted.Statement.{statement}
-use Rattle.tally.proofs.Tally.counted.Tie as tie
+use Rattle.tally.proofs.Tally.with_change.Statement.{statement}
+use Rattle.tally.proofs.Tally.with_change.Tie as tie
 
 mul-counts : tie.Need-mul-counts
 mul-counts c = search needs
@@ -27,11 +27,11 @@ add-changes : tie.Need-add-changes
 add-changes c = search needs
 
 returns : tie.Need-returns
-unfolding counted
+unfolding withChange
 returns c = rw (← c .before .before .larger .ensures)
 
-pub counted-spec : {M : Type 1} → statement M
-counted-spec =
+pub with-change-spec : {M : Type 1} → statement M
+with-change-spec =
     tie.close
     (tie.spec
     mul-counts
