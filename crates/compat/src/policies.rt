@@ -1,8 +1,8 @@
 // What is special to a verdict: a further one is a further case of `Policy`, here and in the functions that take a policy apart.
 use checking::aliases::alias_pair;
+use items::Walk;
 use parts::refusals::ALIAS_PAIR;
 use parts::sides::BOTH;
-use items::Walk;
 use text::Mode;
 use types::Reading;
 ghost use mathlib.Core.Path.{_≡_};

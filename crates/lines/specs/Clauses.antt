@@ -8,17 +8,18 @@ use Rattle.details.specs.declared.Subject.{Subject}
 use Rattle.details.specs.declared.Verb.{Verb}
 use Rattle.details.specs.declared.Value.{Value}
 use Rattle.details.specs.declared.Values.{Values}
+use Rattle.details.specs.declared.Detail.{Detail}
 use Rattle.lines.specs.declared.Site.{Site}
 
+abbrev pub detailOf : Subject → Verb → Values → Detail
+detailOf subject verb values = record { subject = subject; verb = verb; values = values }
+
 -- of a kind and a level
+abbrev pub siteOf : ℕ → ℕ → Scope → Item → Detail → Site
+siteOf kind level scope item detail = record { kind = kind; bump = record { level = level }; scope = scope; item = item; detail = detail }
+
 abbrev pub site : ℕ → ℕ → Scope → Item → Subject → Verb → Values → Site
-site kind level scope item subject verb values = record {
-  kind = kind;
-  bump = record { level = level };
-  scope = scope;
-  item = item;
-  detail = record { subject = subject; verb = verb; values = values };
-}
+site kind level scope item subject verb values = siteOf kind level scope item (detailOf subject verb values)
 
 -- 1. the namespace
 

@@ -57,4 +57,3 @@ mirror-test i j =
     let h : ℕ → ℕ = λ k. exchange VariantAdded VariantRemoved (g k) in
     exchange-test FlagsBitAdded FlagsBitRemoved i j ∙ (exchange-test DeclarationAdded DeclarationRemoved (f i) (f j)
     ∙ (exchange-test VariantAdded VariantRemoved (g i) (g j) ∙ exchange-test FieldAdded FieldRemoved (h i) (h j)))
-
