@@ -95,7 +95,7 @@ enum vexil_compat_kind {
 };
 
 /* How many selectors there are that may give anything but 0. */
-#define VEXIL_COMPAT_VALUES (VEXIL_COMPAT_COUNTS + VEXIL_COMPAT_KINDS)
+#define VEXIL_COMPAT_VALUES ((size_t)VEXIL_COMPAT_COUNTS + (size_t)VEXIL_COMPAT_KINDS)
 
 /*
  * One value of the verdict on two images. Each call compares anew; for many values there is vexil_compat_values.
@@ -126,8 +126,8 @@ uint64_t vexil_compat_report(const uint8_t *old_image, size_t old_len,
                              uint8_t *out, size_t out_len);
 
 /*
- * The contents of one image: writes a line `id;kind;name` for each entry that is not empty at the start of `out`, each
- * ended by byte 10, and returns their length; bytes past that length stay as they were.
+ * The contents of one image: writes a line `id;kind;name` for each entry that is not empty at the start of `out`, each ended by byte 10,
+ * and returns their length; bytes past that length stay as they were.
  *
  * 0 is a refusal, and then `out` is as it was, or an image without an entry: VEXIL_COMPAT_NUMBER of the verdict below tells which.
  */

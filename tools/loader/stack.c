@@ -1,6 +1,6 @@
 /*
  * Calls the library on a stack of 64 KiB with a page below it that nobody may touch, and prints how many bytes of it were used at most. The
- * values call is also held against the verdict call, and must leave what stands past its buffer.
+ * values call is also held against the verdict call, and must leave what stands before and past its buffer.
  * The pairs come from standard input: each image as its length, four bytes from the lowest on, and its bytes.
  */
 #define _DEFAULT_SOURCE /* MAP_ANONYMOUS */
@@ -29,7 +29,7 @@ struct told {
 
 static struct image old, new;
 static uint8_t out[REPORT_BYTES];
-static uint64_t values[MOST_VALUES + 1];
+static uint64_t memory[1 + MOST_VALUES + 1];
 
 static bool next_image(struct image *image)
 {
@@ -48,10 +48,12 @@ static uint64_t verdict(uint64_t selector)
 /* Whether the values call, lent so many places, answers anything else than the verdict call does by these values. */
 static bool differs(const uint64_t *wanted, size_t places)
 {
-    memset(values, UNUSED, sizeof values);
-    uint64_t past = values[places];
+    uint64_t *values = memory + 1, untouched;
+    memset(&untouched, UNUSED, sizeof untouched);
+    memset(memory, UNUSED, sizeof memory);
     uint64_t number = vexil_compat_values(old.bytes, old.length, new.bytes, new.length, values, places);
-    return number != wanted[VEXIL_COMPAT_NUMBER] || memcmp(values, wanted, places * sizeof *values) != 0 || values[places] != past;
+    return number != wanted[VEXIL_COMPAT_NUMBER] || memcmp(values, wanted, places * sizeof *values) != 0 || memory[0] != untouched
+        || values[places] != untouched;
 }
 
 static void *call_all(void *told)

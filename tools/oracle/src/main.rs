@@ -16,6 +16,7 @@ mod limits;
 mod listing;
 mod make;
 mod model;
+mod pinned;
 mod random;
 mod reader;
 mod record;

@@ -13,6 +13,7 @@ mod kinds;
 mod marks;
 mod mixed;
 mod names;
+mod pinned;
 mod randoms;
 mod refiled;
 mod repeats;
@@ -62,6 +63,7 @@ pub fn all(seed: u64) -> Vec<Case> {
     damage::add(&mut cases, &mut rng);
     randoms::add(&mut cases, &mut rng);
     refiled::add(&mut cases, seed);
+    pinned::add(&mut cases);
     cases.list
 }
 

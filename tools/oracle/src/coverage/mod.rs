@@ -10,6 +10,7 @@ mod compared;
 mod damaged;
 mod edges;
 mod held;
+mod pinned;
 pub mod refiled;
 mod refused;
 mod typed;
@@ -92,6 +93,7 @@ impl Coverage {
         accepted::facts(&mut facts, case, pair);
         damaged::facts(&mut facts, case);
         edges::facts(&mut facts, pair);
+        pinned::facts(&mut facts, case);
         if let (Ok(old), Ok(new)) = (&pair.old, &pair.new) {
             held::facts(&mut facts, old, "old");
             held::facts(&mut facts, new, "new");
@@ -128,6 +130,7 @@ impl Coverage {
         compared::rows(&mut rows);
         typed::rows(&mut rows);
         refiled::rows(&mut rows);
+        pinned::rows(&mut rows);
         for fact in ["verdicts both ways", "verdicts along a chain"] {
             rows.one(fact);
         }

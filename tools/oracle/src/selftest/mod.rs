@@ -6,6 +6,7 @@ mod clauses;
 #[cfg(vexil)]
 mod exporting;
 mod listing;
+mod pinned;
 mod reading;
 mod recording;
 mod refiling;
@@ -52,6 +53,7 @@ pub fn run() -> Outcome {
     against_check::run(&mut tests);
     recording::run(&mut tests);
     refiling::run(&mut tests);
+    pinned::run(&mut tests);
     texts::run(&mut tests);
     samples::run(&mut tests);
     calls::run(&mut tests);
