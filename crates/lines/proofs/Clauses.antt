@@ -12,10 +12,10 @@ use Rattle.parts.specs.Promise.{Accepted, schemaOf, treeIn, ItemHere, bareIn, o
 use Rattle.parts.specs.declared.Shape.{Shape}
 use Rattle.parts.proofs.Promise.{item-bare, field-ordinal, field-name, field-type-here, field-type, variant-ordinal, variant-name, inner-here, inner-tree}
 use Rattle.rules.specs.Equal.{sameOption, sameName, sameNames}
-use Rattle.rules.specs.Types.{Reading, resolve}
+use Rattle.rules.specs.Types.{resolve}
 use Rattle.text.specs.Decimal.{decimal}
 use Rattle.rules.specs.Changes.{Bump, patch, minor, major, level, kindCount, Change, change, only, quoted, numbered, fromTo}
-use Rattle.rules.specs.Clauses.{compareNamespaces, Reader, reader, compareTypes, fieldText, compareFieldNames, sameEncoding, compareEncodings, compareDeprecated, fieldRules, variantText, variantGone, variantCame, compareNonExhaustive, bitText, flagsRules, compareNewtypes, declText, declRules}
+use Rattle.rules.specs.Clauses.{compareNamespaces, Reading, Context, context, compareTypes, fieldText, compareFieldNames, sameEncoding, compareEncodings, compareDeprecated, fieldRules, variantText, variantGone, variantCame, compareNonExhaustive, bitText, flagsRules, compareNewtypes, declText, declRules}
 use Rattle.rules.specs.Clauses.{kindChanged as kindsDiffer}
 use Rattle.rules.proofs.Chain.{bump-bound}
 use Rattle.text.specs.declared.Mode.{Mode}
@@ -126,7 +126,7 @@ module _ (old new : List ℕ) (a : Accepted old) (b : Accepted new) where
 
   -- ---- 2. and 3. declarations
 
-  module _ (r : Reader) where
+  module _ (r : Context) where
     pub decl-removed : (i : ℕ) → DeclHere old i → Reports old new (declRemoved i) true (declRules r .gone (declIn old i))
     unfolding changeOf bumpAt declarationOf itemOf detailText subjectText verbText valuesText valueText bytes ScopeHere ItemOfHere SubjectHere ValuesHere ValueHere declRules
     decl-removed i h = record {
@@ -148,7 +148,7 @@ module _ (old new : List ℕ) (a : Accepted old) (b : Accepted new) where
   -- ---- 4. fields, and a message's own deprecation
 
   module _ (c : Scope) (m : ScopeHere old new c) where
-    module _ (r : Reader) where
+    module _ (r : Context) where
       pub field-removed : (i : ℕ) → ItemHere Shape.Field old i
           → Reports old new (fieldRemoved c i) true (fieldRules r (declarationOf old new c) .gone (fieldIn old i))
       unfolding changeOf bumpAt declarationOf itemOf detailText subjectText verbText valuesText valueText bytes ScopeHere ItemOfHere SubjectHere ValuesHere ValueHere fieldRules fieldText wordText
@@ -182,12 +182,12 @@ module _ (old new : List ℕ) (a : Accepted old) (b : Accepted new) where
             are = same-only (cc) (same-change (ap some q) (rw (n .numbered, p, q) (sym (append-assoc (bytes "field @") (decimal (ordinalIn new j)) (bytes " renamed" ++ fromTo (quoted (itemName old i)) (quoted (itemName new j)))))));
           }
 
-      pub field-type-changed : (same : Reading) → Reports old new (fieldTypeChanged c j (typePlace old i) (typePlace new j))
-          (not (same (resolve (schemaOf old .registry) (treeIn old (typePlace old i))) (resolve (schemaOf new .registry) (treeIn new (typePlace new j)))))
-          (compareTypes (reader same (schemaOf old .registry) (schemaOf new .registry)) (declarationOf old new c) (some (fieldIn new j .name))
+      pub field-type-changed : (by : Reading) → Reports old new (fieldTypeChanged c j (typePlace old i) (typePlace new j))
+          (not (by .same (resolve (schemaOf old .registry) (treeIn old (typePlace old i))) (resolve (schemaOf new .registry) (treeIn new (typePlace new j)))))
+          (compareTypes (context by (schemaOf old .registry) (schemaOf new .registry)) (declarationOf old new c) (some (fieldIn new j .name))
           (fieldText (fieldIn new j)) (fieldIn old i .type) (fieldIn new j .type))
       unfolding changeOf bumpAt declarationOf itemOf detailText subjectText verbText valuesText valueText bytes ScopeHere ItemOfHere SubjectHere ValuesHere ValueHere compareTypes fieldText wordText itemText
-      field-type-changed same =
+      field-type-changed by =
           let n = field-named h in
           record {
             here = places (fieldTypeChanged c j (typePlace old i) (typePlace new j)) (omega arith) (omega arith) m (n .here) (n .here) (field-type-here old i g, field-type-here new j h);
@@ -268,11 +268,11 @@ module _ (old new : List ℕ) (a : Accepted old) (b : Accepted new) where
   -- ---- 8. newtypes
 
   module _ (i j : ℕ) (g : DeclHere old i) (h : DeclHere new j) (e : declIn old i .kind ≡ 4) (f : declIn new j .kind ≡ 4) where
-    pub newtype-changed : (same : Reading) → Reports old new (newtypeChanged i (innerPlace old i) (innerPlace new j))
-        (not (same (resolve (schemaOf old .registry) (treeIn old (innerPlace old i))) (resolve (schemaOf new .registry) (treeIn new (innerPlace new j)))))
-        (compareNewtypes (reader same (schemaOf old .registry) (schemaOf new .registry)) (declIn old i .name) (declIn old i) (declIn new j))
+    pub newtype-changed : (by : Reading) → Reports old new (newtypeChanged i (innerPlace old i) (innerPlace new j))
+        (not (by .same (resolve (schemaOf old .registry) (treeIn old (innerPlace old i))) (resolve (schemaOf new .registry) (treeIn new (innerPlace new j)))))
+        (compareNewtypes (context by (schemaOf old .registry) (schemaOf new .registry)) (declIn old i .name) (declIn old i) (declIn new j))
     unfolding changeOf bumpAt declarationOf itemOf detailText subjectText verbText valuesText valueText bytes ScopeHere ItemOfHere SubjectHere ValuesHere ValueHere newtypeText compareNewtypes compareTypes
-    newtype-changed same = record {
+    newtype-changed by = record {
       here = places (newtypeChanged i (innerPlace old i) (innerPlace new j)) (omega arith) (omega arith) g tt g (inner-here old i g e, inner-here new j h f);
       are = rw (inner-tree old i g e, inner-tree new j h f);
     }

@@ -11,8 +11,7 @@ use details::Verb;
 use details::Word;
 use tally::Bump;
 ghost use mathlib.Core.Path.{_≡_};
-ghost use Rattle.details.specs.declared.Values.{Values};
-ghost use Rattle.lines.specs.Clauses.{detailOf, siteOf, namespaceChanged, declRemoved, declAdded, kindChanged, fieldRemoved, fieldAdded, fieldRenamed, fieldTypeChanged, fieldEncodingChanged, fieldDeprecated, declDeprecated, nonExhaustiveChanged, variantRemoved, variantAdded, bitRemoved, bitAdded, newtypeChanged};
+ghost use Rattle.lines.specs.Clauses.{siteOf, namespaceChanged, declRemoved, declAdded, kindChanged, fieldRemoved, fieldAdded, fieldRenamed, fieldTypeChanged, fieldEncodingChanged, fieldDeprecated, declDeprecated, nonExhaustiveChanged, variantRemoved, variantAdded, bitRemoved, bitAdded, newtypeChanged};
 
 // The kinds of `ChangeKind` that are reported, by their places in it.
 const FIELD_ADDED: usize = 0;
@@ -46,36 +45,27 @@ const FLAGS_BIT_ADDED: usize = 15;
 const FLAGS_BIT_REMOVED: usize = 16;
 
 // Of a kind and a bump.
-fn site(kind: usize, bump: Bump, scope: Scope, item: Item, detail: Detail) -> Site
-    ensures { λ r. ⌜ r ≡ siteOf kind (bump .level) scope item detail ⌝ }
+fn site(
+    kind: usize,
+    bump: Bump,
+    scope: Scope,
+    item: Item,
+    subject: Subject,
+    verb: Verb,
+    values: Values,
+) -> Site
+    ensures { λ r. ⌜ r ≡ siteOf kind (bump .level) scope item subject verb values ⌝ }
 {
     Site {
         kind: kind,
         bump: bump,
         scope: scope,
         item: item,
-        detail: detail,
-    }
-}
-
-// A detail without values, and one that says from what to what.
-fn plain(subject: Subject, verb: Verb) -> Detail
-    ensures { λ r. ⌜ r ≡ detailOf subject verb Values.Unsaid ⌝ }
-{
-    Detail {
-        subject: subject,
-        verb: verb,
-        values: Values::Unsaid,
-    }
-}
-
-fn from_to(subject: Subject, verb: Verb, from: Value, to: Value) -> Detail
-    ensures { λ r. ⌜ r ≡ detailOf subject verb (Values.FromTo from to) ⌝ }
-{
-    Detail {
-        subject: subject,
-        verb: verb,
-        values: Values::FromTo(from, to),
+        detail: Detail {
+            subject: subject,
+            verb: verb,
+            values: values,
+        },
     }
 }
 
@@ -83,18 +73,14 @@ fn from_to(subject: Subject, verb: Verb, from: Value, to: Value) -> Detail
 pub fn namespace_changed() -> Site
     ensures { λ r. ⌜ r ≡ namespaceChanged ⌝ }
 {
-    let detail = from_to(
-        Subject::Namespace,
-        Verb::Changed,
-        Value::Namespace,
-        Value::Namespace,
-    );
     site(
         NAMESPACE_CHANGED,
         Bump::MAJOR,
         Scope::Schema,
         Item::Nothing,
-        detail,
+        Subject::Namespace,
+        Verb::Changed,
+        Values::FromTo(Value::Namespace, Value::Namespace),
     )
 }
 
@@ -102,13 +88,14 @@ pub fn namespace_changed() -> Site
 pub fn decl_removed(i: usize) -> Site
     ensures { λ r. ⌜ r ≡ declRemoved i ⌝ }
 {
-    let detail = plain(Subject::OldDecl(i), Verb::Removed);
     site(
         DECLARATION_REMOVED,
         Bump::MAJOR,
         Scope::Old(i),
         Item::Nothing,
-        detail,
+        Subject::OldDecl(i),
+        Verb::Removed,
+        Values::Unsaid,
     )
 }
 
@@ -116,13 +103,14 @@ pub fn decl_removed(i: usize) -> Site
 pub fn decl_added(j: usize) -> Site
     ensures { λ r. ⌜ r ≡ declAdded j ⌝ }
 {
-    let detail = plain(Subject::NewDecl(j), Verb::Added);
     site(
         DECLARATION_ADDED,
         Bump::MINOR,
         Scope::New(j),
         Item::Nothing,
-        detail,
+        Subject::NewDecl(j),
+        Verb::Added,
+        Values::Unsaid,
     )
 }
 
@@ -130,18 +118,14 @@ pub fn decl_added(j: usize) -> Site
 pub fn kind_changed(i: usize, j: usize) -> Site
     ensures { λ r. ⌜ r ≡ kindChanged i j ⌝ }
 {
-    let detail = from_to(
-        Subject::DeclName(i),
-        Verb::Changed,
-        Value::Kind(i),
-        Value::Kind(j),
-    );
     site(
         DECLARATION_KIND_CHANGED,
         Bump::MAJOR,
         Scope::Old(i),
         Item::Nothing,
-        detail,
+        Subject::DeclName(i),
+        Verb::Changed,
+        Values::FromTo(Value::Kind(i), Value::Kind(j)),
     )
 }
 
@@ -149,60 +133,74 @@ pub fn kind_changed(i: usize, j: usize) -> Site
 pub fn field_removed(scope: Scope, i: usize) -> Site
     ensures { λ r. ⌜ r ≡ fieldRemoved scope i ⌝ }
 {
-    let detail = plain(Subject::OldItem(Word::Field, i), Verb::Removed);
-    site(FIELD_REMOVED, Bump::MAJOR, scope, Item::Old(i), detail)
+    site(
+        FIELD_REMOVED,
+        Bump::MAJOR,
+        scope,
+        Item::Old(i),
+        Subject::OldItem(Word::Field, i),
+        Verb::Removed,
+        Values::Unsaid,
+    )
 }
 
 // And one that only the new image has.
 pub fn field_added(scope: Scope, j: usize) -> Site
     ensures { λ r. ⌜ r ≡ fieldAdded scope j ⌝ }
 {
-    let detail = plain(Subject::NewItem(Word::Field, j), Verb::Added);
-    site(FIELD_ADDED, Bump::MAJOR, scope, Item::New(j), detail)
+    site(
+        FIELD_ADDED,
+        Bump::MAJOR,
+        scope,
+        Item::New(j),
+        Subject::NewItem(Word::Field, j),
+        Verb::Added,
+        Values::Unsaid,
+    )
 }
 
 // A field of another name.
 pub fn field_renamed(scope: Scope, i: usize, j: usize) -> Site
     ensures { λ r. ⌜ r ≡ fieldRenamed scope i j ⌝ }
 {
-    let detail = from_to(
+    site(
+        FIELD_RENAMED,
+        Bump::PATCH,
+        scope,
+        Item::New(j),
         Subject::FieldOrdinal(j),
         Verb::Renamed,
-        Value::Name(i),
-        Value::Name(j),
-    );
-    site(FIELD_RENAMED, Bump::PATCH, scope, Item::New(j), detail)
+        Values::FromTo(Value::Name(i), Value::Name(j)),
+    )
 }
 
 // A field of another type.
 pub fn field_type_changed(scope: Scope, j: usize, from: usize, to: usize) -> Site
     ensures { λ r. ⌜ r ≡ fieldTypeChanged scope j from to ⌝ }
 {
-    let detail = from_to(
+    site(
+        FIELD_TYPE_CHANGED,
+        Bump::MAJOR,
+        scope,
+        Item::New(j),
         Subject::NewItem(Word::Field, j),
         Verb::TypeChanged,
-        Value::Type(from),
-        Value::Type(to),
-    );
-    site(FIELD_TYPE_CHANGED, Bump::MAJOR, scope, Item::New(j), detail)
+        Values::FromTo(Value::Type(from), Value::Type(to)),
+    )
 }
 
 // A field of another encoding or limit.
 pub fn field_encoding_changed(scope: Scope, i: usize, j: usize) -> Site
     ensures { λ r. ⌜ r ≡ fieldEncodingChanged scope i j ⌝ }
 {
-    let detail = from_to(
-        Subject::NewItem(Word::Field, j),
-        Verb::EncodingChanged,
-        Value::Encoding(i),
-        Value::Encoding(j),
-    );
     site(
         FIELD_ENCODING_CHANGED,
         Bump::MAJOR,
         scope,
         Item::New(j),
-        detail,
+        Subject::NewItem(Word::Field, j),
+        Verb::EncodingChanged,
+        Values::FromTo(Value::Encoding(i), Value::Encoding(j)),
     )
 }
 
@@ -210,21 +208,29 @@ pub fn field_encoding_changed(scope: Scope, i: usize, j: usize) -> Site
 pub fn field_deprecated(scope: Scope, j: usize) -> Site
     ensures { λ r. ⌜ r ≡ fieldDeprecated scope j ⌝ }
 {
-    let detail = plain(Subject::FieldName(j), Verb::Deprecated);
-    site(FIELD_DEPRECATED, Bump::PATCH, scope, Item::New(j), detail)
+    site(
+        FIELD_DEPRECATED,
+        Bump::PATCH,
+        scope,
+        Item::New(j),
+        Subject::FieldName(j),
+        Verb::Deprecated,
+        Values::Unsaid,
+    )
 }
 
 // A message that has become deprecated.
 pub fn decl_deprecated(i: usize) -> Site
     ensures { λ r. ⌜ r ≡ declDeprecated i ⌝ }
 {
-    let detail = plain(Subject::Declaration, Verb::Deprecated);
     site(
         FIELD_DEPRECATED,
         Bump::PATCH,
         Scope::Old(i),
         Item::Nothing,
-        detail,
+        Subject::Declaration,
+        Verb::Deprecated,
+        Values::Unsaid,
     )
 }
 
@@ -232,18 +238,14 @@ pub fn decl_deprecated(i: usize) -> Site
 pub fn non_exhaustive_changed(i: usize, j: usize) -> Site
     ensures { λ r. ⌜ r ≡ nonExhaustiveChanged i j ⌝ }
 {
-    let detail = from_to(
-        Subject::NonExhaustive,
-        Verb::Changed,
-        Value::NonExhaustive(i),
-        Value::NonExhaustive(j),
-    );
     site(
         NON_EXHAUSTIVE_CHANGED,
         Bump::MAJOR,
         Scope::Old(i),
         Item::Nothing,
-        detail,
+        Subject::NonExhaustive,
+        Verb::Changed,
+        Values::FromTo(Value::NonExhaustive(i), Value::NonExhaustive(j)),
     )
 }
 
@@ -251,13 +253,14 @@ pub fn non_exhaustive_changed(i: usize, j: usize) -> Site
 pub fn variant_removed(decl: usize, i: usize) -> Site
     ensures { λ r. ⌜ r ≡ variantRemoved decl i ⌝ }
 {
-    let detail = plain(Subject::OldItem(Word::Variant, i), Verb::Removed);
     site(
         VARIANT_REMOVED,
         Bump::MAJOR,
         Scope::Old(decl),
         Item::Old(i),
-        detail,
+        Subject::OldItem(Word::Variant, i),
+        Verb::Removed,
+        Values::Unsaid,
     )
 }
 
@@ -265,21 +268,29 @@ pub fn variant_removed(decl: usize, i: usize) -> Site
 pub fn variant_added(bump: Bump, decl: usize, j: usize) -> Site
     ensures { λ r. ⌜ r ≡ variantAdded (bump .level) decl j ⌝ }
 {
-    let detail = plain(Subject::NewItem(Word::Variant, j), Verb::Added);
-    site(VARIANT_ADDED, bump, Scope::Old(decl), Item::New(j), detail)
+    site(
+        VARIANT_ADDED,
+        bump,
+        Scope::Old(decl),
+        Item::New(j),
+        Subject::NewItem(Word::Variant, j),
+        Verb::Added,
+        Values::Unsaid,
+    )
 }
 
 // 6. A bit that only the old image has.
 pub fn bit_removed(decl: usize, i: usize) -> Site
     ensures { λ r. ⌜ r ≡ bitRemoved decl i ⌝ }
 {
-    let detail = plain(Subject::OldItem(Word::Bit, i), Verb::Removed);
     site(
         FLAGS_BIT_REMOVED,
         Bump::MAJOR,
         Scope::Old(decl),
         Item::Old(i),
-        detail,
+        Subject::OldItem(Word::Bit, i),
+        Verb::Removed,
+        Values::Unsaid,
     )
 }
 
@@ -287,13 +298,14 @@ pub fn bit_removed(decl: usize, i: usize) -> Site
 pub fn bit_added(decl: usize, j: usize) -> Site
     ensures { λ r. ⌜ r ≡ bitAdded decl j ⌝ }
 {
-    let detail = plain(Subject::NewItem(Word::Bit, j), Verb::Added);
     site(
         FLAGS_BIT_ADDED,
         Bump::MINOR,
         Scope::Old(decl),
         Item::New(j),
-        detail,
+        Subject::NewItem(Word::Bit, j),
+        Verb::Added,
+        Values::Unsaid,
     )
 }
 
@@ -301,17 +313,13 @@ pub fn bit_added(decl: usize, j: usize) -> Site
 pub fn newtype_changed(decl: usize, from: usize, to: usize) -> Site
     ensures { λ r. ⌜ r ≡ newtypeChanged decl from to ⌝ }
 {
-    let detail = from_to(
-        Subject::Newtype(decl),
-        Verb::TypeChanged,
-        Value::Type(from),
-        Value::Type(to),
-    );
     site(
         FIELD_TYPE_CHANGED,
         Bump::MAJOR,
         Scope::Old(decl),
         Item::Nothing,
-        detail,
+        Subject::Newtype(decl),
+        Verb::TypeChanged,
+        Values::FromTo(Value::Type(from), Value::Type(to)),
     )
 }

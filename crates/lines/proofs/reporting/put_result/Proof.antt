@@ -25,7 +25,7 @@ bump-there s = omega (arith, s .pre .0)
 
 -- the level that the result is of
 abbrev level : tie.After-result → ℕ
-level c = c .before .before .before .args .t .bump .level
+level c = c .before .before .before .before .args .t .bump .level
 
 result-there : (c : tie.After-result) → 21 + c .result .result < 32
 result-there c = omega (arith, c .result .ensures, result-most (level c))
@@ -47,7 +47,7 @@ Left k s r d = Owes (s .args .mode) (s .args .out .now) 0 (text s) r d (drop k (
 
 -- the start, from each piece
 abbrev s₁ : tie.After-put-word → tie.Start
-s₁ c = c .before .before .before .before .before
+s₁ c = c .before .before .before .before .before .before
 
 abbrev s₂ : tie.After-put-byte → tie.Start
 s₂ c = s₁ (c .before .before .before .before)
@@ -98,7 +98,7 @@ o₆ c = owes-next (o₅ (c .before .before .before .before)) (c .put-byte3 .ens
 
 put-word-requires : tie.Need-put-word-requires
 unfolding bytes
-put-word-requires c κs = (result-there (c .before), space-as (result (c .before)) (owes-room (o₀ (c .before .before .before .before))))
+put-word-requires c κs = (result-there (c .before), space-as (result (c .before)) (owes-room (o₀ (c .before .before .before .before .before))))
 
 put-byte-requires : tie.Need-put-byte-requires
 unfolding bytes
