@@ -16,7 +16,7 @@ use Rattle.refusals.specs.Refusals.{ExactlyIf}
 use Rattle.written.specs.Limits.{Each, Byte, Within}
 use Rattle.written.specs.Writer.{write}
 use Rattle.rules.specs.Survivors.{viewOf}
-use Rattle.rules.specs.Changes.{FieldOrdinalChanged, VariantOrdinalChanged, FlagsBitOrdinalChanged}
+use Rattle.rules.specs.Changes.{kindAt, FieldOrdinalChanged, VariantOrdinalChanged, FlagsBitOrdinalChanged}
 use Rattle.rules.specs.Clauses.{changes}
 use Rattle.rules.specs.Answer.{compared, plainReading, plain, checked, verdictOf, returned, leaves}
 use Rattle.rules.specs.Refusals.{AcceptedPair, AliasPair, PolicyRefusals, ReportRefusals, VerdictRefusals}
@@ -49,7 +49,7 @@ pub record Comparing : Type 0 where
       → checked old new ≡ compared (changes plainReading (viewOf (a .oldSchema)) (viewOf (a .newSchema)))
   -- "The three `..OrdinalChanged` counts are 0."
   pub ordinals : (old new : Image)
-      → All (λ kind. countBetween verdictOf kind old new ≡ 0) (FieldOrdinalChanged ∷ VariantOrdinalChanged ∷ FlagsBitOrdinalChanged ∷ [])
+      → All (λ kind. countBetween verdictOf kind old new ≡ 0) ((kindAt FieldOrdinalChanged) ∷ kindAt VariantOrdinalChanged ∷ kindAt FlagsBitOrdinalChanged ∷ [])
   -- who asks for the length first has room enough; the text is one and the same in every buffer that holds it; the bytes past it stay
   pub roomEnough : (old new out : Image) → verdictOf old new 4 ≤ length out → returned old new out ≡ verdictOf old new 4
   pub sameText : (old new out out′ : Image) → verdictOf old new 4 ≤ length out → verdictOf old new 4 ≤ length out′

@@ -8,7 +8,7 @@ use native.Mathlib.Omega.{arith}
 use borrow.Author.Tests.{le-leb, lt-leb}
 use lib.ListN.{length}
 use Rattle.image.specs.Schema.{Schema}
-use Rattle.parts.specs.Codes.{oldSide, newSide, bothSides}
+use Rattle.parts.specs.Codes.{number, oldSide, newSide, bothSides}
 use Rattle.text.specs.Text.{put, putIn, Space}
 use Rattle.text.specs.declared.Mode.the-variants.{Measure, Write}
 use Rattle.text.proofs.Writing.{space-measure, space-write}
@@ -48,25 +48,25 @@ module _ {j : Judged} {o : Option Fault} (e : faultOf j ≡ o) where
 -- ---- two images
 
 module _ (p : Policy) (old new : List ℕ) where
-  pub old-refused : {j : Judged} → faultOf j ≡ faultIn (policyOf p) oldSide old → {n s : ℕ} → j ≡ judging.Fault n s
+  pub old-refused : {j : Judged} → faultOf j ≡ faultIn (policyOf p) (number oldSide) old → {n s : ℕ} → j ≡ judging.Fault n s
       → refusedBy n s ≡ verdictIs (outcome (policyOf p) old new)
   unfolding faultOf verdictIs
   old-refused e q = sym (ap verdictIs (old-fault (policyOf p) old new (sym e ∙ ap faultOf q)))
 
-  module _ (a : Passing p oldSide old) where
+  module _ (a : Passing p (number oldSide) old) where
     old-passes : (x : Schema) × Passes (policyOf p) old x
     unfolding Passing
-    old-passes = no-fault (policyOf p) oldSide old a
+    old-passes = no-fault (policyOf p) (number oldSide) old a
 
-    pub new-refused : {j : Judged} → faultOf j ≡ faultIn (policyOf p) newSide new → {n s : ℕ} → j ≡ judging.Fault n s
+    pub new-refused : {j : Judged} → faultOf j ≡ faultIn (policyOf p) (number newSide) new → {n s : ℕ} → j ≡ judging.Fault n s
         → refusedBy n s ≡ verdictIs (outcome (policyOf p) old new)
     unfolding faultOf verdictIs
     new-refused e q = sym (ap verdictIs (new-fault (policyOf p) old new (old-passes .1) (sym e ∙ ap faultOf q)))
 
-    module _ (b : Passing p newSide new) where
+    module _ (b : Passing p (number newSide) new) where
       new-passes : (y : Schema) × Passes (policyOf p) new y
       unfolding Passing
-      new-passes = no-fault (policyOf p) newSide new b
+      new-passes = no-fault (policyOf p) (number newSide) new b
 
       pub both-accepted : BothAccepted old new
       both-accepted = (read-accepted old (old-passes .1 .read) .0, read-accepted new (new-passes .1 .read) .0)
@@ -134,7 +134,7 @@ module _ (p : Policy) (old new : List ℕ) where
       size = ap (λ (u : Verdict). u .length) (e ∙ ap verdictIs (this .is))
 
       -- 12
-      pub report-full : {r : Verdict} → length d < v .length → r ≡ refusedBy 12 bothSides → Reported p old new d r d
+      pub report-full : {r : Verdict} → length d < v .length → r ≡ refusedBy 12 (number bothSides) → Reported p old new d r d
       unfolding reportBy verdictIs fit written
       report-full l q =
           let full = lt-leb (length (report (changesBy p old new))) (length d) (omega (arith, size)) in

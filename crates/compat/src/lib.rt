@@ -20,7 +20,7 @@ use text::Mode;
 use verdicts::Verdict;
 ghost use mathlib.Core.Path.{_≡_};
 ghost use Rattle.parts.specs.Promise.{schemaOf};
-ghost use Rattle.parts.specs.Codes.{oldSide};
+ghost use Rattle.parts.specs.Codes.{number, oldSide};
 ghost use Rattle.rules.specs.Answer.{compared, faultIn, comparePair, outcome};
 ghost use Rattle.items.specs.Pairs.{BothAccepted};
 ghost use Rattle.checking.specs.Decls.{allChanges};
@@ -71,7 +71,7 @@ fn compare(policy: Policy, old: &[u8], new: &[u8]) -> Verdict
 
 // The new image, after the old one is accepted.
 fn verdict_new(policy: Policy, old: &[u8], new: &[u8]) -> Verdict
-    requires { ⌜ Passing policy oldSide (now old) ⌝ }
+    requires { ⌜ Passing policy (number oldSide) (now old) ⌝ }
     ensures { λ r. ⌜ r ≡ verdictIs (outcome (policyOf policy) (now (old .entry)) (now (new .entry))) ⌝ }
 {
     match accept(policy, new, NEW) {

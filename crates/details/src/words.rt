@@ -3,7 +3,7 @@ use text::Mode;
 use text::put_text;
 ghost use Prim.Native.Nat.{_≤_, _<_};
 ghost use lib.ListN.{length};
-ghost use Rattle.parts.specs.Kinds.{implKind};
+ghost use Rattle.parts.specs.Codes.{number, implKind};
 ghost use Rattle.image.specs.Words.{kindWord};
 ghost use Rattle.text.specs.Text.{Space, Puts};
 ghost use Rattle.details.specs.Words.{wordAt};
@@ -66,7 +66,7 @@ pub fn put_word(mode: Mode, out: &mut [u8], at: usize, word: usize) -> usize
 
 // The word of a kind of declaration.
 pub fn put_kind(mode: Mode, out: &mut [u8], at: usize, kind: u8) -> usize
-    requires { ⌜ (kind ≤ implKind) × Space mode (now out) at (length (kindWord kind)) ⌝ }
+    requires { ⌜ (kind ≤ (number implKind)) × Space mode (now out) at (length (kindWord kind)) ⌝ }
     ensures { λ r. ⌜ Puts mode (now (out .entry)) at (kindWord kind) r (now (out .exit)) ⌝ }
 {
     put_word(mode, out, at, DECLS + kind as usize)

@@ -27,7 +27,7 @@ use types::nodes::inner_types;
 ghost use mathlib.Core.Path.{_≡_};
 ghost use Prim.Native.Nat.{_<_};
 ghost use lib.ListN.{length};
-ghost use Rattle.parts.specs.Kinds.{subByteTag, namedTag};
+ghost use Rattle.parts.specs.Codes.{number, subByteTag, namedTag};
 ghost use Rattle.parts.specs.Promise.{Accepted, LabelHere, labelIn, TypeHere};
 ghost use Rattle.rules.specs.Text.{showName};
 ghost use Rattle.text.specs.Text.{Space, Puts};
@@ -54,7 +54,7 @@ fn named_display(mode: Mode, image: &[u8], out: &mut [u8], at: usize, id: u32) -
 
 // `u3`, `i5`.
 fn sub_byte_display(mode: Mode, image: &[u8], out: &mut [u8], at: usize, node: usize) -> usize
-    requires { ⌜ LabelHere (now image) node × (labelIn (now image) node .tag ≡ subByteTag) × Space mode (now out) at (length (leafText (now image) node)) ⌝ }
+    requires { ⌜ LabelHere (now image) node × (labelIn (now image) node .tag ≡ (number subByteTag)) × Space mode (now out) at (length (leafText (now image) node)) ⌝ }
     ensures { λ r. ⌜ Puts mode (now (out .entry)) at (leafText (now (image .entry)) node) r (now (out .exit)) ⌝ }
 {
     let signed = put_word(mode, out, at, b"u i ", type_code(image, node));
@@ -77,7 +77,7 @@ fn label_names(image: &[u8], node: usize) -> Run
 
 // `bits { a, b }`.
 fn bits_display(mode: Mode, image: &[u8], out: &mut [u8], at: usize, node: usize) -> usize
-    requires { ⌜ LabelHere (now image) node × (namedTag < labelIn (now image) node .tag) × Space mode (now out) at (length (leafText (now image) node)) ⌝ }
+    requires { ⌜ LabelHere (now image) node × ((number namedTag) < labelIn (now image) node .tag) × Space mode (now out) at (length (leafText (now image) node)) ⌝ }
     ensures { λ r. ⌜ Puts mode (now (out .entry)) at (leafText (now (image .entry)) node) r (now (out .exit)) ⌝ }
 {
     let opened = put_text(mode, out, at, b"bits { ");

@@ -3,7 +3,7 @@ use mathlib.Core.Option.{Option, none, some}
 use mathlib.Core.List.{List, []}
 use Prim.Native.Nat.{ℕ, zero, suc, _/_, _%_}
 use lib.Dec.{eqb}
-use Rattle.image.specs.Codes.{bodyRefusal, deepRefusal}
+use Rattle.image.specs.Codes.{number, bodyRefusal, deepRefusal}
 use Rattle.image.specs.Schema.{Marks, Encoding, Field, Variant}
 use Rattle.image.specs.Parse.{Parsed, ok, no, bind, pick, codeAt, numberAt, counted}
 use Rattle.image.specs.Names.{nameAt}
@@ -25,7 +25,7 @@ delta e = record { deltas = suc (e .deltas); base = e .base }
 
 -- an encoding of at most `left` deltas; one more is refused on reading its byte
 unfoldable pub encodingOf : ℕ → List ℕ → ℕ → Parsed Encoding
-encodingOf zero s at = bind (codeAt 0 3 s at) (λ b n. pick (eqb b 3) (no deepRefusal) (ok (plain b) n))
+encodingOf zero s at = bind (codeAt 0 3 s at) (λ b n. pick (eqb b 3) (no (number deepRefusal)) (ok (plain b) n))
 encodingOf (suc left) s at =
     bind (codeAt 0 3 s at) (λ b n.
     pick (eqb b 3) (bind (encodingOf left s n) (λ e m. ok (delta e) m)) (ok (plain b) n))
@@ -41,7 +41,7 @@ limitAt s at = bind (codeAt 0 1 s at) (λ b n. pick (eqb b 0) (ok none n) (bind 
 unfoldable pub fieldAt : List ℕ → ℕ → Parsed Field
 fieldAt s at =
     bind (numberAt 4 s at) (λ o n₁.
-    bind (nameAt bodyRefusal s n₁) (λ x n₂.
+    bind (nameAt (number bodyRefusal) s n₁) (λ x n₂.
     bind (marksAt s n₂) (λ m n₃.
     bind (encodingAt s n₃) (λ e n₄.
     bind (limitAt s n₄) (λ l n₅.
@@ -52,13 +52,13 @@ fieldAt s at =
 unfoldable pub bareAt : List ℕ → ℕ → Parsed Variant
 bareAt s at =
     bind (numberAt 4 s at) (λ o n₁.
-    bind (nameAt bodyRefusal s n₁) (λ x n₂.
+    bind (nameAt (number bodyRefusal) s n₁) (λ x n₂.
     ok (record { ordinal = o; name = x; fields = [] }) n₂))
 
 -- a variant of a union: "u32 ordinal, name, u16 count, fields"
 unfoldable pub variantAt : List ℕ → ℕ → Parsed Variant
 variantAt s at =
     bind (numberAt 4 s at) (λ o n₁.
-    bind (nameAt bodyRefusal s n₁) (λ x n₂.
+    bind (nameAt (number bodyRefusal) s n₁) (λ x n₂.
     bind (counted fieldAt s n₂) (λ fs n₃.
     ok (record { ordinal = o; name = x; fields = fs }) n₃)))

@@ -5,7 +5,7 @@ use mathlib.Core.List.{List, [], _∷_}
 use Prim.Native.Nat.{ℕ, zero, suc, _+_, _*_}
 use lib.Dec.{eqb, leb}
 use lib.ListN.{length, drop}
-use Rattle.image.specs.Codes.{longRefusal, shortHeadRefusal, formatRefusal, crowdedRefusal, contentsRefusal}
+use Rattle.image.specs.Codes.{number, longRefusal, shortHeadRefusal, formatRefusal, crowdedRefusal, contentsRefusal}
 use Rattle.image.specs.Schema.{Decl, Schema}
 use Rattle.image.specs.Parse.{Parsed, ok, bind, pick, need, part, littleEndian}
 use Rattle.image.specs.Names.{namesAt}
@@ -49,15 +49,15 @@ idsFrom (suc count) s at = littleEndian 4 (drop at s) ∷ idsFrom count s (at + 
 -- "1, eight bytes there (2), 3, 4"
 unfoldable pub headOf : List ℕ → Parsed (Unit {0})
 headOf s =
-    need (leb (length s) 32768) longRefusal
-    (need (leb 8 (length s)) shortHeadRefusal
-    (need (eqb (format s) 1) formatRefusal
-    (need (leb (entryCount s) 512 && (leb (idCount s) 512 && leb (segmentCount s) 16)) crowdedRefusal
+    need (leb (length s) 32768) (number longRefusal)
+    (need (leb 8 (length s)) (number shortHeadRefusal)
+    (need (eqb (format s) 1) (number formatRefusal)
+    (need (leb (entryCount s) 512 && (leb (idCount s) 512 && leb (segmentCount s) 16)) (number crowdedRefusal)
     (ok tt 8))))
 
 -- the contents and the ids are there
 unfoldable pub tablesOf : List ℕ → Parsed (List ℕ)
-tablesOf s = need (leb (segmentsAt s) (length s)) shortHeadRefusal (ok (idsFrom (idCount s) s (idsAt s)) (segmentsAt s))
+tablesOf s = need (leb (segmentsAt s) (length s)) (number shortHeadRefusal) (ok (idsFrom (idCount s) s (idsAt s)) (segmentsAt s))
 
 -- "Then the bodies, in contents order, without gaps, the last ending the image. With no body the names end the image." And: "0 and 0 for
 -- an empty entry; any other entry has a length of 1 or more". So of `count` entries from the i-th on, whose bodies start at `at`.
@@ -85,7 +85,7 @@ unfoldable pub readImage : List ℕ → Parsed Schema
 readImage s =
     bind (headOf s) (λ h n₁.
     bind (tablesOf s) (λ ids n₂.
-    bind (namesAt shortHeadRefusal (segmentCount s) s n₂) (λ names n₃.
-    need (laid (entryCount s) s 0 n₃) contentsRefusal
+    bind (namesAt (number shortHeadRefusal) (segmentCount s) s n₂) (λ names n₃.
+    need (laid (entryCount s) s 0 n₃) (number contentsRefusal)
     (bind (entriesOf (entryCount s) s 0) (λ es n₄.
     ok (record { registry = es; ids = ids; namespace = names }) n₄)))))

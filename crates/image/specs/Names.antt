@@ -4,7 +4,7 @@ use mathlib.Core.List.{List, [], _∷_}
 use Prim.Native.Nat.{ℕ, _+_}
 use lib.Dec.{leb, eqb}
 use lib.ListN.{length}
-use Rattle.image.specs.Codes.{nameRefusal}
+use Rattle.image.specs.Codes.{number, nameRefusal}
 use Rattle.image.specs.Schema.{Name}
 use Rattle.image.specs.Parse.{Parsed, ok, bind, need, part, byteAt, many}
 
@@ -22,7 +22,7 @@ unfoldable pub nameAt : ℕ → List ℕ → ℕ → Parsed Name
 nameAt short s at =
     bind (byteAt short s at) (λ k n.
     need (leb (n + k) (length s)) short
-    (need (nameBytes (part n k s)) nameRefusal
+    (need (nameBytes (part n k s)) (number nameRefusal)
     (ok (part n k s) (n + k))))
 
 unfoldable pub namesAt : ℕ → ℕ → List ℕ → ℕ → Parsed (List Name)

@@ -4,7 +4,7 @@ use mathlib.Core.List.{List, [], _∷_}
 use Prim.Native.Nat.{ℕ, zero, suc, _+_, _*_}
 use lib.Dec.{ltb, leb}
 use lib.ListN.{length, getD, take, drop}
-use Rattle.image.specs.Codes.{bodyRefusal, codeRefusal}
+use Rattle.image.specs.Codes.{number, bodyRefusal, codeRefusal}
 
 pub data Parsed (A : Type 0) : Type 0 where
   ok : A → ℕ → Parsed A
@@ -43,7 +43,7 @@ byteAt short s at = need (ltb at (length s)) short (ok (getD s at 0) (at + 1))
 
 -- a coded byte from lo to hi
 unfoldable pub codeAt : ℕ → ℕ → List ℕ → ℕ → Parsed ℕ
-codeAt lo hi s at = bind (byteAt bodyRefusal s at) (λ b n. need (leb lo b && leb b hi) codeRefusal (ok b n))
+codeAt lo hi s at = bind (byteAt (number bodyRefusal) s at) (λ b n. need (leb lo b && leb b hi) (number codeRefusal) (ok b n))
 
 -- the number of the first w bytes, the lowest first
 unfoldable pub littleEndian : ℕ → List ℕ → ℕ
@@ -52,7 +52,7 @@ littleEndian (suc w) s = getD s 0 0 + 256 * littleEndian w (drop 1 s)
 
 -- a number of w bytes
 unfoldable pub numberAt : ℕ → List ℕ → ℕ → Parsed ℕ
-numberAt w s at = need (leb (at + w) (length s)) bodyRefusal (ok (littleEndian w (drop at s)) (at + w))
+numberAt w s at = need (leb (at + w) (length s)) (number bodyRefusal) (ok (littleEndian w (drop at s)) (at + w))
 
 -- so many of a kind, one after the other
 unfoldable pub many : {A : Type 0} → (List ℕ → ℕ → Parsed A) → ℕ → List ℕ → ℕ → Parsed (List A)

@@ -3,7 +3,7 @@ use mathlib.Core.Bool.{Bool, false}
 use mathlib.Core.Option.{Option}
 use mathlib.Core.List.{List, []}
 use Prim.Native.Nat.{ℕ}
-use Rattle.image.specs.Kinds.{primitiveTag}
+use Rattle.image.specs.Codes.{number, primitiveTag}
 
 -- a name is its bytes
 abbrev pub Name : Type 0
@@ -65,7 +65,7 @@ pub record Decl : Type 0 where
   pub inner : Ty
 
 abbrev pub noType : Ty
-noType = leaf (label primitiveTag 0 0 [])
+noType = leaf (label (number primitiveTag) 0 0 [])
 
 abbrev pub decl : ℕ → Name → Marks → List Field → List Variant → Ty → Decl
 decl kind name marks fields variants inner =

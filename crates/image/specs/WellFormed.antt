@@ -2,7 +2,7 @@
 -- in, and the end is 0. Assumes nothing.
 use mathlib.Core.List.{List, []}
 use Prim.Native.Nat.{ℕ}
-use Rattle.image.specs.Kinds.{primitiveTag}
+use Rattle.image.specs.Codes.{number, primitiveTag}
 use Rattle.image.specs.Schema.{Label, label, Ty, noType}
 use Rattle.image.specs.Parse.{Parsed, ok, no}
 use Rattle.image.specs.Types.{labelOf, typeOf}
@@ -21,7 +21,7 @@ endOf (no k) = 0
 
 -- the label and the type at the start of a part
 unfoldable pub labelIn : List ℕ → Label
-labelIn s = valueOr (label primitiveTag 0 0 []) (labelOf s)
+labelIn s = valueOr (label (number primitiveTag) 0 0 []) (labelOf s)
 
 unfoldable pub treeIn : ℕ → List ℕ → Ty
 treeIn depth s = valueOr noType (typeOf depth s)

@@ -5,13 +5,13 @@ use crate::refusals::CODE;
 ghost use mathlib.Core.Path.{_≡_};
 ghost use Prim.Native.Nat.{_+_, _^_, _≤_, _<_};
 ghost use lib.ListN.{length, getD, drop};
-ghost use Rattle.image.specs.Codes.{bodyRefusal};
+ghost use Rattle.image.specs.Codes.{number, bodyRefusal};
 ghost use Rattle.image.specs.Parse.{byteAt, codeAt, numberAt, littleEndian};
 ghost use Rattle.image.specs.Reads.{skip};
 
 // A byte of a body.
 pub fn read_byte(s: &[u8], at: usize) -> Read
-    ensures { λ r. ⌜ r ≡ skip (byteAt bodyRefusal (now (s .entry)) at) ⌝ }
+    ensures { λ r. ⌜ r ≡ skip (byteAt (number bodyRefusal) (now (s .entry)) at) ⌝ }
 {
     if s.len() <= at {
         return Read::Refused(BODY);

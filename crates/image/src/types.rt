@@ -11,13 +11,13 @@ use crate::tags;
 ghost use mathlib.Core.Path.{_≡_};
 ghost use Prim.Native.Nat.{_≤_};
 ghost use lib.ListN.{length};
-ghost use Rattle.image.specs.Kinds.{subByteTag, bitsTag};
+ghost use Rattle.image.specs.Codes.{number, subByteTag, bitsTag};
 ghost use Rattle.image.specs.Types.{subByte, bits, afterTag, labelOf, innerTypes, typeOf, typeAt};
 ghost use Rattle.image.specs.Reads.{skip};
 
 // Whether a sub-byte is signed, and its bits.
 fn read_sub_byte(s: &[u8], at: usize) -> Read
-    ensures { λ r. ⌜ r ≡ skip (afterTag subByteTag subByte (now (s .entry)) at) ⌝ }
+    ensures { λ r. ⌜ r ≡ skip (afterTag (number subByteTag) subByte (now (s .entry)) at) ⌝ }
 {
     let step = read_code(s, at, 0, 1);
     let Read::At(next) = step else {
@@ -28,7 +28,7 @@ fn read_sub_byte(s: &[u8], at: usize) -> Read
 
 // A count and as many names.
 fn read_bits(s: &[u8], at: usize) -> Read
-    ensures { λ r. ⌜ r ≡ skip (afterTag bitsTag bits (now (s .entry)) at) ⌝ }
+    ensures { λ r. ⌜ r ≡ skip (afterTag (number bitsTag) bits (now (s .entry)) at) ⌝ }
 {
     let step = read_byte(s, at);
     let Read::At(next) = step else {

@@ -14,7 +14,7 @@ use Rattle.text.specs.Text.{Space, Puts}
 use Rattle.text.specs.declared.Mode.the-variants.{Measure, Write}
 use Rattle.text.proofs.Writing.{space-measure, space-write, puts-written}
 use Rattle.rules.specs.Outcome.{Outcome, refused, answered, textOnly, fit, textLength, written}
-use Rattle.parts.specs.Codes.{oldSide}
+use Rattle.parts.specs.Codes.{number, oldSide}
 use Rattle.rules.specs.Answer.{plain}
 use Rattle.rules.specs.Refusals.{OneToTen, Decided, oldRefused, oldAlone, newRefused, newAlone, pairRefused, verdict}
 use Rattle.rules.proofs.Answer.{decided}
@@ -32,14 +32,14 @@ text s = listing (schemaOf s)
 -- ---- an accepted image, by whether its listing fits
 
 module _ (s : List ℕ) (g : Accepted s) where
-  accepted-is : (room : ℕ) → outcome s room ≡ cond (leb (length (text s)) room) (textOnly (text s)) (refused 12 oldSide)
+  accepted-is : (room : ℕ) → outcome s room ≡ cond (leb (length (text s)) room) (textOnly (text s)) (refused 12 (number oldSide))
   unfolding outcome accept fit
   accepted-is room = rw (accepted-read s g .1)
 
   fits-is : (room : ℕ) → length (text s) ≤ room → outcome s room ≡ textOnly (text s)
   fits-is room h = accepted-is room ∙ rw (le-leb (length (text s)) room h)
 
-  full-is : (room : ℕ) → room < length (text s) → outcome s room ≡ refused 12 oldSide
+  full-is : (room : ℕ) → room < length (text s) → outcome s room ≡ refused 12 (number oldSide)
   full-is room h = accepted-is room ∙ rw (lt-leb (length (text s)) room h)
 
   -- ---- the pass that measures
@@ -48,7 +48,7 @@ module _ (s : List ℕ) (g : Accepted s) where
   measure-space = space-measure (omega (arith, listing-small s g))
 
   module _ (room : ℕ) {d : List ℕ} {n : ℕ} {d′ : List ℕ} (p : Puts Measure d 0 (text s) n d′) where
-    pub measured-full : room < n → refusedBy 12 oldSide ≡ verdictIs (outcome s room)
+    pub measured-full : room < n → refusedBy 12 (number oldSide) ≡ verdictIs (outcome s room)
     unfolding verdictIs
     measured-full h = sym (ap verdictIs (full-is room (omega (arith, p .end))))
 
@@ -62,14 +62,14 @@ module _ (s : List ℕ) (g : Accepted s) where
 
 module _ (s : List ℕ) (room : ℕ) where
   pub data Case : Outcome → Type 0 where
-    turned : {k : ℕ} → OneToTen k → RefusedBy s k → Case (refused k oldSide)
-    full : Accepted s → room < length (text s) → Case (refused 12 oldSide)
+    turned : {k : ℕ} → OneToTen k → RefusedBy s k → Case (refused k (number oldSide))
+    full : Accepted s → room < length (text s) → Case (refused 12 (number oldSide))
     fits : Accepted s → length (text s) ≤ room → Case (textOnly (text s))
 
   held : Accepted s → Case (outcome s room)
   held g = rw (accepted-is s g room) (go (leb (length (text s)) room) refl)
     where
-      go : (b : Bool) → leb (length (text s)) room ≡ b → Case (cond b (textOnly (text s)) (refused 12 oldSide))
+      go : (b : Bool) → leb (length (text s)) room ≡ b → Case (cond b (textOnly (text s)) (refused 12 (number oldSide)))
       go true q = fits g (leb-true (length (text s)) room q)
       go false q = full g (leb-false (length (text s)) room q)
 

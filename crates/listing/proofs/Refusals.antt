@@ -13,7 +13,7 @@ use Rattle.parts.specs.Promise.{Accepted, schemaOf}
 use Rattle.parts.proofs.Promise.{accepted-read}
 use Rattle.rules.specs.Changes.{kindCount}
 use Rattle.rules.specs.Outcome.{Outcome, refused, textOnly, selected, select, fit}
-use Rattle.parts.specs.Codes.{oldSide}
+use Rattle.parts.specs.Codes.{number, oldSide}
 use Rattle.rules.proofs.Outcomes.{not-answered, nothing-told, nothing-written, length-selected}
 use Rattle.listing.specs.Listing.{entryText, linesFrom, listing, accept, outcome, listingVerdict}
 use Rattle.listing.specs.Refusals.{Holds, RefusedBy, ListingRefusals}
@@ -101,7 +101,7 @@ module _ (s : List ℕ) (room : ℕ) where
   number-given k (fits g l) e = absurd (let r = accepted-read s g .1 in let z : _≡_ {A = ℕ} 0 1 = cc in omega arith)
 
   module _ {P : Schema → Type 0} (a : Holds s P) where
-    held-is : outcome s room ≡ cond (leb (length (listing (a .schema))) room) (textOnly (listing (a .schema))) (refused 12 oldSide)
+    held-is : outcome s room ≡ cond (leb (length (listing (a .schema))) room) (textOnly (listing (a .schema))) (refused 12 (number oldSide))
     unfolding outcome accept fit
     held-is = rw (a .read)
 

@@ -10,7 +10,7 @@ use Rattle.image.specs.Parse.{Parsed, ok, no}
 use Rattle.image.specs.Image.{readImage}
 use Rattle.text.specs.Decimal.{decimal}
 use Rattle.rules.specs.Outcome.{Outcome, refused, textOnly, select, fit, textLength, written}
-use Rattle.parts.specs.Codes.{oldSide}
+use Rattle.parts.specs.Codes.{number, oldSide}
 
 -- ---- the text
 
@@ -39,11 +39,11 @@ listing x = linesFrom 0 (x .registry)
 -- "for one accepted image"; "by 1 to 10 .., always with side old"
 unfoldable pub accept : Parsed Schema → Outcome
 accept (ok x n) = textOnly (listing x)
-accept (no k) = refused k oldSide
+accept (no k) = refused k (number oldSide)
 
 -- 12: longer than the buffer, which has room for so many bytes
 unfoldable pub outcome : List ℕ → ℕ → Outcome
-outcome image room = fit oldSide room (accept (readImage image))
+outcome image room = fit (number oldSide) room (accept (readImage image))
 
 -- the verdict call, by selector: "0 the number, 1 the side .., 4 the length", and of a refusal bump and result "as the report does"; else 0
 unfoldable pub listingVerdict : List ℕ → ℕ → ℕ → ℕ

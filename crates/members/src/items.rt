@@ -10,7 +10,7 @@ use parts::names::name_end;
 ghost use mathlib.Core.Path.{_≡_};
 ghost use Prim.Native.Nat.{_+_, _≤_};
 ghost use lib.ListN.{length};
-ghost use Rattle.image.specs.Kinds.{unionKind};
+ghost use Rattle.image.specs.Codes.{number, unionKind};
 ghost use Rattle.parts.specs.Promise.{DeclHere, declIn, itemsIn, ItemHere, itemEnd, ItemsHere, itemsEnd, ordinalIn, itemName, itemsAt, variantItems};
 
 // The ordinal of an item; of flags it is the bit.
@@ -42,7 +42,7 @@ fn items_at(image: &[u8], at: usize) -> Run
 
 // The items of a message, an enum, flags or a union.
 pub fn decl_items(image: &[u8], at: usize) -> Run
-    requires { ⌜ DeclHere (now image) at × (declIn (now image) at .kind ≤ unionKind) ⌝ }
+    requires { ⌜ DeclHere (now image) at × (declIn (now image) at .kind ≤ (number unionKind)) ⌝ }
     ensures { λ r. ⌜ r ≡ itemsIn (now (image .entry)) at ⌝ }
 {
     let end = name_end(image, at + 1);

@@ -8,8 +8,8 @@ use mathlib.Core.List.{List, [], _∷_, map}
 use Prim.Native.Nat.{ℕ, zero, suc, _+_, _-_, _≤_, _<_}
 use lib.Dec.{leb}
 use lib.ListN.{length, getD, take, drop}
-use Rattle.image.specs.Codes.{bodyRefusal}
-use Rattle.image.specs.Kinds.{kindOf, enumKind, implKind, primitiveTag, subByteTag, semanticTag, namedTag, fixedArrayTag, bitsTag}
+use Rattle.image.specs.Codes.{number, bodyRefusal, enumKind, implKind, primitiveTag, subByteTag, semanticTag, namedTag, fixedArrayTag, bitsTag}
+use Rattle.image.specs.Kinds.{kindOf}
 use Rattle.image.specs.Schema.{Name, unmarked, Label, label, Ty, noType, Field, Variant, Decl, decl, Schema}
 use Rattle.image.specs.Schema.{Encoding as Coding}
 use Rattle.image.specs.Parse.{Parsed, bind, littleEndian, byteAt, many}
@@ -37,7 +37,7 @@ schemaOf s = valueOr (record { registry = []; ids = []; namespace = [] }) (readI
 
 -- of places where none stands
 abbrev pub noLabel : Label
-noLabel = label primitiveTag 0 0 []
+noLabel = label (number primitiveTag) 0 0 []
 
 abbrev pub noField : Field
 noField = record { ordinal = 0; name = []; marks = unmarked; encoding = plain 0; limit = none; type = noType }
@@ -46,17 +46,17 @@ abbrev pub noVariant : Variant
 noVariant = record { ordinal = 0; name = []; fields = [] }
 
 abbrev pub noDecl : Decl
-noDecl = decl implKind [] unmarked [] [] noType
+noDecl = decl (number implKind) [] unmarked [] [] noType
 
 -- Names.
 unfoldable pub NameHere : List ℕ → ℕ → Type 0
-NameHere s at = Good (nameAt bodyRefusal s at)
+NameHere s at = Good (nameAt (number bodyRefusal) s at)
 
 unfoldable pub nameIn : List ℕ → ℕ → Name
-nameIn s at = valueOr [] (nameAt bodyRefusal s at)
+nameIn s at = valueOr [] (nameAt (number bodyRefusal) s at)
 
 unfoldable pub nameEnd : List ℕ → ℕ → ℕ
-nameEnd s at = endOf (nameAt bodyRefusal s at)
+nameEnd s at = endOf (nameAt (number bodyRefusal) s at)
 
 -- Things one after the other: the places of so many, from the first one's and what ends one.
 unfoldable pub placesBy : (ℕ → ℕ) → ℕ → ℕ → List ℕ
@@ -64,14 +64,14 @@ placesBy end zero at = []
 placesBy end (suc count) at = at ∷ placesBy end count (end at)
 
 unfoldable pub NamesHere : List ℕ → ℕ → ℕ → Type 0
-NamesHere s count at = Good (namesAt bodyRefusal count s at)
+NamesHere s count at = Good (namesAt (number bodyRefusal) count s at)
 
 unfoldable pub namePlaces : List ℕ → ℕ → ℕ → List ℕ
 namePlaces s count at = placesBy (nameEnd s) count at
 
 -- the place after so many names
 unfoldable pub namesEnd : List ℕ → ℕ → ℕ → ℕ
-namesEnd s count at = endOf (namesAt bodyRefusal count s at)
+namesEnd s count at = endOf (namesAt (number bodyRefusal) count s at)
 
 -- so many names stand in a row, and are these
 pub record NamesListed (s : List ℕ) (n : Run) (xs : List Name) : Type 0 where
@@ -87,14 +87,14 @@ labelIn s at = valueOr noLabel (labelOf (drop at s))
 
 -- what its tag has is within document 01's values, and what it has not is 0 or empty
 pub record Regular (l : Label) : Type 0 where
-  pub most : l .tag ≤ bitsTag
-  pub primitive : l .tag ≡ primitiveTag → l .first ≤ 13
-  pub sign : l .tag ≡ subByteTag → l .first ≤ 1
-  pub bits : l .tag ≡ subByteTag → (1 ≤ l .second) × (l .second ≤ 64)
-  pub semantic : l .tag ≡ semanticTag → l .first ≤ 5
-  pub first : namedTag < l .tag → (l .tag ≡ fixedArrayTag → ⊥) → l .first ≡ 0
-  pub second : (l .tag ≡ subByteTag → ⊥) → l .second ≡ 0
-  pub names : (l .tag ≡ bitsTag → ⊥) → l .names ≡ []
+  pub most : l .tag ≤ number bitsTag
+  pub primitive : l .tag ≡ number primitiveTag → l .first ≤ 13
+  pub sign : l .tag ≡ number subByteTag → l .first ≤ 1
+  pub bits : l .tag ≡ number subByteTag → (1 ≤ l .second) × (l .second ≤ 64)
+  pub semantic : l .tag ≡ number semanticTag → l .first ≤ 5
+  pub first : (number namedTag) < l .tag → (l .tag ≡ number fixedArrayTag → ⊥) → l .first ≡ 0
+  pub second : (l .tag ≡ number subByteTag → ⊥) → l .second ≡ 0
+  pub names : (l .tag ≡ number bitsTag → ⊥) → l .names ≡ []
 
 -- where the first inner type starts, if there is one
 unfoldable pub labelEnd : List ℕ → ℕ → ℕ
@@ -198,7 +198,7 @@ limitOf Unlimited = none
 
 -- Declarations.
 unfoldable pub bodyAt : List ℕ → ℕ → Parsed Decl
-bodyAt s at = bind (byteAt bodyRefusal s at) (λ kind n. declAt (kindOf kind) s n)
+bodyAt s at = bind (byteAt (number bodyRefusal) s at) (λ kind n. declAt (kindOf kind) s n)
 
 unfoldable pub DeclHere : List ℕ → ℕ → Type 0
 DeclHere s at = Good (bodyAt s at)
@@ -208,7 +208,7 @@ declIn s at = valueOr noDecl (bodyAt s at)
 
 -- the items of a message, an enum, flags or a union: only the first two have marks before the count
 unfoldable pub itemsIn : List ℕ → ℕ → Run
-itemsIn s at = itemsAt s (nameEnd s (at + 1) + cond (leb (declIn s at .kind) enumKind) 1 0)
+itemsIn s at = itemsAt s (nameEnd s (at + 1) + cond (leb (declIn s at .kind) (number enumKind)) 1 0)
 
 -- the type of a newtype
 unfoldable pub innerPlace : List ℕ → ℕ → ℕ

@@ -4,7 +4,7 @@ use crate::names::name_end;
 use image::kinds::ENUM;
 use image::kinds::IMPL;
 ghost use mathlib.Core.Path.{_≡_};
-ghost use Rattle.image.specs.Kinds.{newtypeKind};
+ghost use Rattle.image.specs.Codes.{number, newtypeKind};
 ghost use Rattle.image.specs.Fields.{marksOf};
 ghost use Rattle.parts.specs.Promise.{DeclHere, declIn, innerPlace};
 
@@ -57,7 +57,7 @@ pub fn non_exhaustive(image: &[u8], at: usize) -> bool
 
 // Where a newtype's type stands.
 pub fn inner_type(image: &[u8], at: usize) -> usize
-    requires { ⌜ DeclHere (now image) at × (declIn (now image) at .kind ≡ newtypeKind) ⌝ }
+    requires { ⌜ DeclHere (now image) at × (declIn (now image) at .kind ≡ (number newtypeKind)) ⌝ }
     ensures { λ r. ⌜ r ≡ innerPlace (now (image .entry)) at ⌝ }
 {
     name_end(image, at + 1)

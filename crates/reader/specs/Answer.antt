@@ -1,7 +1,7 @@
 -- What the reader's answer says of the definitions. Assumes nothing.
 use mathlib.Core.Path.{_≡_}
 use Prim.Native.Nat.{ℕ}
-use Rattle.image.specs.Codes.{notRefused}
+use Rattle.image.specs.Codes.{number, notRefused}
 use Rattle.image.specs.Parse.{Parsed, ok, no}
 use Rattle.image.specs.Reads.{refusal}
 use Rattle.reader.specs.declared.Acceptance.{Acceptance}
@@ -9,7 +9,7 @@ use Rattle.reader.specs.declared.Acceptance.the-variants.{Accepted, Reje
 
 -- document 01's number of an answer: 0 for an image that is accepted
 unfoldable pub refusalOf : Acceptance → ℕ
-refusalOf Accepted = notRefused
+refusalOf Accepted = (number notRefused)
 refusalOf (Rejected k) = k
 
 -- whether a parse is accepted, or the refusal

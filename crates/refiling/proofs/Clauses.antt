@@ -13,7 +13,8 @@ use Rattle.maps.proofs.Orders.{byNumber}
 use Rattle.maps.proofs.Reorderings.{reordered-all}
 use Rattle.maps.proofs.Alike.{survivors-once, compare-alike}
 use Rattle.image.specs.Schema.{Name, Label, label, Ty, Field, Variant, Decl}
-use Rattle.image.specs.Kinds.{Kind, kindOf, message, enum, flags, union, newtype, config, alias, trait, impl, other, implKind}
+use Rattle.image.specs.Kinds.{Kind, kindOf, message, enum, flags, union, newtype, config, alias, trait, impl, other}
+use Rattle.image.specs.Codes.{number, implKind}
 use Rattle.rules.specs.Survivors.{Registry, standsFor, nameOf, ordinalOf, fieldMap, variantOrdinal, variantMap}
 use Rattle.rules.specs.Types.{nameOrNone, resolveLabel, resolve}
 use Rattle.rules.specs.Changes.{Bump, Change}
@@ -231,7 +232,7 @@ module _ (same : Ty → Ty → Bool) {R R′ S S′ : Registry} {to from to′ f
   NewDecl = LikeDecl S S′ to′
 
   -- impls are silent
-  impl-silent : (r : Context) (d e : Decl) (k : ℕ) → k ≡ implKind → compareKind (kindOf k) r d e ≡ []
+  impl-silent : (r : Context) (d e : Decl) (k : ℕ) → k ≡ number implKind → compareKind (kindOf k) r d e ≡ []
   unfolding compareKind kindOf
   impl-silent r d e k p = rw p
 

@@ -7,7 +7,7 @@ use Rattle.image.specs.Schema.{Schema}
 use Rattle.image.specs.Parse.{ok}
 use Rattle.image.specs.Image.{readImage}
 use Rattle.rules.specs.Outcome.{Outcome, select, fit, textLength, written}
-use Rattle.image.specs.Codes.{bothSides}
+use Rattle.image.specs.Codes.{number, bothSides}
 use Rattle.rules.specs.Answer.{judged, onSide, acceptNew, acceptOld, outcome, verdictBy, reportBy, plain, checked}
 use Rattle.rules.proofs.Answer.{plain-numbered}
 use Rattle.rules.proofs.Calls.{room-enough, same-text}
@@ -32,10 +32,10 @@ module _ (old new old′ new′ : List ℕ) where
       held out h = rw (ap (λ o. select o 4) e) h
 
       returnedOf : List ℕ → Outcome → ℕ
-      returnedOf out o = textLength (fit bothSides (length out) o)
+      returnedOf out o = textLength (fit (number bothSides) (length out) o)
 
       leavesOf : List ℕ → Outcome → List ℕ
-      leavesOf out o = written (fit bothSides (length out) o) out
+      leavesOf out o = written (fit (number bothSides) (length out) o) out
 
   listed-once : RefiledImage ListedOnce old old′ → RefiledImage ListedOnce new new′ → SameAnswers old new old′ new′
   unfolding outcome acceptOld acceptNew onSide judged

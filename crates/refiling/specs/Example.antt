@@ -6,7 +6,7 @@ use mathlib.Core.List.{List, [], _∷_, map}
 use Prim.Native.Nat.{ℕ}
 use Prim.Native.String.{String}
 use Rattle.image.specs.Schema.{unmarked, label, leaf, noType, decl, Schema}
-use Rattle.image.specs.Kinds.{messageKind, configKind, bitsTag}
+use Rattle.image.specs.Codes.{number, messageKind, configKind, bitsTag}
 use Rattle.image.specs.Words.{bytes}
 use Rattle.rules.specs.Edges.{told as toldOf, field, message, newtype, named, u8, f32, impl}
 use Rattle.rules.specs.Pinned.{image, lines, told}
@@ -108,8 +108,8 @@ listing s ids = record { registry = s .registry; ids = ids; namespace = s .names
 abbrev pub twoMessages : Schema
 twoMessages = record {
   registry =
-      some (decl messageKind (bytes "A") unmarked (field 0 "x" unmarked none u8 ∷ []) [] noType)
-      ∷ some (decl messageKind (bytes "A") unmarked [] [] noType)
+      some (decl (number messageKind) (bytes "A") unmarked (field 0 "x" unmarked none u8 ∷ []) [] noType)
+      ∷ some (decl (number messageKind) (bytes "A") unmarked [] [] noType)
       ∷ [];
   ids = 0 ∷ 1 ∷ [];
   namespace = [];
@@ -131,7 +131,7 @@ pub record Readings : Type 0 where
 -- an impl, and a message without a name
 abbrev pub unnamed : Schema
 unnamed = record {
-  registry = some impl ∷ some (decl messageKind [] unmarked [] [] noType) ∷ [];
+  registry = some impl ∷ some (decl (number messageKind) [] unmarked [] [] noType) ∷ [];
   ids = 0 ∷ 1 ∷ [];
   namespace = [];
 }
@@ -148,11 +148,11 @@ single = message (field 3 "y" unmarked none u8 ∷ [])
 
 -- newtype A of inline bits
 abbrev pub ofBits : List String → Schema
-ofBits names = newtype (leaf (label bitsTag 0 0 (map bytes names))) []
+ofBits names = newtype (leaf (label (number bitsTag) 0 0 (map bytes names))) []
 
 -- newtype A of the named type with id 1, a config of that name
 abbrev pub ofNamed : String → Schema
-ofNamed name = newtype (named 1) (some (decl configKind (bytes name) unmarked [] [] noType) ∷ [])
+ofNamed name = newtype (named 1) (some (decl (number configKind) (bytes name) unmarked [] [] noType) ∷ [])
 
 pub record Needed : Type 0 where
   -- Without the premise the claim would be false: which of two messages of one name stands depends on the order, and so it is with an impl

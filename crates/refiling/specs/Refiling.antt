@@ -10,7 +10,7 @@ use lib.ListN.{length, take}
 use Rattle.maps.specs.Lists.{All}
 use Rattle.maps.specs.Reordered.{Reordered, EachTwo, Once}
 use Rattle.image.specs.Schema.{Name, Label, label, Ty, leaf, one, two, Field, Variant, Decl, Schema}
-use Rattle.image.specs.Kinds.{implKind, namedTag}
+use Rattle.image.specs.Codes.{number, implKind, namedTag}
 use Rattle.image.specs.Parse.{ok}
 use Rattle.image.specs.Image.{readImage}
 use Rattle.rules.specs.Survivors.{Registry, standsFor, resolved, listed, ordinalOf, variantOrdinal, viewOf}
@@ -22,7 +22,7 @@ use Rattle.rules.specs.Answer.{checked, verdictOf, returned, leaves}
 
 -- both are impls, kind 8
 unfoldable pub Impls : Decl → Decl → Type 0
-Impls d e = (d .kind ≡ implKind) × (e .kind ≡ implKind)
+Impls d e = (d .kind ≡ number implKind) × (e .kind ≡ number implKind)
 
 -- two declarations that share a name are impls
 unfoldable pub NamesOnce : List Decl → Type 0
@@ -72,8 +72,8 @@ module _ (R S : Registry) (to : ℕ → ℕ) where
 
   -- in a type every id follows, and nothing else changes: the names of inline `bits` keep their order
   pub data RefiledLabel : Label → Label → Type 0 where
-    named : {i j second : ℕ} {names : List Name} → RefiledId i j → RefiledLabel (label namedTag i second names) (label namedTag j second names)
-    other : {tag first second : ℕ} {m n : List Name} → (tag ≡ namedTag → ⊥) → m ≡ n → RefiledLabel (label tag first second m) (label tag first second n)
+    named : {i j second : ℕ} {names : List Name} → RefiledId i j → RefiledLabel (label (number namedTag) i second names) (label (number namedTag) j second names)
+    other : {tag first second : ℕ} {m n : List Name} → (tag ≡ number namedTag → ⊥) → m ≡ n → RefiledLabel (label tag first second m) (label tag first second n)
 
   pub data RefiledType : Ty → Ty → Type 0 where
     aLeaf : {l m : Label} → RefiledLabel l m → RefiledType (leaf l) (leaf m)

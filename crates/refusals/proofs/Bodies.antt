@@ -7,7 +7,7 @@ use Rattle.image.specs.Parse.{Parsed, no, byteAt, codeAt, numberAt, counted}
 use Rattle.image.specs.Names.{nameAt, namesAt}
 use Rattle.image.specs.Types.{Follows, code, subByte, identity, size, nothing, bits, unknown, followsTag, innerTypes, afterTag, labelOf, innerAt, typeOf, typeAt}
 use Rattle.image.specs.Fields.{marksAt, encodingOf, encodingAt, limitAt, fieldAt, bareAt, variantAt}
-use Rattle.image.specs.Codes.{kindRefusal, bodyRefusal}
+use Rattle.image.specs.Codes.{number, kindRefusal, bodyRefusal}
 use Rattle.image.specs.Kinds.{Kind, message, enum, flags, union, newtype, config, alias, trait, impl, other, kindOf}
 use Rattle.image.specs.Bodies.{messageAt, enumAt, flagsAt, unionAt, newtypeAt, otherAt, implAt, declAt, bodyOf}
 use Rattle.image.specs.Image.{entryOf, entriesOf}
@@ -138,14 +138,14 @@ decl-told config s at = told-bind _ (name-told s at) (λ x n _. told-ok tt)
 decl-told alias s at = told-bind _ (name-told s at) (λ x n _. told-ok tt)
 decl-told trait s at = told-bind _ (name-told s at) (λ x n _. told-ok tt)
 decl-told impl s at = told-ok tt
-decl-told other s at = by kindRefusal tt tt
+decl-told other s at = by (number kindRefusal) tt tt
 
 body-told : (s : List ℕ) → Told Any Body (bodyOf s)
 unfolding bodyOf
 body-told s =
     told-bind _ (byte-told s 0) (λ kind n₁ _.
     told-bind _ (decl-told (kindOf kind) s n₁) (λ d n₂ _.
-    told-pick _ (λ h. told-ok tt) (λ h. by bodyRefusal tt tt)))
+    told-pick _ (λ h. told-ok tt) (λ h. by (number bodyRefusal) tt tt)))
 
 entry-told : (s : List ℕ) (i : ℕ) → Told Any Body (entryOf s i)
 unfolding entryOf

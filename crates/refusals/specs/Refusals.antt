@@ -6,7 +6,7 @@ use mathlib.Core.Logic.{_↔_}
 use mathlib.Core.List.{List}
 use Prim.Native.Nat.{ℕ, zero, suc, _+_, _≤_, _<_}
 use lib.ListN.{length, getD}
-use Rattle.image.specs.Codes.{longRefusal, shortHeadRefusal, formatRefusal, crowdedRefusal, contentsRefusal}
+use Rattle.image.specs.Codes.{number, longRefusal, shortHeadRefusal, formatRefusal, crowdedRefusal, contentsRefusal}
 use Rattle.image.specs.Parse.{no}
 use Rattle.image.specs.Names.{nameByte}
 use Rattle.image.specs.Image.{format, entryCount, idCount, segmentCount, entryOffset, entryLength, segmentsAt, readImage}
@@ -87,8 +87,8 @@ pub record Contents (s : List ℕ) : Type 0 where
 
 -- each is given "exactly if"
 pub record ExactlyIf (s : List ℕ) : Type 0 where
-  pub long : (readImage s ≡ no longRefusal) ↔ Long s
-  pub shortHead : (readImage s ≡ no shortHeadRefusal) ↔ ShortHead s
-  pub format : (readImage s ≡ no formatRefusal) ↔ Format s
-  pub crowded : (readImage s ≡ no crowdedRefusal) ↔ Crowded s
-  pub contents : (readImage s ≡ no contentsRefusal) ↔ Contents s
+  pub long : (readImage s ≡ no (number longRefusal)) ↔ Long s
+  pub shortHead : (readImage s ≡ no (number shortHeadRefusal)) ↔ ShortHead s
+  pub format : (readImage s ≡ no (number formatRefusal)) ↔ Format s
+  pub crowded : (readImage s ≡ no (number crowdedRefusal)) ↔ Crowded s
+  pub contents : (readImage s ≡ no (number contentsRefusal)) ↔ Contents s

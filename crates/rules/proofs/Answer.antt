@@ -18,7 +18,7 @@ use Rattle.rules.specs.Clauses.{changes}
 use Rattle.rules.specs.Verdict.{bumpOf, resultOf, countOf, aliasPair}
 use Rattle.rules.specs.Report.{report}
 use Rattle.rules.specs.Outcome.{Outcome, refused, answered, selected, select}
-use Rattle.image.specs.Codes.{oldSide, newSide, bothSides}
+use Rattle.image.specs.Codes.{number, oldSide, newSide, bothSides}
 use Rattle.rules.specs.Answer.{Fault, fault, Policy, compared, counts, firstFault, judged, onSide, imageFault, faultIn, comparePair, acceptNew, acceptOld, outcome, aliasCheck, plain}
 use Rattle.rules.specs.Refusals.{Passes, Decided, oldRefused, oldAlone, newRefused, newAlone, pairRefused, verdict, Numbered}
 
@@ -35,12 +35,12 @@ module _ (p : Policy) (old new : List ℕ) where
       pair x y a b (some f) e = pairRefused a b e
 
       second : (x : Schema) → Passes p old x → (y : Schema) (n : ℕ) → readImage new ≡ ok y n → (k : Option ℕ) → p .alone y ≡ k
-          → Decided p old new (judged (onSide newSide k) (comparePair p x y))
+          → Decided p old new (judged (onSide (number newSide) k) (comparePair p x y))
       second x a y n q none e = pair x y a (record { end = n; read = q; alone = e }) (firstFault (p .pair) x y) refl
       second x a y n q (some k) e = newAlone a q e
 
       first : (x : Schema) (m : ℕ) → readImage old ≡ ok x m → (s : Parsed Schema) → readImage new ≡ s → (k : Option ℕ) → p .alone x ≡ k
-          → Decided p old new (judged (onSide oldSide k) (acceptNew p x s))
+          → Decided p old new (judged (onSide (number oldSide) k) (acceptNew p x s))
       first x m q (ok y n) r none e = second x (record { end = m; read = q; alone = e }) y n r (p .alone y) refl
       first x m q (no k) r none e = newRefused (record { end = m; read = q; alone = e }) (only-ten new k r) r
       first x m q s r (some k) e = oldAlone q e
@@ -88,23 +88,23 @@ module _ (p : Policy) where
         go (no k) q e = absurd (Option·none-ne-some (fault k side) (sym e))
 
   -- what a fault comes to, in each image
-  old-stage : (f : Fault) (s r : Parsed Schema) → imageFault p oldSide r ≡ some f → acceptOld p r s ≡ refused (f .number) (f .side)
+  old-stage : (f : Fault) (s r : Parsed Schema) → imageFault p (number oldSide) r ≡ some f → acceptOld p r s ≡ refused (f .number) (f .side)
   unfolding acceptOld imageFault judged
   old-stage f s (ok x n) e = rw e
-  old-stage f s (no k) e = rw (← Option·some-injective (fault k oldSide) f e)
+  old-stage f s (no k) e = rw (← Option·some-injective (fault k (number oldSide)) f e)
 
-  new-stage : (f : Fault) (x : Schema) (s : Parsed Schema) → imageFault p newSide s ≡ some f → acceptNew p x s ≡ refused (f .number) (f .side)
+  new-stage : (f : Fault) (x : Schema) (s : Parsed Schema) → imageFault p (number newSide) s ≡ some f → acceptNew p x s ≡ refused (f .number) (f .side)
   unfolding acceptNew imageFault judged
   new-stage f x (ok y n) e = rw e
-  new-stage f x (no k) e = rw (← Option·some-injective (fault k newSide) f e)
+  new-stage f x (no k) e = rw (← Option·some-injective (fault k (number newSide)) f e)
 
   module _ (old new : List ℕ) where
     -- the old image has a fault, or the new one after it
-    pub old-fault : {f : Fault} → faultIn p oldSide old ≡ some f → outcome p old new ≡ refused (f .number) (f .side)
+    pub old-fault : {f : Fault} → faultIn p (number oldSide) old ≡ some f → outcome p old new ≡ refused (f .number) (f .side)
     unfolding faultIn outcome
     old-fault {f} e = old-stage f (readImage new) (readImage old) e
 
-    pub new-fault : {x : Schema} → Passes p old x → {f : Fault} → faultIn p newSide new ≡ some f → outcome p old new ≡ refused (f .number) (f .side)
+    pub new-fault : {x : Schema} → Passes p old x → {f : Fault} → faultIn p (number newSide) new ≡ some f → outcome p old new ≡ refused (f .number) (f .side)
     unfolding faultIn outcome acceptOld onSide judged
     new-fault {x} a {f} e = rw (a .read, a .alone) (new-stage f x (readImage new) e)
 
@@ -155,16 +155,16 @@ count-selected kind h cs =
 
 -- of the pair only 11 is given, to a pair of aliases
 pub plain-fault : (x y : Schema) (f : Fault) → firstFault (plain .pair) x y ≡ some f
-    → (aliasPair (viewOf x) (viewOf y) ≡ true) × (f ≡ fault 11 bothSides)
+    → (aliasPair (viewOf x) (viewOf y) ≡ true) × (f ≡ fault 11 (number bothSides))
 unfolding firstFault aliasCheck orElse
 plain-fault x y f = go (aliasPair (viewOf x) (viewOf y)) refl
   where
-    go : (u : Bool) → aliasPair (viewOf x) (viewOf y) ≡ u → orElse (cond u (some (fault 11 bothSides)) none) none ≡ some f
-        → (aliasPair (viewOf x) (viewOf y) ≡ true) × (f ≡ fault 11 bothSides)
-    go true p e = (p, sym (Option·some-injective (fault 11 bothSides) f e))
+    go : (u : Bool) → aliasPair (viewOf x) (viewOf y) ≡ u → orElse (cond u (some (fault 11 (number bothSides))) none) none ≡ some f
+        → (aliasPair (viewOf x) (viewOf y) ≡ true) × (f ≡ fault 11 (number bothSides))
+    go true p e = (p, sym (Option·some-injective (fault 11 (number bothSides)) f e))
     go false p e = absurd (Option·none-ne-some f e)
 
-pub alias-fault : (x y : Schema) → aliasPair (viewOf x) (viewOf y) ≡ true → firstFault (plain .pair) x y ≡ some (fault 11 bothSides)
+pub alias-fault : (x y : Schema) → aliasPair (viewOf x) (viewOf y) ≡ true → firstFault (plain .pair) x y ≡ some (fault 11 (number bothSides))
 unfolding firstFault aliasCheck orElse
 alias-fault x y e = rw e
 

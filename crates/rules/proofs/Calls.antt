@@ -12,7 +12,7 @@ use Rattle.image.specs.Words.{bytes}
 use Rattle.rules.specs.Changes.{Change}
 use Rattle.rules.specs.Report.{line, lastLine, report}
 use Rattle.rules.specs.Outcome.{select, textLength, written}
-use Rattle.image.specs.Codes.{bothSides}
+use Rattle.image.specs.Codes.{number, bothSides}
 use Rattle.rules.specs.Answer.{Policy, outcome, verdictBy, reportBy, returnedBy, leavesBy}
 use Rattle.rules.specs.Refusals.{Numbered}
 use Rattle.rules.proofs.Outcomes.{textOf, length-selected, fit-enough, fit-some, text-written, rest-written}
@@ -32,7 +32,7 @@ module _ (p : Policy) (numbered : Numbered p) (old new : List ℕ) where
   -- selector 4 of the verdict call is how large a buffer the report call needs, and what it then returns
   pub room-enough : (d : List ℕ) → verdictBy p old new 4 ≤ length d → returnedBy p old new d ≡ verdictBy p old new 4
   unfolding verdictBy reportBy
-  room-enough d h = ap textLength (fit-enough bothSides (length d) (outcome p old new) h) ∙ length-selected (outcome p old new)
+  room-enough d h = ap textLength (fit-enough (number bothSides) (length d) (outcome p old new) h) ∙ length-selected (outcome p old new)
 
   -- the text is the same in every buffer that is large enough
   pub same-text : (d d′ : List ℕ) → verdictBy p old new 4 ≤ length d → verdictBy p old new 4 ≤ length d′
@@ -42,7 +42,7 @@ module _ (p : Policy) (numbered : Numbered p) (old new : List ℕ) where
     where
       text-here : (d : List ℕ) → select (outcome p old new) 4 ≤ length d
           → take (returnedBy p old new d) (leavesBy p old new d) ≡ textOf (outcome p old new)
-      text-here d h = rw (fit-enough bothSides (length d) (outcome p old new) h) (text-written (outcome p old new) d)
+      text-here d h = rw (fit-enough (number bothSides) (length d) (outcome p old new) h) (text-written (outcome p old new) d)
 
   -- "Bytes past the length stay", whatever is returned
   pub rest-stays : (d : List ℕ) → drop (returnedBy p old new d) (leavesBy p old new d) ≡ drop (returnedBy p old new d) d
@@ -52,6 +52,6 @@ module _ (p : Policy) (numbered : Numbered p) (old new : List ℕ) where
   pub none-refused : (d : List ℕ) → (returnedBy p old new d ≡ 0) ↔ (select (reportBy p old new (length d)) 0 ≡ 0 → ⊥)
   unfolding reportBy
   none-refused d = (
-    λ e z. absurd (omega (arith, fit-some bothSides (length d) (outcome p old new) verdict-some z)),
+    λ e z. absurd (omega (arith, fit-some (number bothSides) (length d) (outcome p old new) verdict-some z)),
     report-refusals p numbered old new (length d) .nothing,
   )

@@ -20,7 +20,7 @@ use Rattle.image.specs.Image.{readImage}
 use Rattle.maps.proofs.Tests.{both}
 use Rattle.rules.specs.Survivors.{nameOf, listed, declarations, View, viewOf}
 use Rattle.rules.specs.Types.{resolve, holdsVector}
-use Rattle.rules.specs.Changes.{kindCount, FieldAdded, FieldRemoved, FieldDeprecated, VariantAdded, VariantRemoved, DeclarationAdded, DeclarationRemoved, FlagsBitAdded, FlagsBitRemoved}
+use Rattle.rules.specs.Changes.{kindCount, kindAt, FieldAdded, FieldRemoved, FieldDeprecated, VariantAdded, VariantRemoved, DeclarationAdded, DeclarationRemoved, FlagsBitAdded, FlagsBitRemoved}
 use Rattle.rules.specs.Clauses.{comparedTypes}
 use Rattle.rules.specs.Verdict.{bumpOf, countOf, any}
 use Rattle.rules.specs.Outcome.{selected, select}
@@ -37,7 +37,7 @@ use Rattle.rules.proofs.Answer.{schemaOf, changesOf, compared-of, count
 
 -- whether the count of one kind is that of another the other way
 unfoldable turned : ℕ → ℕ → Bool
-turned j k = ltb j kindCount && (ltb k kindCount && (not (eqb FieldDeprecated j) && eqb (mirror j) k))
+turned j k = ltb j kindCount && (ltb k kindCount && (not (eqb (kindAt FieldDeprecated) j) && eqb (mirror j) k))
 
 module _ (p : Policy) (numbered : Numbered p) (rise : (s : Schema) → Rising nameOf before (p .view s .standing)) {odd : Ty → Bool}
     (lawful : Lawful (p .reading) odd) where
@@ -78,19 +78,19 @@ module _ (p : Policy) (numbered : Numbered p) (rise : (s : Schema) → Rising na
     count-swap j k e =
         let h = both (ltb j kindCount) _ e in
         let q = both (ltb k kindCount) _ (h .1) in
-        let r = both (not (eqb FieldDeprecated j)) _ (q .1) in
+        let r = both (not (eqb (kindAt FieldDeprecated) j)) _ (q .1) in
         counted-is j (ltb-true j kindCount (h .0)) a b v
-        ∙ (changes-swap lawful j (not-true (eqb FieldDeprecated j) (r .0)) (viewIn a) (viewIn b) (rise _) (rise _)
+        ∙ (changes-swap lawful j (not-true (eqb (kindAt FieldDeprecated) j) (r .0)) (viewIn a) (viewIn b) (rise _) (rise _)
         ∙ (ap (λ i. countOf i (changesOf p b a)) (eqb-true (mirror j) k (r .1))
         ∙ sym (counted-is k (ltb-true k kindCount (q .0)) b a w)))
 
     swapped : Swapped (verdictBy p) a b
     unfolding turned mirror All
     swapped = record {
-      declarations = count-swap DeclarationRemoved DeclarationAdded refl;
-      fields = count-swap FieldRemoved FieldAdded refl;
-      variants = count-swap VariantRemoved VariantAdded refl;
-      bits = count-swap FlagsBitRemoved FlagsBitAdded refl;
+      declarations = count-swap (kindAt DeclarationRemoved) (kindAt DeclarationAdded) refl;
+      fields = count-swap (kindAt FieldRemoved) (kindAt FieldAdded) refl;
+      variants = count-swap (kindAt VariantRemoved) (kindAt VariantAdded) refl;
+      bits = count-swap (kindAt FlagsBitRemoved) (kindAt FlagsBitAdded) refl;
       others = all-map (λ kind. count-swap kind kind) otherKinds (refl, (refl, (refl, (refl, (refl, (refl, (refl, (refl, (refl, tt)))))))));
     }
 

@@ -17,7 +17,7 @@ use Rattle.image.specs.Schema.{Name, Marks, Ty, Field, Variant, Decl}
 use Rattle.image.specs.Kinds.{Kind, kindOf, message, enum, flags, union, newtype, config, alias, trait, impl, other}
 use Rattle.rules.specs.Survivors.{nameOf, ordinalOf, fieldMap, variantOrdinal, variantMap, View}
 use Rattle.rules.specs.Types.{sameType}
-use Rattle.rules.specs.Changes.{Bump, Change, only, kindCount, FieldOrdinalChanged, VariantOrdinalChanged, FlagsBitOrdinalChanged}
+use Rattle.rules.specs.Changes.{Bump, Change, only, kindCount, kindAt, FieldOrdinalChanged, VariantOrdinalChanged, FlagsBitOrdinalChanged}
 use Rattle.rules.specs.Clauses.{compareNamespaces, Reading, clausesBy, Context, context, compareTypes, compareFieldNames, compareEncodings, compareDeprecated, compareFields, fieldRules, compareFieldSets, compareMessages, variantGone, variantCame, enumRules, compareNonExhaustive, compareEnums, flagsRules, compareFlags, unionRules, compareUnions, compareNewtypes, compareKind, kindChanged, compareAlike, compareDecls, declRules, changes}
 use Rattle.rules.specs.Verdict.{countOf}
 use Rattle.rules.specs.Outcome.{Outcome, select}
@@ -63,7 +63,7 @@ module _ {C : Type 0} (P : C → Type 0) where
 
 -- the three kinds
 unfoldable pub ordinalChanged : ℕ → Bool
-ordinalChanged kind = eqb kind FieldOrdinalChanged || (eqb kind VariantOrdinalChanged || eqb kind FlagsBitOrdinalChanged)
+ordinalChanged kind = eqb kind (kindAt FieldOrdinalChanged) || (eqb kind (kindAt VariantOrdinalChanged) || eqb kind (kindAt FlagsBitOrdinalChanged))
 
 abbrev pub Other : Change → Type 0
 Other c = ordinalChanged (c .kind) ≡ false
@@ -191,19 +191,19 @@ module _ (p : Policy) (o : Ordinary (p .reading)) (old new : List ℕ) where
           ∙ none-counted kind e _ (changes-other (p .reading) o (p .view x) (p .view y))
 
   pub none-ordinal : All (λ kind. countBetween (verdictBy p) kind old new ≡ 0)
-      (FieldOrdinalChanged ∷ VariantOrdinalChanged ∷ FlagsBitOrdinalChanged ∷ [])
+      ((kindAt FieldOrdinalChanged) ∷ kindAt VariantOrdinalChanged ∷ kindAt FlagsBitOrdinalChanged ∷ [])
   unfolding All countBetween ordinalChanged
   none-ordinal = (
-    none-selected FieldOrdinalChanged
+    none-selected (kindAt FieldOrdinalChanged)
         (omega arith) refl,
     (
-      none-selected VariantOrdinalChanged
+      none-selected (kindAt VariantOrdinalChanged)
           (omega arith) refl,
-      (none-selected FlagsBitOrdinalChanged (omega arith) refl, tt),
+      (none-selected (kindAt FlagsBitOrdinalChanged) (omega arith) refl, tt),
     ),
   )
 
 -- and so of document 01's
 pub no-ordinal-changed : (old new : List ℕ) → All (λ kind. countBetween verdictOf kind old new ≡ 0)
-    (FieldOrdinalChanged ∷ VariantOrdinalChanged ∷ FlagsBitOrdinalChanged ∷ [])
+    ((kindAt FieldOrdinalChanged) ∷ kindAt VariantOrdinalChanged ∷ kindAt FlagsBitOrdinalChanged ∷ [])
 no-ordinal-changed old new = none-ordinal plain (clauses-ordinary sameType) old new

@@ -10,7 +10,7 @@ use Rattle.maps.specs.Lists.{largest, total, count}
 use Rattle.maps.proofs.Levels.{Chained, chained-small}
 use Rattle.image.specs.Schema.{Name, Ty, Variant, Decl}
 use Rattle.rules.specs.Equal.{Sound}
-use Rattle.rules.specs.Changes.{level, Change, FieldDeprecated}
+use Rattle.rules.specs.Changes.{level, Change, kindAt, FieldDeprecated}
 use Rattle.rules.specs.Clauses.{Reading, clausesBy}
 use Rattle.rules.specs.Verdict.{countOf}
 use Rattle.rules.proofs.Mirror.{mirror}
@@ -28,7 +28,7 @@ pub record Besides {E : Type 0} (Go : E → E → Type 0) (f : Name → E → E 
   -- of a thing and itself nothing that counts
   pub self : (d : Name) (x : E) → largest levelOf (f d x x) ≡ 0
   -- both ways the same but for deprecations
-  pub swap : (j : ℕ) → eqb FieldDeprecated j ≡ false → (d e : Name) (x y : E) → Go x y → countOf j (f d x y) ≡ countOf (mirror j) (f e y x)
+  pub swap : (j : ℕ) → eqb (kindAt FieldDeprecated) j ≡ false → (d e : Name) (x y : E) → Go x y → countOf j (f d x y) ≡ countOf (mirror j) (f e y x)
 
 abbrev pub OneKind : Decl → Decl → Type 0
 OneKind x y = x .kind ≡ y .kind

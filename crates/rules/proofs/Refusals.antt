@@ -21,7 +21,7 @@ use Rattle.rules.specs.Survivors.{nameOf, declarations, viewOf}
 use Rattle.rules.specs.Clauses.{changes}
 use Rattle.rules.specs.Verdict.{alias, isAlias, any, aliasPair}
 use Rattle.rules.specs.Outcome.{Outcome, refused, answered, selected, select}
-use Rattle.image.specs.Codes.{bothSides}
+use Rattle.image.specs.Codes.{number, bothSides}
 use Rattle.rules.specs.Answer.{Fault, fault, Policy, compared, firstFault, outcome, verdictBy, reportBy, plainReading, plain, checked, reported}
 use Rattle.rules.specs.Refusals.{Passes, Decided, oldRefused, oldAlone, newRefused, newAlone, pairRefused, verdict, Numbered, PolicyRefusals, ReportRefusals, AcceptedPair, NewRefused, Alias, AliasPair, VerdictRefusals}
 use Rattle.rules.proofs.Outcomes.{not-answered, nothing-told, nothing-written, fit-full, fit-filled, fit-else}
@@ -137,9 +137,9 @@ module _ (p : Policy) (numbered : Numbered p) (old new : List ℕ) where
       let o = outcome p old new in
       let n = not-full (decided p old new) in
       record {
-        full = (λ z. fit-full bothSides room o n z .1, fit-filled bothSides room o);
-        bothSides = λ z. ap (λ u. select u 1) (fit-full bothSides room o n z .0);
-        fits = λ h k. ap (λ u. select u k) (fit-else bothSides room o h);
+        full = (λ z. fit-full (number bothSides) room o n z .1, fit-filled (number bothSides) room o);
+        bothSides = λ z. ap (λ u. select u 1) (fit-full (number bothSides) room o n z .0);
+        fits = λ h k. ap (λ u. select u k) (fit-else (number bothSides) room o h);
         refusal = not-answered (reportBy p old new room);
         nothing = nothing-told (reportBy p old new room);
         untouched = nothing-written (reportBy p old new room);
@@ -156,7 +156,7 @@ module _ (old new : List ℕ) where
   none-alone e = absurd (Option·none-ne-some _ e)
 
   -- the number and the side that a fault of the pair has
-  eleven : (x y : Schema) (f : Fault) → firstFault (plain .pair) x y ≡ some f → (f .number ≡ 11) × (f .side ≡ bothSides)
+  eleven : (x y : Schema) (f : Fault) → firstFault (plain .pair) x y ≡ some f → (f .number ≡ 11) × (f .side ≡ number bothSides)
   eleven x y f e = let q = plain-fault x y f e .1 in (ap (λ (g : Fault). g .number) q, ap (λ (g : Fault). g .side) q)
 
   both-read : {P : Schema → Schema → Type 0} {x y : Schema} → Passes plain old x → Passes plain new y → P x y → AcceptedPair old new P
@@ -206,7 +206,7 @@ module _ (old new : List ℕ) where
   alias-given : AcceptedPair old new AliasPair → select (checked old new) 0 ≡ 11
   unfolding select selected
   alias-given a =
-      ap (λ o. select o 0) (decides plain old new (pairRefused {f = fault 11 bothSides} (old-passes a) (new-passes a)
+      ap (λ o. select o 0) (decides plain old new (pairRefused {f = fault 11 (number bothSides)} (old-passes a) (new-passes a)
       (alias-fault (a .oldSchema) (a .newSchema) (pair-given (a .oldSchema) (a .newSchema) (a .holds)))))
 
   -- the old image's number, and the new one's
@@ -264,7 +264,7 @@ module _ (old new : List ℕ) where
       go true e = leb-true _ 12 e
       go false e =
           let l = leb-false (select (reported old new room) 0) 12 e in
-          absurd (omega (arith, ap (λ o. select o 0) (fit-else bothSides room (checked old new) (λ z. omega arith)), at-most (decided plain old new)))
+          absurd (omega (arith, ap (λ o. select o 0) (fit-else (number bothSides) room (checked old new) (λ z. omega arith)), at-most (decided plain old new)))
 
 pub verdict-refusals : (old new : List ℕ) → VerdictRefusals old new
 unfolding verdictBy

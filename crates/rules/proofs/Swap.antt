@@ -22,7 +22,7 @@ use Rattle.image.specs.Kinds.{Kind, kindOf, message, enum, flags, union, newtyp
 use Rattle.rules.specs.Equal.{Sound}
 use Rattle.rules.specs.Survivors.{Registry, nameOf, ordinalOf, fieldMap, variantOrdinal, variantMap, View}
 use Rattle.rules.specs.Types.{resolve}
-use Rattle.rules.specs.Changes.{Change, only, FieldDeprecated}
+use Rattle.rules.specs.Changes.{Change, only, kindAt, FieldDeprecated}
 use Rattle.rules.specs.Clauses.{compareNamespaces, Reading, Context, context, compareTypes, fieldText, compareFieldNames, compareEncodings, compareDeprecated, compareFields, fieldRules, compareFieldSets, compareMessages, variantGone, variantCame, enumRules, compareNonExhaustive, compareEnums, flagsRules, compareFlags, unionRules, compareUnions, compareNewtypes, compareKind, kindChanged, compareAlike, compareDecls, declRules, changes}
 use Rattle.rules.specs.Verdict.{countOf}
 use Rattle.rules.proofs.Equal.{same-sym, pairs, numbers, marks, options, names, nameLists}
@@ -108,7 +108,7 @@ module _ (j : ℕ) where
 
   -- ---- deprecations are counted under neither
 
-  module _ (apart : eqb FieldDeprecated j ≡ false) where
+  module _ (apart : eqb (kindAt FieldDeprecated) j ≡ false) where
     none-of : (i : ℕ) (test : Bool) (c : Change) → eqb (c .kind) i ≡ false → countOf i (only test c) ≡ 0
     unfolding countOf count total only
     none-of i true c h = rw h
@@ -117,7 +117,7 @@ module _ (j : ℕ) where
     deprecated-swap : (d e : Name) (n o : Option Name) (t u : List ℕ) (l m : Marks)
         → Opposed (compareDeprecated d n t l m) (compareDeprecated e o u m l)
     unfolding compareDeprecated mirror exchange
-    deprecated-swap d e n o t u l m = none-of j _ _ apart ∙ sym (none-of (mirror j) _ _ (sym (mirror-test FieldDeprecated j) ∙ apart))
+    deprecated-swap d e n o t u l m = none-of j _ _ apart ∙ sym (none-of (mirror j) _ _ (sym (mirror-test (kindAt FieldDeprecated) j) ∙ apart))
 
     -- ---- the clauses, over any lawful reading
 
@@ -198,7 +198,7 @@ module _ (j : ℕ) where
 
 -- ---- all clauses
 
-pub changes-swap : {r : Reading} {odd : Ty → Bool} → Lawful r odd → (j : ℕ) → eqb FieldDeprecated j ≡ false → (x y : View)
+pub changes-swap : {r : Reading} {odd : Ty → Bool} → Lawful r odd → (j : ℕ) → eqb (kindAt FieldDeprecated) j ≡ false → (x y : View)
     → Rising nameOf before (x .standing) → Rising nameOf before (y .standing)
     → countOf j (changes r x y) ≡ countOf (mirror j) (changes r y x)
 unfolding changes declRules mirror exchange

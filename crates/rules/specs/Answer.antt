@@ -6,7 +6,7 @@ use mathlib.Core.List.{List, [], _∷_}
 use Prim.Native.Nat.{ℕ, zero, suc}
 use lib.ListN.{length}
 use Rattle.image.specs.Schema.{Schema}
-use Rattle.image.specs.Codes.{aliasPairRefusal, oldSide, newSide, bothSides}
+use Rattle.image.specs.Codes.{number, aliasPairRefusal, oldSide, newSide, bothSides}
 use Rattle.image.specs.Parse.{Parsed, ok, no}
 use Rattle.image.specs.Image.{readImage}
 use Rattle.rules.specs.Survivors.{View, viewOf}
@@ -82,12 +82,12 @@ module _ (p : Policy) where
   comparePair x y = judged (firstFault (p .pair) x y) (compared (changes (p .reading) (p .view x) (p .view y)))
 
   unfoldable pub acceptNew : Schema → Parsed Schema → Outcome
-  acceptNew x (ok y n) = judged (onSide newSide (p .alone y)) (comparePair x y)
-  acceptNew x (no k) = refused k newSide
+  acceptNew x (ok y n) = judged (onSide (number newSide) (p .alone y)) (comparePair x y)
+  acceptNew x (no k) = refused k (number newSide)
 
   unfoldable pub acceptOld : Parsed Schema → Parsed Schema → Outcome
-  acceptOld (ok x n) new = judged (onSide oldSide (p .alone x)) (acceptNew x new)
-  acceptOld (no k) new = refused k oldSide
+  acceptOld (ok x n) new = judged (onSide (number oldSide) (p .alone x)) (acceptNew x new)
+  acceptOld (no k) new = refused k (number oldSide)
 
   unfoldable pub outcome : List ℕ → List ℕ → Outcome
   outcome old new = acceptOld (readImage old) (readImage new)
@@ -98,7 +98,7 @@ module _ (p : Policy) where
 
   -- the report call, with a buffer of so many bytes: "Then 11, then 12 (report only)", "11 and 12: both"
   unfoldable pub reportBy : List ℕ → List ℕ → ℕ → Outcome
-  reportBy old new room = fit bothSides room (outcome old new)
+  reportBy old new room = fit (number bothSides) room (outcome old new)
 
   -- what it returns, and what it leaves in the buffer, by the buffer that it is lent
   abbrev pub returnedBy : List ℕ → List ℕ → List ℕ → ℕ
@@ -111,7 +111,7 @@ module _ (p : Policy) where
 
 -- 11: "survivors of one name are generic aliases in both images"
 unfoldable pub aliasCheck : (Schema → View) → Check
-aliasCheck view x y = cond (aliasPair (view x) (view y)) (some (fault aliasPairRefusal bothSides)) none
+aliasCheck view x y = cond (aliasPair (view x) (view y)) (some (fault (number aliasPairRefusal) (number bothSides))) none
 
 -- types are read as document 01 says
 abbrev pub plainReading : Reading

@@ -16,60 +16,32 @@ level patch = 0
 level minor = 1
 level major = 2
 
--- the kinds of change, numbered in the order of `ChangeKind`
-abbrev pub FieldAdded : ℕ
-FieldAdded = 0
+-- the kinds of change, in the order of `ChangeKind`
+pub data ChangeKind : Type 0 where
+  FieldAdded FieldRemoved FieldTypeChanged FieldOrdinalChanged FieldRenamed FieldDeprecated FieldEncodingChanged VariantAdded : ChangeKind
+  VariantRemoved VariantOrdinalChanged DeclarationAdded DeclarationRemoved DeclarationKindChanged NamespaceChanged : ChangeKind
+  NonExhaustiveChanged FlagsBitAdded FlagsBitRemoved FlagsBitOrdinalChanged : ChangeKind
 
-abbrev pub FieldRemoved : ℕ
-FieldRemoved = 1
-
-abbrev pub FieldTypeChanged : ℕ
-FieldTypeChanged = 2
-
-abbrev pub FieldOrdinalChanged : ℕ
-FieldOrdinalChanged = 3
-
-abbrev pub FieldRenamed : ℕ
-FieldRenamed = 4
-
-abbrev pub FieldDeprecated : ℕ
-FieldDeprecated = 5
-
-abbrev pub FieldEncodingChanged : ℕ
-FieldEncodingChanged = 6
-
-abbrev pub VariantAdded : ℕ
-VariantAdded = 7
-
-abbrev pub VariantRemoved : ℕ
-VariantRemoved = 8
-
-abbrev pub VariantOrdinalChanged : ℕ
-VariantOrdinalChanged = 9
-
-abbrev pub DeclarationAdded : ℕ
-DeclarationAdded = 10
-
-abbrev pub DeclarationRemoved : ℕ
-DeclarationRemoved = 11
-
-abbrev pub DeclarationKindChanged : ℕ
-DeclarationKindChanged = 12
-
-abbrev pub NamespaceChanged : ℕ
-NamespaceChanged = 13
-
-abbrev pub NonExhaustiveChanged : ℕ
-NonExhaustiveChanged = 14
-
-abbrev pub FlagsBitAdded : ℕ
-FlagsBitAdded = 15
-
-abbrev pub FlagsBitRemoved : ℕ
-FlagsBitRemoved = 16
-
-abbrev pub FlagsBitOrdinalChanged : ℕ
-FlagsBitOrdinalChanged = 17
+-- by their places in it
+abbrev pub kindAt : ChangeKind → ℕ
+kindAt FieldAdded = 0
+kindAt FieldRemoved = 1
+kindAt FieldTypeChanged = 2
+kindAt FieldOrdinalChanged = 3
+kindAt FieldRenamed = 4
+kindAt FieldDeprecated = 5
+kindAt FieldEncodingChanged = 6
+kindAt VariantAdded = 7
+kindAt VariantRemoved = 8
+kindAt VariantOrdinalChanged = 9
+kindAt DeclarationAdded = 10
+kindAt DeclarationRemoved = 11
+kindAt DeclarationKindChanged = 12
+kindAt NamespaceChanged = 13
+kindAt NonExhaustiveChanged = 14
+kindAt FlagsBitAdded = 15
+kindAt FlagsBitRemoved = 16
+kindAt FlagsBitOrdinalChanged = 17
 
 -- how many kinds are counted
 abbrev pub kindCount : ℕ

@@ -15,7 +15,7 @@ use Rattle.rules.specs.Survivors.{Registry, nameOf, ordinalOf, fieldMap,
 use Rattle.rules.specs.Types.{resolve}
 use Rattle.text.specs.Decimal.{decimal}
 use Rattle.rules.specs.Text.{joined, boolWord, showType, showEncoding}
-use Rattle.rules.specs.Changes.{Bump, patch, minor, major, Change, change, only, quoted, numbered, fromTo, FieldAdded, FieldRemoved, FieldTypeChanged, FieldRenamed, FieldDeprecated, FieldEncodingChanged, VariantAdded, VariantRemoved, DeclarationAdded, DeclarationRemoved, DeclarationKindChanged, NamespaceChanged, NonExhaustiveChanged, FlagsBitAdded, FlagsBitRemoved}
+use Rattle.rules.specs.Changes.{Bump, patch, minor, major, Change, change, only, quoted, numbered, fromTo, kindAt, FieldAdded, FieldRemoved, FieldTypeChanged, FieldRenamed, FieldDeprecated, FieldEncodingChanged, VariantAdded, VariantRemoved, DeclarationAdded, DeclarationRemoved, DeclarationKindChanged, NamespaceChanged, NonExhaustiveChanged, FlagsBitAdded, FlagsBitRemoved}
 
 -- ---- 1. `NamespaceChanged` Major: segment lists differ.
 
@@ -25,7 +25,7 @@ showNamespace segments = quoted (joined (bytes ".") segments)
 unfoldable pub compareNamespaces : List Name → List Name → List Change
 compareNamespaces old new =
     only (not (sameNames old new))
-    (change NamespaceChanged major [] none (bytes "namespace changed" ++ fromTo (showNamespace old) (showNamespace new)))
+    (change (kindAt NamespaceChanged) major [] none (bytes "namespace changed" ++ fromTo (showNamespace old) (showNamespace new)))
 
 -- ---- how two schemas are read
 
@@ -57,7 +57,7 @@ context reading old new = record { reading = reading; old = old; new = new }
 unfoldable pub compareTypes : Context → Name → Option Name → List ℕ → Ty → Ty → List Change
 compareTypes r d field what t u =
     only (not (r .reading .same (resolve (r .old) t) (resolve (r .new) u)))
-    (change FieldTypeChanged major d field
+    (change (kindAt FieldTypeChanged) major d field
     (what ++ (bytes " type changed" ++ fromTo (showType (resolve (r .old) t)) (showType (resolve (r .new) u)))))
 
 -- ---- 4. Field sets, by ordinal: `FieldRemoved` Major; `FieldAdded` Major; then per shared ordinal `FieldRenamed` Patch, `FieldTypeChanged`
@@ -69,7 +69,7 @@ fieldText f = numbered (bytes "field") (f .name) (f .ordinal)
 unfoldable pub compareFieldNames : Name → Field → Field → List Change
 compareFieldNames d f g =
     only (not (sameName (f .name) (g .name)))
-    (change FieldRenamed patch d (some (g .name))
+    (change (kindAt FieldRenamed) patch d (some (g .name))
     (bytes "field @" ++ (decimal (g .ordinal) ++ (bytes " renamed" ++ fromTo (quoted (f .name)) (quoted (g .name))))))
 
 unfoldable pub sameEncoding : Encoding → Encoding → Bool
@@ -78,14 +78,14 @@ sameEncoding a b = eqb (a .deltas) (b .deltas) && eqb (a .base) (b .base)
 unfoldable pub compareEncodings : Name → Field → Field → List Change
 compareEncodings d f g =
     only (not (sameEncoding (f .encoding) (g .encoding) && sameOption eqb (f .limit) (g .limit)))
-    (change FieldEncodingChanged major d (some (g .name))
+    (change (kindAt FieldEncodingChanged) major d (some (g .name))
     (fieldText g ++ (bytes " encoding changed" ++ fromTo (showEncoding (f .encoding)) (showEncoding (g .encoding)))))
 
 -- the mark was gained: by a field, or by a message itself
 unfoldable pub compareDeprecated : Name → Option Name → List ℕ → Marks → Marks → List Change
 compareDeprecated d field target old new =
     only (not (old .deprecated) && new .deprecated)
-    (change FieldDeprecated patch d field (target ++ bytes " was marked @deprecated"))
+    (change (kindAt FieldDeprecated) patch d field (target ++ bytes " was marked @deprecated"))
 
 unfoldable pub compareFields : Context → Name → Field → Field → List Change
 compareFields r d f g =
@@ -96,8 +96,8 @@ compareFields r d f g =
 
 unfoldable pub fieldRules : Context → Name → Rules Field Change
 fieldRules r d = record {
-  gone = λ f. change FieldRemoved major d (some (f .name)) (fieldText f ++ bytes " was removed") ∷ [];
-  came = λ f. change FieldAdded major d (some (f .name)) (fieldText f ++ bytes " was added") ∷ [];
+  gone = λ f. change (kindAt FieldRemoved) major d (some (f .name)) (fieldText f ++ bytes " was removed") ∷ [];
+  came = λ f. change (kindAt FieldAdded) major d (some (f .name)) (fieldText f ++ bytes " was added") ∷ [];
   kept = λ f g. compareFields r d f g;
 }
 
@@ -117,10 +117,10 @@ unfoldable pub variantText : Variant → List ℕ
 variantText v = numbered (bytes "variant") (v .name) (v .ordinal)
 
 unfoldable pub variantGone : Name → Variant → List Change
-variantGone d v = change VariantRemoved major d (some (v .name)) (variantText v ++ bytes " was removed") ∷ []
+variantGone d v = change (kindAt VariantRemoved) major d (some (v .name)) (variantText v ++ bytes " was removed") ∷ []
 
 unfoldable pub variantCame : Bump → Name → Variant → List Change
-variantCame bump d v = change VariantAdded bump d (some (v .name)) (variantText v ++ bytes " was added") ∷ []
+variantCame bump d v = change (kindAt VariantAdded) bump d (some (v .name)) (variantText v ++ bytes " was added") ∷ []
 
 unfoldable pub enumBump : Marks → Bump
 enumBump new = cond (new .nonExhaustive) minor major
@@ -131,7 +131,7 @@ enumRules d new = record { gone = variantGone d; came = variantCame (enumBump ne
 unfoldable pub compareNonExhaustive : Name → Marks → Marks → List Change
 compareNonExhaustive d old new =
     only (not (Bool·beq (old .nonExhaustive) (new .nonExhaustive)))
-    (change NonExhaustiveChanged major d none
+    (change (kindAt NonExhaustiveChanged) major d none
     (bytes "@non_exhaustive changed" ++ fromTo (boolWord (old .nonExhaustive)) (boolWord (new .nonExhaustive))))
 
 unfoldable pub compareEnums : Name → Decl → Decl → List Change
@@ -146,8 +146,8 @@ bitText v = numbered (bytes "bit") (v .name) (v .ordinal)
 
 unfoldable pub flagsRules : Name → Rules Variant Change
 flagsRules d = record {
-  gone = λ v. change FlagsBitRemoved major d (some (v .name)) (bitText v ++ bytes " was removed") ∷ [];
-  came = λ v. change FlagsBitAdded minor d (some (v .name)) (bitText v ++ bytes " was added") ∷ [];
+  gone = λ v. change (kindAt FlagsBitRemoved) major d (some (v .name)) (bitText v ++ bytes " was removed") ∷ [];
+  came = λ v. change (kindAt FlagsBitAdded) minor d (some (v .name)) (bitText v ++ bytes " was added") ∷ [];
   kept = λ v w. [];
 }
 
@@ -192,7 +192,7 @@ compareKind other r old new = []
 
 unfoldable pub kindChanged : Decl → Decl → List Change
 kindChanged old new =
-    change DeclarationKindChanged major (old .name) none
+    change (kindAt DeclarationKindChanged) major (old .name) none
     (quoted (old .name) ++ (bytes " changed" ++ fromTo (kindWord (old .kind)) (kindWord (new .kind)))) ∷ []
 
 -- of one kind: its clause, between what is reported besides
@@ -209,8 +209,8 @@ declText d = kindWord (d .kind) ++ (bytes " " ++ quoted (d .name))
 
 unfoldable pub declRules : Context → Rules Decl Change
 declRules r = record {
-  gone = λ d. change DeclarationRemoved major (d .name) none (declText d ++ bytes " was removed") ∷ [];
-  came = λ d. change DeclarationAdded minor (d .name) none (declText d ++ bytes " was added") ∷ [];
+  gone = λ d. change (kindAt DeclarationRemoved) major (d .name) none (declText d ++ bytes " was removed") ∷ [];
+  came = λ d. change (kindAt DeclarationAdded) minor (d .name) none (declText d ++ bytes " was added") ∷ [];
   kept = λ d e. compareDecls r d e;
 }
 

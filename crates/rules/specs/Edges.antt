@@ -6,7 +6,7 @@ use mathlib.Core.List.{List, [], _∷_}
 use Prim.Native.Nat.{ℕ}
 use Prim.Native.String.{String}
 use Rattle.image.specs.Schema.{Marks, unmarked, label, Ty, leaf, one, noType, Field, Variant, Decl, decl, Schema}
-use Rattle.image.specs.Kinds.{messageKind, enumKind, unionKind, newtypeKind, implKind, primitiveTag, subByteTag, namedTag, optionalTag, arrayTag, fixedArrayTag, vec3Tag}
+use Rattle.image.specs.Codes.{number, messageKind, enumKind, unionKind, newtypeKind, implKind, primitiveTag, subByteTag, namedTag, optionalTag, arrayTag, fixedArrayTag, vec3Tag}
 use Rattle.image.specs.Words.{bytes}
 use Rattle.rules.specs.Survivors.{viewOf}
 use Rattle.rules.specs.Clauses.{changes}
@@ -24,22 +24,22 @@ schema d more = record { registry = some d ∷ more; ids = 0 ∷ []; namespace =
 -- ---- newtypes
 
 abbrev pub newtype : Ty → List (Option Decl) → Schema
-newtype t more = schema (decl newtypeKind (bytes "A") unmarked [] [] t) more
+newtype t more = schema (decl (number newtypeKind) (bytes "A") unmarked [] [] t) more
 
 abbrev pub primitive : ℕ → Ty
-primitive code = leaf (label primitiveTag code 0 [])
+primitive code = leaf (label (number primitiveTag) code 0 [])
 
 abbrev pub subByte : ℕ → ℕ → Ty
-subByte signed bits = leaf (label subByteTag signed bits [])
+subByte signed bits = leaf (label (number subByteTag) signed bits [])
 
 abbrev pub named : ℕ → Ty
-named id = leaf (label namedTag id 0 [])
+named id = leaf (label (number namedTag) id 0 [])
 
 abbrev pub around : ℕ → Ty → Ty
 around tag t = one (label tag 0 0 []) t
 
 abbrev pub fixedArray : ℕ → Ty → Ty
-fixedArray size t = one (label fixedArrayTag size 0 []) t
+fixedArray size t = one (label (number fixedArrayTag) size 0 []) t
 
 abbrev pub u8 : Ty
 u8 = primitive 1
@@ -48,7 +48,7 @@ abbrev pub f32 : Ty
 f32 = primitive 9
 
 abbrev pub impl : Decl
-impl = decl implKind [] unmarked [] [] noType
+impl = decl (number implKind) [] unmarked [] [] noType
 
 -- ---- messages, enums, unions
 
@@ -57,7 +57,7 @@ field ordinal name marks limit t =
     record { ordinal = ordinal; name = bytes name; marks = marks; encoding = record { deltas = 0; base = 0 }; limit = limit; type = t }
 
 abbrev pub message : List Field → Schema
-message fs = schema (decl messageKind (bytes "A") unmarked fs [] noType) []
+message fs = schema (decl (number messageKind) (bytes "A") unmarked fs [] noType) []
 
 abbrev pub deprecated : Marks
 deprecated = record { deprecated = true; nonExhaustive = false }
@@ -69,10 +69,10 @@ abbrev pub variant : ℕ → String → Variant
 variant ordinal name = record { ordinal = ordinal; name = bytes name; fields = [] }
 
 abbrev pub enum : Marks → List Variant → Schema
-enum marks vs = schema (decl enumKind (bytes "A") marks [] vs noType) []
+enum marks vs = schema (decl (number enumKind) (bytes "A") marks [] vs noType) []
 
 abbrev pub union : List Variant → Schema
-union vs = schema (decl unionKind (bytes "A") unmarked [] vs noType) []
+union vs = schema (decl (number unionKind) (bytes "A") unmarked [] vs noType) []
 
 -- ---- "Held of the clauses as one proved group"
 
@@ -84,7 +84,7 @@ pub record Edges : Type 0 where
   pub a : told (newtype u8 []) (newtype (subByte 0 8) [])
       ≡ bytes "FieldTypeChanged;Major;A;-;newtype 'A' inner type changed from u8 to u8\nBreaking;Major;1\n"
   -- "(b) `optional<vec3<f32>>` differs from itself"
-  pub b : told (newtype (around optionalTag (around vec3Tag f32)) []) (newtype (around optionalTag (around vec3Tag f32)) [])
+  pub b : told (newtype (around (number optionalTag) (around (number vec3Tag) f32)) []) (newtype (around (number optionalTag) (around (number vec3Tag) f32)) [])
       ≡ bytes "FieldTypeChanged;Major;A;-;newtype 'A' inner type changed from optional<vec3<f32>> to optional<vec3<f32>>\nBreaking;Major;1\n"
   -- "(c) two unresolvable ids equal": an id past the registry, and one whose entry is empty
   pub c : told (newtype (named 7) []) (newtype (named 1) (none ∷ [])) ≡ silent
@@ -95,7 +95,7 @@ pub record Edges : Type 0 where
   pub e : told (message (field 0 "x" unmarked (some 8) u8 ∷ [])) (message (field 0 "x" unmarked (some 9) u8 ∷ []))
       ≡ bytes "FieldEncodingChanged;Major;A;+x;field 'x' @0 encoding changed from default to default\nBreaking;Major;1\n"
   -- "(f) `array<u8>` and `array<u8, 4>` differ"
-  pub f : told (newtype (around arrayTag u8) []) (newtype (fixedArray 4 u8) [])
+  pub f : told (newtype (around (number arrayTag) u8) []) (newtype (fixedArray 4 u8) [])
       ≡ bytes "FieldTypeChanged;Major;A;-;newtype 'A' inner type changed from array<u8> to array<u8, 4>\nBreaking;Major;1\n"
   -- "(g) variant added, open: Minor"
   pub g : told (enum nonExhaustive []) (enum nonExhaustive (variant 0 "x" ∷ []))

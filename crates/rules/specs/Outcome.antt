@@ -5,7 +5,7 @@ use mathlib.Core.List.{List, [], _∷_, _++_}
 use Prim.Native.Nat.{ℕ}
 use lib.Dec.{leb}
 use lib.ListN.{length, getD, drop, replicate}
-use Rattle.image.specs.Codes.{notRefused, fullRefusal, noSide}
+use Rattle.image.specs.Codes.{number, notRefused, fullRefusal, noSide}
 use Rattle.rules.specs.Changes.{kindCount}
 
 -- what is told where nothing is refused: bump and result, 0 where the call has none; the text; the counts
@@ -30,7 +30,7 @@ textOnly text = answered (record { bump = 0; result = 0; text = text; counts = r
 -- "A refusal is number and side .., with bump Major, result Breaking, all counts and length 0"
 unfoldable pub selected : Outcome → List ℕ
 selected (refused number side) = number ∷ side ∷ 2 ∷ 1 ∷ []
-selected (answered a) = notRefused ∷ noSide ∷ a .bump ∷ a .result ∷ length (a .text) ∷ a .counts
+selected (answered a) = number notRefused ∷ number noSide ∷ a .bump ∷ a .result ∷ length (a .text) ∷ a .counts
 
 -- "a selector beyond them gives 0"
 unfoldable pub select : Outcome → ℕ → ℕ
@@ -41,7 +41,7 @@ select o selector = getD (selected o) selector 0
 -- in a buffer of so many bytes: a text that is longer is refused, by 12 and with this side
 unfoldable pub fit : ℕ → ℕ → Outcome → Outcome
 fit side room (refused number own) = refused number own
-fit side room (answered a) = cond (leb (length (a .text)) room) (answered a) (refused fullRefusal side)
+fit side room (answered a) = cond (leb (length (a .text)) room) (answered a) (refused (number fullRefusal) side)
 
 -- it "returns the length, 0 if refused"
 unfoldable pub textLength : Outcome → ℕ

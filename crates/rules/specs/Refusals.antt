@@ -8,8 +8,7 @@ use Prim.Native.Nat.{ℕ, _≤_, _<_}
 use Rattle.maps.specs.Keyed.{lookup}
 use Rattle.maps.specs.Orders.{before}
 use Rattle.image.specs.Schema.{Name, Decl, Schema}
-use Rattle.image.specs.Kinds.{aliasKind}
-use Rattle.image.specs.Codes.{notRefused, longRefusal, deepRefusal, aliasPairRefusal, fullRefusal, noSide, oldSide, newSide, bothSides}
+use Rattle.image.specs.Codes.{number, aliasKind, notRefused, longRefusal, deepRefusal, aliasPairRefusal, fullRefusal, noSide, oldSide, newSide, bothSides}
 use Rattle.image.specs.Parse.{ok, no}
 use Rattle.image.specs.Image.{readImage}
 use Rattle.rules.specs.Survivors.{nameOf, declarations}
@@ -33,16 +32,16 @@ pub record Passes (p : Policy) (image : List ℕ) (x : Schema) : Type 0 where
 
 -- a number of one image
 abbrev pub OneToTen : ℕ → Type 0
-OneToTen k = (longRefusal ≤ k) × (k ≤ deepRefusal)
+OneToTen k = (number longRefusal ≤ k) × (k ≤ number deepRefusal)
 
 -- where two images are decided, and to what outcome
 pub data Decided (p : Policy) (old new : List ℕ) : Outcome → Type 0 where
   -- 1 to 10, "old before new", and after them the check of one image
-  oldRefused : {k : ℕ} → OneToTen k → readImage old ≡ no k → Decided p old new (refused k oldSide)
-  oldAlone : {x : Schema} {end k : ℕ} → readImage old ≡ ok x end → p .alone x ≡ some k → Decided p old new (refused k oldSide)
-  newRefused : {x : Schema} {k : ℕ} → Passes p old x → OneToTen k → readImage new ≡ no k → Decided p old new (refused k newSide)
+  oldRefused : {k : ℕ} → OneToTen k → readImage old ≡ no k → Decided p old new (refused k (number oldSide))
+  oldAlone : {x : Schema} {end k : ℕ} → readImage old ≡ ok x end → p .alone x ≡ some k → Decided p old new (refused k (number oldSide))
+  newRefused : {x : Schema} {k : ℕ} → Passes p old x → OneToTen k → readImage new ≡ no k → Decided p old new (refused k (number newSide))
   newAlone : {x y : Schema} {end k : ℕ} → Passes p old x → readImage new ≡ ok y end → p .alone y ≡ some k
-      → Decided p old new (refused k newSide)
+      → Decided p old new (refused k (number newSide))
   -- the checks of the pair
   pairRefused : {x y : Schema} {f : Fault} → Passes p old x → Passes p new y → firstFault (p .pair) x y ≡ some f
       → Decided p old new (refused (f .number) (f .side))
@@ -51,7 +50,7 @@ pub data Decided (p : Policy) (old new : List ℕ) : Outcome → Type 0 where
 
 -- a number that neither says that there is a verdict nor that a buffer is full
 abbrev pub Own : ℕ → Type 0
-Own k = (k ≡ notRefused → ⊥) × (k ≡ fullRefusal → ⊥)
+Own k = (k ≡ number notRefused → ⊥) × (k ≡ number fullRefusal → ⊥)
 
 -- the numbers of a policy's checks are such
 pub record Numbered (p : Policy) : Type 0 where
@@ -62,20 +61,20 @@ pub record PolicyRefusals (p : Policy) (old new : List ℕ) : Type 0 where
   -- an outcome is that of the two images exactly if they are decided so
   pub exactly : (o : Outcome) → (outcome p old new ≡ o) ↔ Decided p old new o
   -- "A verdict has number 0 and side none."
-  pub noSide : verdictBy p old new 0 ≡ notRefused → verdictBy p old new 1 ≡ noSide
-  pub refusal : (verdictBy p old new 0 ≡ notRefused → ⊥) → Refusal (verdictBy p old new)
+  pub noSide : verdictBy p old new 0 ≡ number notRefused → verdictBy p old new 1 ≡ number noSide
+  pub refusal : (verdictBy p old new 0 ≡ number notRefused → ⊥) → Refusal (verdictBy p old new)
 
 -- of the report call, with a buffer of so many bytes
 pub record ReportRefusals (p : Policy) (old new : List ℕ) (room : ℕ) : Type 0 where
   -- 12: "report longer than its buffer"
-  pub full : (select (reportBy p old new room) 0 ≡ fullRefusal) ↔ ((verdictBy p old new 0 ≡ notRefused) × (room < verdictBy p old new 4))
-  pub bothSides : select (reportBy p old new room) 0 ≡ fullRefusal → select (reportBy p old new room) 1 ≡ bothSides
+  pub full : (select (reportBy p old new room) 0 ≡ number fullRefusal) ↔ ((verdictBy p old new 0 ≡ number notRefused) × (room < verdictBy p old new 4))
+  pub bothSides : select (reportBy p old new room) 0 ≡ number fullRefusal → select (reportBy p old new room) 1 ≡ number bothSides
   -- otherwise all is as in the verdict
-  pub fits : (select (reportBy p old new room) 0 ≡ fullRefusal → ⊥) → (n : ℕ) → select (reportBy p old new room) n ≡ verdictBy p old new n
-  pub refusal : (select (reportBy p old new room) 0 ≡ notRefused → ⊥) → Refusal (select (reportBy p old new room))
+  pub fits : (select (reportBy p old new room) 0 ≡ number fullRefusal → ⊥) → (n : ℕ) → select (reportBy p old new room) n ≡ verdictBy p old new n
+  pub refusal : (select (reportBy p old new room) 0 ≡ number notRefused → ⊥) → Refusal (select (reportBy p old new room))
   -- "Its report call returns the length, 0 if refused", and leaves "an untouched buffer"
-  pub nothing : (select (reportBy p old new room) 0 ≡ notRefused → ⊥) → textLength (reportBy p old new room) ≡ 0
-  pub untouched : (select (reportBy p old new room) 0 ≡ notRefused → ⊥) → (out : List ℕ) → written (reportBy p old new room) out ≡ out
+  pub nothing : (select (reportBy p old new room) 0 ≡ number notRefused → ⊥) → textLength (reportBy p old new room) ≡ 0
+  pub untouched : (select (reportBy p old new room) 0 ≡ number notRefused → ⊥) → (out : List ℕ) → written (reportBy p old new room) out ≡ out
 
 -- ---- of the verdict of document 01
 
@@ -100,7 +99,7 @@ pub record NewRefused (old new : List ℕ) (k : ℕ) : Type 0 where
 pub record Alias (name : Name) (s : Schema) : Type 0 where
   pub survivor : Decl
   pub stands : lookup nameOf before name (declarations s) ≡ some survivor
-  pub generic : survivor .kind ≡ aliasKind
+  pub generic : survivor .kind ≡ number aliasKind
 
 -- "survivors of one name are generic aliases in both images"
 pub record AliasPair (old new : Schema) : Type 0 where
@@ -111,16 +110,16 @@ pub record AliasPair (old new : Schema) : Type 0 where
 -- of the verdict call
 pub record VerdictRefusals (old new : List ℕ) : Type 0 where
   -- "Two images get one exactly if none of 1 to 11 applies to them": the number is 0
-  pub verdict : (verdictOf old new 0 ≡ notRefused) ↔ AcceptedPair old new (λ x y. AliasPair x y → ⊥)
+  pub verdict : (verdictOf old new 0 ≡ number notRefused) ↔ AcceptedPair old new (λ x y. AliasPair x y → ⊥)
   -- 11
-  pub aliasPair : (verdictOf old new 0 ≡ aliasPairRefusal) ↔ AcceptedPair old new AliasPair
+  pub aliasPair : (verdictOf old new 0 ≡ number aliasPairRefusal) ↔ AcceptedPair old new AliasPair
   -- 1 to 10, "old before new"
-  pub oldRefused : (k : ℕ) → ((verdictOf old new 0 ≡ k) × (verdictOf old new 1 ≡ oldSide)) ↔ (readImage old ≡ no k)
-  pub newRefused : (k : ℕ) → ((verdictOf old new 0 ≡ k) × (verdictOf old new 1 ≡ newSide)) ↔ NewRefused old new k
+  pub oldRefused : (k : ℕ) → ((verdictOf old new 0 ≡ k) × (verdictOf old new 1 ≡ number oldSide)) ↔ (readImage old ≡ no k)
+  pub newRefused : (k : ℕ) → ((verdictOf old new 0 ≡ k) × (verdictOf old new 1 ≡ number newSide)) ↔ NewRefused old new k
   -- "A verdict has number 0 and side none."  "11 and 12: both"
-  pub noSide : verdictOf old new 0 ≡ notRefused → verdictOf old new 1 ≡ noSide
-  pub bothSides : verdictOf old new 0 ≡ aliasPairRefusal → verdictOf old new 1 ≡ bothSides
-  pub refusal : (verdictOf old new 0 ≡ notRefused → ⊥) → Refusal (verdictOf old new)
+  pub noSide : verdictOf old new 0 ≡ number notRefused → verdictOf old new 1 ≡ number noSide
+  pub bothSides : verdictOf old new 0 ≡ number aliasPairRefusal → verdictOf old new 1 ≡ number bothSides
+  pub refusal : (verdictOf old new 0 ≡ number notRefused → ⊥) → Refusal (verdictOf old new)
   -- the number is one of 0 to 11, and the report's, with a buffer of so many bytes, one of 0 to 12
-  pub most : verdictOf old new 0 ≤ aliasPairRefusal
-  pub mostReported : (room : ℕ) → select (reported old new room) 0 ≤ fullRefusal
+  pub most : verdictOf old new 0 ≤ number aliasPairRefusal
+  pub mostReported : (room : ℕ) → select (reported old new room) 0 ≤ number fullRefusal

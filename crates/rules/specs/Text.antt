@@ -6,7 +6,7 @@ use Prim.Native.String.{String}
 use lib.Dec.{eqb}
 use lib.ListN.{getD}
 use Rattle.image.specs.Schema.{Name, Encoding, Label, Ty, leaf, one, two}
-use Rattle.image.specs.Kinds.{primitiveTag, subByteTag, semanticTag, namedTag, fixedArrayTag}
+use Rattle.image.specs.Codes.{number, primitiveTag, subByteTag, semanticTag, namedTag, fixedArrayTag}
 use Rattle.image.specs.Words.{bytes}
 use Rattle.text.specs.Decimal.{decimal}
 
@@ -38,10 +38,10 @@ showName (n ∷ ns) = n
 -- a leaf, by its tag: primitive, sub-byte, semantic, named, bits; "`bits { a, b }`, which without names has two spaces between the braces"
 unfoldable pub showLeaf : Label → List ℕ
 showLeaf l =
-    cond (eqb (l .tag) primitiveTag) (primitiveWord (l .first))
-    (cond (eqb (l .tag) subByteTag) (word ("u" ∷ "i" ∷ []) (l .first) ++ decimal (l .second))
-    (cond (eqb (l .tag) semanticTag) (semanticWord (l .first))
-    (cond (eqb (l .tag) namedTag) (showName (l .names))
+    cond (eqb (l .tag) (number primitiveTag)) (primitiveWord (l .first))
+    (cond (eqb (l .tag) (number subByteTag)) (word ("u" ∷ "i" ∷ []) (l .first) ++ decimal (l .second))
+    (cond (eqb (l .tag) (number semanticTag)) (semanticWord (l .first))
+    (cond (eqb (l .tag) (number namedTag)) (showName (l .names))
     (bytes "bits { " ++ (joined (bytes ", ") (l .names) ++ bytes " }")))))
 
 -- what stands before the inner types, by the tag
@@ -54,7 +54,7 @@ opening tag =
 
 -- "`array<T, 4>`": a fixed array shows its size
 unfoldable pub showSize : Label → List ℕ
-showSize l = cond (eqb (l .tag) fixedArrayTag) (bytes ", " ++ decimal (l .first)) []
+showSize l = cond (eqb (l .tag) (number fixedArrayTag)) (bytes ", " ++ decimal (l .first)) []
 
 -- a resolved type
 unfoldable pub showType : Ty → List ℕ

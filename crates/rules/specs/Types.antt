@@ -5,7 +5,7 @@ use mathlib.Core.List.{List, [], _∷_}
 use Prim.Native.Nat.{ℕ}
 use lib.Dec.{eqb, leb}
 use Rattle.image.specs.Schema.{Name, Label, label, Ty, leaf, one, two, Decl}
-use Rattle.image.specs.Kinds.{namedTag, vec2Tag, mat4Tag}
+use Rattle.image.specs.Codes.{number, namedTag, vec2Tag, mat4Tag}
 use Rattle.rules.specs.Equal.{sameNames}
 use Rattle.rules.specs.Survivors.{Registry, standsFor}
 
@@ -16,7 +16,7 @@ nameOrNone (some d) = d .name ∷ []
 
 -- a named node has its name instead of its id
 unfoldable pub resolveLabel : Registry → Label → Label
-resolveLabel R l = cond (eqb (l .tag) namedTag) (label namedTag 0 0 (nameOrNone (standsFor R (l .first)))) l
+resolveLabel R l = cond (eqb (l .tag) (number namedTag)) (label (number namedTag) 0 0 (nameOrNone (standsFor R (l .first)))) l
 
 unfoldable pub resolve : Registry → Ty → Ty
 resolve R (leaf l) = leaf (resolveLabel R l)
@@ -25,7 +25,7 @@ resolve R (two l t u) = two (resolveLabel R l) (resolve R t) (resolve R u)
 
 -- 10 to 15: vec2 vec3 vec4 quat mat3 mat4
 unfoldable pub vector : ℕ → Bool
-vector tag = leb vec2Tag tag && leb tag mat4Tag
+vector tag = leb (number vec2Tag) tag && leb tag (number mat4Tag)
 
 -- "same tag, same codes, same size, same bit names in order"
 unfoldable pub sameLabel : Label → Label → Bool

@@ -8,7 +8,7 @@ use Rattle.maps.specs.Lists.{largest, count}
 use Rattle.maps.specs.Keyed.{lookup}
 use Rattle.maps.specs.Orders.{before}
 use Rattle.image.specs.Schema.{Decl}
-use Rattle.image.specs.Kinds.{aliasKind}
+use Rattle.image.specs.Codes.{number, aliasKind}
 use Rattle.rules.specs.Survivors.{nameOf, View}
 use Rattle.rules.specs.Changes.{level, Change}
 
@@ -29,7 +29,7 @@ countOf kind cs = count (λ c. eqb (c .kind) kind) cs
 
 -- 11: "survivors of one name are generic aliases in both images"
 unfoldable pub alias : Decl → Bool
-alias d = eqb (d .kind) aliasKind
+alias d = eqb (d .kind) (number aliasKind)
 
 unfoldable pub isAlias : Option Decl → Bool
 isAlias none = false

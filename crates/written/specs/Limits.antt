@@ -5,7 +5,7 @@ use mathlib.Core.Option.{Option, none, some}
 use mathlib.Core.List.{List, [], _∷_}
 use Prim.Native.Nat.{ℕ, suc, _^_, max, _≤_, _<_}
 use lib.ListN.{length}
-use Rattle.image.specs.Kinds.{messageKind, enumKind, flagsKind, unionKind, newtypeKind, configKind, aliasKind, traitKind, implKind, primitiveTag, subByteTag, semanticTag, namedTag, optionalTag, arrayTag, fixedArrayTag, setTag, mapTag, resultTag, vec2Tag, mat4Tag, bitsTag}
+use Rattle.image.specs.Codes.{number, messageKind, enumKind, flagsKind, unionKind, newtypeKind, configKind, aliasKind, traitKind, implKind, primitiveTag, subByteTag, semanticTag, namedTag, optionalTag, arrayTag, fixedArrayTag, setTag, mapTag, resultTag, vec2Tag, mat4Tag, bitsTag}
 use Rattle.image.specs.Schema.{Name, Marks, unmarked, Encoding, Label, label, Ty, leaf, one, two, Field, Variant, Decl, decl, noType, Schema}
 use Rattle.image.specs.Names.{nameBytes}
 use Rattle.written.specs.Writer.{write}
@@ -35,22 +35,22 @@ pub record NameWithin (x : Name) : Type 0 where
 
 -- optional, array and set; vec2 vec3 vec4 quat mat3 mat4
 pub data Wrapping (tag : ℕ) : Type 0 where
-  optional : tag ≡ optionalTag → Wrapping tag
-  array : tag ≡ arrayTag → Wrapping tag
-  set : tag ≡ setTag → Wrapping tag
-  vector : vec2Tag ≤ tag → tag ≤ mat4Tag → Wrapping tag
+  optional : tag ≡ number optionalTag → Wrapping tag
+  array : tag ≡ number arrayTag → Wrapping tag
+  set : tag ≡ number setTag → Wrapping tag
+  vector : (number vec2Tag) ≤ tag → tag ≤ number mat4Tag → Wrapping tag
 
 -- the labels of types, by their number of inner types
 pub data LabelWithin : ℕ → Label → Type 0 where
-  primitive : {a : ℕ} → a ≤ 13 → LabelWithin 0 (label primitiveTag a 0 [])
-  subByte : {signed width : ℕ} → signed ≤ 1 → 1 ≤ width → width ≤ 64 → LabelWithin 0 (label subByteTag signed width [])
-  semantic : {a : ℕ} → a ≤ 5 → LabelWithin 0 (label semanticTag a 0 [])
-  named : {id : ℕ} → U32 id → LabelWithin 0 (label namedTag id 0 [])
-  bits : {names : List Name} → length names ≤ 255 → Each NameWithin names → LabelWithin 0 (label bitsTag 0 0 names)
+  primitive : {a : ℕ} → a ≤ 13 → LabelWithin 0 (label (number primitiveTag) a 0 [])
+  subByte : {signed width : ℕ} → signed ≤ 1 → 1 ≤ width → width ≤ 64 → LabelWithin 0 (label (number subByteTag) signed width [])
+  semantic : {a : ℕ} → a ≤ 5 → LabelWithin 0 (label (number semanticTag) a 0 [])
+  named : {id : ℕ} → U32 id → LabelWithin 0 (label (number namedTag) id 0 [])
+  bits : {names : List Name} → length names ≤ 255 → Each NameWithin names → LabelWithin 0 (label (number bitsTag) 0 0 names)
   wrapping : {tag : ℕ} → Wrapping tag → LabelWithin 1 (label tag 0 0 [])
-  fixedArray : {k : ℕ} → U64 k → LabelWithin 1 (label fixedArrayTag k 0 [])
-  map : LabelWithin 2 (label mapTag 0 0 [])
-  result : LabelWithin 2 (label resultTag 0 0 [])
+  fixedArray : {k : ℕ} → U64 k → LabelWithin 1 (label (number fixedArrayTag) k 0 [])
+  map : LabelWithin 2 (label (number mapTag) 0 0 [])
+  result : LabelWithin 2 (label (number resultTag) 0 0 [])
 
 pub data Typed : Ty → Type 0 where
   bare : {l : Label} → LabelWithin 0 l → Typed (leaf l)
@@ -99,15 +99,15 @@ pub record VariantWithin (v : Variant) : Type 0 where
 
 -- a declaration of each kind, what the kind has not at its default
 pub data DeclWithin : Decl → Type 0 where
-  message : {x : Name} {m : Marks} {fs : List Field} → NameWithin x → Few fs → Each FieldWithin fs → DeclWithin (decl messageKind x m fs [] noType)
-  enum : {x : Name} {m : Marks} {vs : List Variant} → NameWithin x → Few vs → Each BareWithin vs → DeclWithin (decl enumKind x m [] vs noType)
-  flags : {x : Name} {vs : List Variant} → NameWithin x → Few vs → Each BareWithin vs → DeclWithin (decl flagsKind x unmarked [] vs noType)
-  union : {x : Name} {vs : List Variant} → NameWithin x → Few vs → Each VariantWithin vs → DeclWithin (decl unionKind x unmarked [] vs noType)
-  newtype : {x : Name} {t : Ty} → NameWithin x → TypeWithin t → DeclWithin (decl newtypeKind x unmarked [] [] t)
-  config : {x : Name} → NameWithin x → DeclWithin (decl configKind x unmarked [] [] noType)
-  alias : {x : Name} → NameWithin x → DeclWithin (decl aliasKind x unmarked [] [] noType)
-  trait : {x : Name} → NameWithin x → DeclWithin (decl traitKind x unmarked [] [] noType)
-  impl : DeclWithin (decl implKind [] unmarked [] [] noType)
+  message : {x : Name} {m : Marks} {fs : List Field} → NameWithin x → Few fs → Each FieldWithin fs → DeclWithin (decl (number messageKind) x m fs [] noType)
+  enum : {x : Name} {m : Marks} {vs : List Variant} → NameWithin x → Few vs → Each BareWithin vs → DeclWithin (decl (number enumKind) x m [] vs noType)
+  flags : {x : Name} {vs : List Variant} → NameWithin x → Few vs → Each BareWithin vs → DeclWithin (decl (number flagsKind) x unmarked [] vs noType)
+  union : {x : Name} {vs : List Variant} → NameWithin x → Few vs → Each VariantWithin vs → DeclWithin (decl (number unionKind) x unmarked [] vs noType)
+  newtype : {x : Name} {t : Ty} → NameWithin x → TypeWithin t → DeclWithin (decl (number newtypeKind) x unmarked [] [] t)
+  config : {x : Name} → NameWithin x → DeclWithin (decl (number configKind) x unmarked [] [] noType)
+  alias : {x : Name} → NameWithin x → DeclWithin (decl (number aliasKind) x unmarked [] [] noType)
+  trait : {x : Name} → NameWithin x → DeclWithin (decl (number traitKind) x unmarked [] [] noType)
+  impl : DeclWithin (decl (number implKind) [] unmarked [] [] noType)
 
 pub data EntryWithin : Option Decl → Type 0 where
   empty : EntryWithin none

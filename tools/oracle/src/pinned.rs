@@ -110,7 +110,7 @@ fn said<'a>(field: &[&'a str]) -> Result<Vec<([&'a str; 2], Said)>, String> {
         ["distance", "verdictOf", old, new, "≡", distance] => {
             ([*old, *new], Said::Distance(number(distance)?))
         }
-        ["countBetween", "verdictOf", name, old, new, "≡", count] => {
+        ["countBetween", "verdictOf", "(", "kindAt", name, ")", old, new, "≡", count] => {
             ([*old, *new], Said::Count(kind(name)?, number(count)?))
         }
         ["Verdict", "verdictOf", old, new] => ([*old, *new], Said::Verdict),

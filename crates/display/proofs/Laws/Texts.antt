@@ -10,7 +10,7 @@ use lib.Dec.{eqb}
 use lib.ListN.{length}
 use Rattle.image.specs.Schema.{Name}
 use Rattle.image.specs.Words.{bytes}
-use Rattle.parts.specs.Kinds.{primitiveTag, subByteTag, semanticTag, namedTag, fixedArrayTag, bitsTag}
+use Rattle.parts.specs.Codes.{number, primitiveTag, subByteTag, semanticTag, namedTag, fixedArrayTag, bitsTag}
 use Rattle.parts.specs.Promise.{LabelHere, labelIn, labelEnd, typeEnd, bitsIn, codingOf}
 use Rattle.parts.proofs.Promise.{label-regular, bits-listed}
 use Rattle.parts.specs.declared.Run.{Run}
@@ -72,49 +72,49 @@ opening-words tag = table-word _ refl tag
 -- ---- a node without inner types
 
 module _ (s : List ℕ) (node : ℕ) where
-  unnamed : (labelIn s node .tag ≡ namedTag → ⊥) → nodeIn s node ≡ labelIn s node
+  unnamed : (labelIn s node .tag ≡ number namedTag → ⊥) → nodeIn s node ≡ labelIn s node
   unnamed n = not-named _ (labelIn s node) n
 
-  pub leaf-primitive : labelIn s node .tag ≡ primitiveTag → {x : ℕ} → x ≡ labelIn s node .first
+  pub leaf-primitive : labelIn s node .tag ≡ number primitiveTag → {x : ℕ} → x ≡ labelIn s node .first
       → showLeaf (nodeIn s node) ≡ wordIn (bytes "bool u8 u16 u32 u64 i8 i16 i32 i64 f32 f64 fixed32 fixed64 void ") x
   unfolding showLeaf
   leaf-primitive e q = rw (unnamed (λ z. absurd (omega arith)), e, q) (sym (primitive-words (labelIn s node .first)))
 
-  pub leaf-sub-byte : labelIn s node .tag ≡ subByteTag → {x y : ℕ} → x ≡ labelIn s node .first → y ≡ labelIn s node .second
+  pub leaf-sub-byte : labelIn s node .tag ≡ number subByteTag → {x y : ℕ} → x ≡ labelIn s node .first → y ≡ labelIn s node .second
       → showLeaf (nodeIn s node) ≡ together (wordIn (bytes "u i ") x ∷ decimal y ∷ [])
   unfolding showLeaf together
   leaf-sub-byte e p q = rw (unnamed (λ z. absurd (omega arith)), e, p, q, sign-words (labelIn s node .first))
 
-  pub leaf-semantic : labelIn s node .tag ≡ semanticTag → {x : ℕ} → x ≡ labelIn s node .first → showLeaf (nodeIn s node) ≡ wordIn (bytes "string bytes rgb uuid timestamp hash ") x
+  pub leaf-semantic : labelIn s node .tag ≡ number semanticTag → {x : ℕ} → x ≡ labelIn s node .first → showLeaf (nodeIn s node) ≡ wordIn (bytes "string bytes rgb uuid timestamp hash ") x
   unfolding showLeaf
   leaf-semantic e q = rw (unnamed (λ z. absurd (omega arith)), e, q) (sym (semantic-words (labelIn s node .first)))
 
-  pub leaf-named : labelIn s node .tag ≡ namedTag → {x : ℕ} → x ≡ labelIn s node .first → showLeaf (nodeIn s node) ≡ showName (namedBy s x)
+  pub leaf-named : labelIn s node .tag ≡ number namedTag → {x : ℕ} → x ≡ labelIn s node .first → showLeaf (nodeIn s node) ≡ showName (namedBy s x)
   unfolding showLeaf
   leaf-named e q = rw (named _ (labelIn s node) e, q)
 
-  pub leaf-bits : namedTag < labelIn s node .tag → {names : List Name} → names ≡ labelIn s node .names
+  pub leaf-bits : (number namedTag) < labelIn s node .tag → {names : List Name} → names ≡ labelIn s node .names
       → showLeaf (nodeIn s node) ≡ together (bytes "bits { " ∷ joined (bytes ", ") names ∷ bytes " }" ∷ [])
   unfolding showLeaf together
   leaf-bits l n =
       let past : (k : ℕ) → k < 4 → eqb (labelIn s node .tag) k ≡ false = (λ k h. ne-eqb _ k (λ z. absurd (omega arith))) in
       rw (unnamed (λ z. absurd (omega arith)), past 0 (omega arith), past 1 (omega arith), past 2 (omega arith), past 3 (omega arith), n)
 
-  pub size-none : (labelIn s node .tag ≡ fixedArrayTag → ⊥) → showSize (nodeIn s node) ≡ []
+  pub size-none : (labelIn s node .tag ≡ number fixedArrayTag → ⊥) → showSize (nodeIn s node) ≡ []
   unfolding showSize
   size-none n = rw (tag-resolved _ (labelIn s node), ne-eqb (labelIn s node .tag) 6 n)
 
-  pub size-some : labelIn s node .tag ≡ fixedArrayTag → {x : ℕ} → x ≡ labelIn s node .first → showSize (nodeIn s node) ≡ together (bytes ", " ∷ decimal x ∷ [])
+  pub size-some : labelIn s node .tag ≡ number fixedArrayTag → {x : ℕ} → x ≡ labelIn s node .first → showSize (nodeIn s node) ≡ together (bytes ", " ∷ decimal x ∷ [])
   unfolding showSize together
   size-some e q = rw (unnamed (λ z. absurd (omega arith)), e, q)
 
 -- the names of a node
 module _ (s : List ℕ) (node : ℕ) (g : LabelHere s node) {x : ℕ} (e : x ≡ labelIn s node .tag) where
-  pub no-label-names : (x ≡ bitsTag → ⊥) → {at : ℕ} → LabelNames s node (run at 0)
+  pub no-label-names : (x ≡ number bitsTag → ⊥) → {at : ℕ} → LabelNames s node (run at 0)
   unfolding NamesIn
   no-label-names n {at} = record { here = λ l. absurd (omega arith); are = names-none s at 0 refl ∙ sym (label-regular s node g .names (λ z. n (e ∙ z))) }
 
-  pub bits-label-names : x ≡ bitsTag → {r : Run} → r ≡ bitsIn s node → LabelNames s node r
+  pub bits-label-names : x ≡ number bitsTag → {r : Run} → r ≡ bitsIn s node → LabelNames s node r
   unfolding namesIn
   bits-label-names q k = record { here = bits-in s node g (sym e ∙ q) k; are = rw k (sym (bits-listed s node g (sym e ∙ q) .are)) }
 

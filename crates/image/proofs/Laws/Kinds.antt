@@ -3,20 +3,21 @@ use mathlib.Core.Path.{_≡_, refl}
 use Prim.Native.Nat.{ℕ, zero, suc, _≤_, _<_}
 use native.Mathlib.Omega.{arith}
 use lib.ListN.{length, getD}
-use Rattle.image.specs.Kinds.{Kind, kindOf, messageKind, enumKind, flagsKind, unionKind, newtypeKind, configKind, aliasKind, traitKind, implKind}
+use Rattle.image.specs.Kinds.{Kind, kindOf}
+use Rattle.image.specs.Codes.{number, messageKind, enumKind, flagsKind, unionKind, newtypeKind, configKind, aliasKind, traitKind, implKind}
 use Rattle.image.specs.Words.{bytes, kindName, kindNames}
 
 pub data Says : ℕ → Kind → Type 0 where
-  message : Says messageKind Kind.message
-  enum : Says enumKind Kind.enum
-  flags : Says flagsKind Kind.flags
-  union : Says unionKind Kind.union
-  newtype : Says newtypeKind Kind.newtype
-  config : Says configKind Kind.config
-  alias : Says aliasKind Kind.alias
-  trait : Says traitKind Kind.trait
-  impl : Says implKind Kind.impl
-  other : (n : ℕ) → implKind < n → Says n Kind.other
+  message : Says (number messageKind) Kind.message
+  enum : Says (number enumKind) Kind.enum
+  flags : Says (number flagsKind) Kind.flags
+  union : Says (number unionKind) Kind.union
+  newtype : Says (number newtypeKind) Kind.newtype
+  config : Says (number configKind) Kind.config
+  alias : Says (number aliasKind) Kind.alias
+  trait : Says (number traitKind) Kind.trait
+  impl : Says (number implKind) Kind.impl
+  other : (n : ℕ) → (number implKind) < n → Says n Kind.other
 
 pub says : (n : ℕ) → Says n (kindOf n)
 unfolding kindOf

@@ -5,7 +5,8 @@ use Prim.Native.Nat.{ℕ, zero, suc, _+_, _≤_, _<_}
 use native.Mathlib.Omega.{arith}
 use borrow.Author.Tests.{le-leb, lt-leb}
 use lib.ListN.{length, getD}
-use Rattle.image.specs.Kinds.{Kind, kindOf, messageKind, enumKind, flagsKind, unionKind, newtypeKind, configKind, aliasKind, traitKind, implKind}
+use Rattle.image.specs.Kinds.{Kind, kindOf}
+use Rattle.image.specs.Codes.{number, messageKind, enumKind, flagsKind, unionKind, newtypeKind, configKind, aliasKind, traitKind, implKind}
 use Rattle.image.specs.Schema.{Name, Marks, unmarked, Ty, noType, Field, Variant, Decl, decl}
 use Rattle.image.specs.Parse.{Parsed, ok, no, bind, byteAt, many, counted}
 use Rattle.image.specs.Names.{nameAt}
@@ -26,11 +27,11 @@ use Rattle.parts.proofs.Laws.Items.{type-here, type-at-is, count-inside
 -- the head of a declaration: its kind, and by the kind a name and marks, from `at` on
 pub record Headed (kind : ℕ) (s : List ℕ) (at : ℕ) (d : Decl) : Type 0 where
   pub is : d .kind ≡ kind
-  pub most : kind ≤ implKind
-  pub nameless : traitKind < kind → d .name ≡ []
-  pub named : kind < implKind → NameHere s at × (d .name ≡ nameIn s at)
-  pub marked : kind ≤ enumKind → (nameEnd s at < length s) × (d .marks ≡ marksOf (getD s (nameEnd s at) 0))
-  pub plain : enumKind < kind → d .marks ≡ unmarked
+  pub most : kind ≤ number implKind
+  pub nameless : (number traitKind) < kind → d .name ≡ []
+  pub named : kind < number implKind → NameHere s at × (d .name ≡ nameIn s at)
+  pub marked : kind ≤ number enumKind → (nameEnd s at < length s) × (d .marks ≡ marksOf (getD s (nameEnd s at) 0))
+  pub plain : (number enumKind) < kind → d .marks ≡ unmarked
 
 -- what is known of every answer
 itself : {A : Type 0} (d : A) (p : Parsed A) → Sure (λ a n. Good p × (a ≡ valueOr d p) × (n ≡ endOf p)) p
@@ -76,18 +77,18 @@ module _ (s : List ℕ) (at : ℕ) where
   head-sure : {kind : ℕ} {k : Kind} → Says kind k → Sure (λ d n. Headed kind s at d) (declAt k s at)
   unfolding declAt messageAt enumAt flagsAt unionAt newtypeAt otherAt implAt
   head-sure message =
-      sure-bind _ name-sure-here (λ x n q. sure-bind _ (marks-sure-here s n) (λ m k r. sure-bind _ (itself [] (counted fieldAt s k)) (λ fs i _. sure-ok (with-marks messageKind (omega arith) q r fs []))))
+      sure-bind _ name-sure-here (λ x n q. sure-bind _ (marks-sure-here s n) (λ m k r. sure-bind _ (itself [] (counted fieldAt s k)) (λ fs i _. sure-ok (with-marks (number messageKind) (omega arith) q r fs []))))
   head-sure enum =
-      sure-bind _ name-sure-here (λ x n q. sure-bind _ (marks-sure-here s n) (λ m k r. sure-bind _ (itself [] (counted bareAt s k)) (λ vs i _. sure-ok (with-marks enumKind (omega arith) q r [] vs))))
+      sure-bind _ name-sure-here (λ x n q. sure-bind _ (marks-sure-here s n) (λ m k r. sure-bind _ (itself [] (counted bareAt s k)) (λ vs i _. sure-ok (with-marks (number enumKind) (omega arith) q r [] vs))))
   head-sure flags =
-      sure-bind _ name-sure-here (λ x n q. sure-bind _ (itself [] (counted bareAt s n)) (λ vs i _. sure-ok (without flagsKind (omega arith) (omega arith) q [] vs noType)))
+      sure-bind _ name-sure-here (λ x n q. sure-bind _ (itself [] (counted bareAt s n)) (λ vs i _. sure-ok (without (number flagsKind) (omega arith) (omega arith) q [] vs noType)))
   head-sure union =
-      sure-bind _ name-sure-here (λ x n q. sure-bind _ (itself [] (counted variantAt s n)) (λ vs i _. sure-ok (without unionKind (omega arith) (omega arith) q [] vs noType)))
+      sure-bind _ name-sure-here (λ x n q. sure-bind _ (itself [] (counted variantAt s n)) (λ vs i _. sure-ok (without (number unionKind) (omega arith) (omega arith) q [] vs noType)))
   head-sure newtype =
-      sure-bind _ name-sure-here (λ x n q. sure-bind _ (itself noType (typeAt s n)) (λ t i _. sure-ok (without newtypeKind (omega arith) (omega arith) q [] [] t)))
-  head-sure config = sure-bind _ name-sure-here (λ x n q. sure-ok (without configKind (omega arith) (omega arith) q [] [] noType))
-  head-sure alias = sure-bind _ name-sure-here (λ x n q. sure-ok (without aliasKind (omega arith) (omega arith) q [] [] noType))
-  head-sure trait = sure-bind _ name-sure-here (λ x n q. sure-ok (without traitKind (omega arith) (omega arith) q [] [] noType))
+      sure-bind _ name-sure-here (λ x n q. sure-bind _ (itself noType (typeAt s n)) (λ t i _. sure-ok (without (number newtypeKind) (omega arith) (omega arith) q [] [] t)))
+  head-sure config = sure-bind _ name-sure-here (λ x n q. sure-ok (without (number configKind) (omega arith) (omega arith) q [] [] noType))
+  head-sure alias = sure-bind _ name-sure-here (λ x n q. sure-ok (without (number aliasKind) (omega arith) (omega arith) q [] [] noType))
+  head-sure trait = sure-bind _ name-sure-here (λ x n q. sure-ok (without (number traitKind) (omega arith) (omega arith) q [] [] noType))
   head-sure impl =
       sure-ok (record { is = refl; most = omega arith; nameless = λ _. refl; named = λ z. absurd (omega arith); marked = λ z. absurd (omega arith); plain = λ _. refl })
   head-sure (other _ _) = sure-no
@@ -165,11 +166,11 @@ module _ {A : Type 0} (p : List ℕ → ℕ → Parsed A) (s : List ℕ) (at : �
         counted-there _ (nameEnd s at) b (ap (λ (q : Parsed Decl). list (valueOr noDecl q)) (then-is _ n ∙ then-is _ e) ∙ l _ _)
 
 -- where a declaration's count stands, by its kind
-items-marked : (s : List ℕ) (at : ℕ) → declIn s at .kind ≤ enumKind → itemsIn s at ≡ itemsAt s (nameEnd s (at + 1) + 1)
+items-marked : (s : List ℕ) (at : ℕ) → declIn s at .kind ≤ number enumKind → itemsIn s at ≡ itemsAt s (nameEnd s (at + 1) + 1)
 unfolding itemsIn
 items-marked s at l = rw (le-leb (declIn s at .kind) 1 l)
 
-items-plain : (s : List ℕ) (at : ℕ) → enumKind < declIn s at .kind → itemsIn s at ≡ itemsAt s (nameEnd s (at + 1))
+items-plain : (s : List ℕ) (at : ℕ) → (number enumKind) < declIn s at .kind → itemsIn s at ≡ itemsAt s (nameEnd s (at + 1))
 unfolding itemsIn
 items-plain s at l =
     let z : nameEnd s (at + 1) + 0 ≡ nameEnd s (at + 1) = omega arith in
@@ -177,31 +178,31 @@ items-plain s at l =
 
 -- the items of each kind
 module _ (s : List ℕ) (at : ℕ) (g : DeclHere s at) where
-  message-counted : declIn s at .kind ≡ messageKind → Counted fieldAt s (itemsIn s at) (declIn s at .fields)
+  message-counted : declIn s at .kind ≡ number messageKind → Counted fieldAt s (itemsIn s at) (declIn s at .fields)
   unfolding kindOf declAt messageAt marked-list
   message-counted e =
-      rw (items-marked s at (omega arith), kind-value s at g messageKind e)
-      (marked-counted fieldAt s (at + 1) (λ d. d .fields) (λ x m fs. decl messageKind x m fs [] noType) (λ x m fs. refl) (kind-good s at g messageKind e))
+      rw (items-marked s at (omega arith), kind-value s at g (number messageKind) e)
+      (marked-counted fieldAt s (at + 1) (λ d. d .fields) (λ x m fs. decl (number messageKind) x m fs [] noType) (λ x m fs. refl) (kind-good s at g (number messageKind) e))
 
-  enum-counted : declIn s at .kind ≡ enumKind → Counted bareAt s (itemsIn s at) (declIn s at .variants)
+  enum-counted : declIn s at .kind ≡ number enumKind → Counted bareAt s (itemsIn s at) (declIn s at .variants)
   unfolding kindOf declAt enumAt marked-list
   enum-counted e =
-      rw (items-marked s at (omega arith), kind-value s at g enumKind e)
-      (marked-counted bareAt s (at + 1) (λ d. d .variants) (λ x m vs. decl enumKind x m [] vs noType) (λ x m vs. refl) (kind-good s at g enumKind e))
+      rw (items-marked s at (omega arith), kind-value s at g (number enumKind) e)
+      (marked-counted bareAt s (at + 1) (λ d. d .variants) (λ x m vs. decl (number enumKind) x m [] vs noType) (λ x m vs. refl) (kind-good s at g (number enumKind) e))
 
-  flags-counted : declIn s at .kind ≡ flagsKind → Counted bareAt s (itemsIn s at) (declIn s at .variants)
+  flags-counted : declIn s at .kind ≡ number flagsKind → Counted bareAt s (itemsIn s at) (declIn s at .variants)
   unfolding kindOf declAt flagsAt plain-list
   flags-counted e =
-      rw (items-plain s at (omega arith), kind-value s at g flagsKind e)
-      (plain-counted bareAt s (at + 1) (λ d. d .variants) (λ x vs. decl flagsKind x unmarked [] vs noType) (λ x vs. refl) (kind-good s at g flagsKind e))
+      rw (items-plain s at (omega arith), kind-value s at g (number flagsKind) e)
+      (plain-counted bareAt s (at + 1) (λ d. d .variants) (λ x vs. decl (number flagsKind) x unmarked [] vs noType) (λ x vs. refl) (kind-good s at g (number flagsKind) e))
 
-  union-counted : declIn s at .kind ≡ unionKind → Counted variantAt s (itemsIn s at) (declIn s at .variants)
+  union-counted : declIn s at .kind ≡ number unionKind → Counted variantAt s (itemsIn s at) (declIn s at .variants)
   unfolding kindOf declAt unionAt plain-list
   union-counted e =
-      rw (items-plain s at (omega arith), kind-value s at g unionKind e)
-      (plain-counted variantAt s (at + 1) (λ d. d .variants) (λ x vs. decl unionKind x unmarked [] vs noType) (λ x vs. refl) (kind-good s at g unionKind e))
+      rw (items-plain s at (omega arith), kind-value s at g (number unionKind) e)
+      (plain-counted variantAt s (at + 1) (λ d. d .variants) (λ x vs. decl (number unionKind) x unmarked [] vs noType) (λ x vs. refl) (kind-good s at g (number unionKind) e))
 
-  items-inside : declIn s at .kind ≤ unionKind → itemsIn s at .start ≤ length s
+  items-inside : declIn s at .kind ≤ number unionKind → itemsIn s at .start ≤ length s
   items-inside l = go (declIn s at .kind) refl l
     where
       go : (k : ℕ) → declIn s at .kind ≡ k → k ≤ 3 → itemsIn s at .start ≤ length s
@@ -212,7 +213,7 @@ module _ (s : List ℕ) (at : ℕ) (g : DeclHere s at) where
       go (suc (suc (suc (suc k)))) e l = absurd (omega arith)
 
   -- where the code reads the count, after a name that ends at e
-  module _ (l : declIn s at .kind ≤ unionKind) where
+  module _ (l : declIn s at .kind ≤ number unionKind) where
     count-there : (n : ℕ) → itemsAt s n ≡ itemsIn s at → n + 2 ≤ length s
     unfolding itemsAt
     count-there n y =
@@ -246,24 +247,24 @@ module _ (s : List ℕ) (n : Run) where
   variants-are l = record { here = l .good; are = l .are ∙ many-places noVariant variantAt s _ _ (l .good) }
 
 module _ (s : List ℕ) (at : ℕ) (g : DeclHere s at) where
-  pub message-listed : declIn s at .kind ≡ messageKind → ItemsListed shape.Field s (itemsIn s at) (fieldIn s) (declIn s at .fields)
+  pub message-listed : declIn s at .kind ≡ number messageKind → ItemsListed shape.Field s (itemsIn s at) (fieldIn s) (declIn s at .fields)
   message-listed e = fields-are s (itemsIn s at) (message-counted s at g e)
 
-  pub enum-listed : declIn s at .kind ≡ enumKind → ItemsListed shape.Bare s (itemsIn s at) (bareIn s) (declIn s at .variants)
+  pub enum-listed : declIn s at .kind ≡ number enumKind → ItemsListed shape.Bare s (itemsIn s at) (bareIn s) (declIn s at .variants)
   enum-listed e = bares-are s (itemsIn s at) (enum-counted s at g e)
 
-  pub flags-listed : declIn s at .kind ≡ flagsKind → ItemsListed shape.Bare s (itemsIn s at) (bareIn s) (declIn s at .variants)
+  pub flags-listed : declIn s at .kind ≡ number flagsKind → ItemsListed shape.Bare s (itemsIn s at) (bareIn s) (declIn s at .variants)
   flags-listed e = bares-are s (itemsIn s at) (flags-counted s at g e)
 
-  pub union-listed : declIn s at .kind ≡ unionKind → ItemsListed shape.Variant s (itemsIn s at) (variantIn s) (declIn s at .variants)
+  pub union-listed : declIn s at .kind ≡ number unionKind → ItemsListed shape.Variant s (itemsIn s at) (variantIn s) (declIn s at .variants)
   union-listed e = variants-are s (itemsIn s at) (union-counted s at g e)
 
   -- a newtype's type
-  module _ (e : declIn s at .kind ≡ newtypeKind) where
-    newtype-parts : (Good (typeAt s (innerPlace s at))) × (newtypeAt s (at + 1) ≡ bind (typeAt s (innerPlace s at)) (λ t n. ok (decl newtypeKind (nameIn s (at + 1)) unmarked [] [] t) n))
+  module _ (e : declIn s at .kind ≡ number newtypeKind) where
+    newtype-parts : (Good (typeAt s (innerPlace s at))) × (newtypeAt s (at + 1) ≡ bind (typeAt s (innerPlace s at)) (λ t n. ok (decl (number newtypeKind) (nameIn s (at + 1)) unmarked [] [] t) n))
     unfolding kindOf declAt newtypeAt NameHere innerPlace
     newtype-parts =
-        let b = kind-good s at g newtypeKind e in
+        let b = kind-good s at g (number newtypeKind) e in
         let n = name-is s (at + 1) (good-first [] (nameAt 8 s (at + 1)) _ b) in
         (good-first noType (typeAt s (nameEnd s (at + 1))) _ (then-good _ n b), then-is _ n)
 
@@ -273,5 +274,5 @@ module _ (s : List ℕ) (at : ℕ) (g : DeclHere s at) where
     pub inner-tree : declIn s at .inner ≡ treeIn s (innerPlace s at)
     unfolding kindOf declAt valueOr
     inner-tree =
-        ap (λ (d : Decl). d .inner) (kind-value s at g newtypeKind e)
+        ap (λ (d : Decl). d .inner) (kind-value s at g (number newtypeKind) e)
         ∙ ap (λ (q : Parsed Decl). valueOr noDecl q .inner) (newtype-parts .1 ∙ then-is _ (type-at-is s (innerPlace s at) (newtype-parts .0)))

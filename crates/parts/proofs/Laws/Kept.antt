@@ -14,7 +14,8 @@ use Rattle.image.specs.Parse.{Parsed, ok, no, bind, pick, shift, within, part, 
 use Rattle.image.specs.Names.{nameBytes, nameAt, namesAt}
 use Rattle.image.specs.Types.{Follows, code, subByte, identity, size, nothing, bits, unknown, followsTag, innerTypes, afterTag, labelOf, innerAt, typeOf, typeAt}
 use Rattle.image.specs.Fields.{marksAt, encodingOf, encodingAt, limitAt, fieldAt, bareAt, variantAt}
-use Rattle.image.specs.Kinds.{Kind, message, enum, flags, union, newtype, config, alias, trait, impl, other, kindOf, configKind, aliasKind, traitKind}
+use Rattle.image.specs.Kinds.{Kind, message, enum, flags, union, newtype, config, alias, trait, impl, other, kindOf}
+use Rattle.image.specs.Codes.{number, configKind, aliasKind, traitKind}
 use Rattle.image.specs.Bodies.{messageAt, enumAt, flagsAt, unionAt, newtypeAt, otherAt, implAt, declAt, bodyOf}
 use Rattle.parts.specs.Promise.{bodyAt}
 use Rattle.image.specs.WellFormed.{Good, valueOr, endOf}
@@ -290,9 +291,9 @@ module _ {by : ℕ} {t s : List ℕ} (h : Part by t s) where
   decl-kept flags at = flags-kept at
   decl-kept union at = union-kept at
   decl-kept newtype at = newtype-kept at
-  decl-kept config at = other-kept configKind at
-  decl-kept alias at = other-kept aliasKind at
-  decl-kept trait at = other-kept traitKind at
+  decl-kept config at = other-kept (number configKind) at
+  decl-kept alias at = other-kept (number aliasKind) at
+  decl-kept trait at = other-kept (number traitKind) at
   decl-kept impl at = kept-ok refl
   decl-kept other at = kept-no
 
