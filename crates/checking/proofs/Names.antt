@@ -1,11 +1,10 @@
--- One name: what is reported of it, from what stands under it on the two sides. Assumes nothing.
-use mathlib.Core.Path.{_≡_, refl}
+-- One declaration: what is reported of it, from what stands under its name on the other side. Assumes nothing.
+use mathlib.Core.Path.{_≡_}
 use mathlib.Core.Bool.{true}
-use mathlib.Core.Option.{Option, none, some}
 use mathlib.Core.List.{List, []}
 use Prim.Native.Nat.{ℕ}
 use Rattle.maps.specs.Compare.{unmatched, matched}
-use Rattle.image.specs.Schema.{Name}
+use Rattle.image.specs.Schema.{Name, Decl}
 use Rattle.text.specs.declared.Mode.{Mode}
 use Rattle.parts.specs.Promise.{declIn}
 use Rattle.parts.specs.declared.Entry.{Entry}
@@ -17,67 +16,53 @@ use Rattle.survivors.specs.Answers.{Survives}
 use Rattle.survivors.proofs.Declarations.{survives-none, survives-body, survives-here}
 use Rattle.lines.specs.Clauses.{declRemoved, declAdded}
 use Rattle.lines.proofs.Clauses.{Reports, decl-removed, decl-added}
-use Rattle.items.specs.Pairs.{reading, BothAccepted, DeclPair}
+use Rattle.items.specs.Pairs.{reading, DeclPair}
 use Rattle.items.specs.Sides.{on, off}
 use Rattle.items.specs.declared.Side.{Side}
-use Rattle.checking.specs.Decls.{lone, unmatchedDecl, keptDecl}
+use Rattle.checking.specs.Decls.{lone, unmatchedIn, keptIn, DeclOn}
 
 -- what stands under a name stands under one that equals it
-pub under : {s : List ℕ} {name key : Name} {r : Entry} → name ≡ key → Survives s name r → Survives s key r
+pub under : {m : List Decl} {s : List ℕ} {name key : Name} {r : Entry} → name ≡ key → Survives m s name r → Survives m s key r
 under e h = rw (← e) h
 
--- ---- on one side only
+-- ---- on one side only, where n stand on the other
 
-other-stands : {E C : Type 0} (c : E → List C) (o : Option E) (f : E) → unmatched c o (some f) ≡ []
-unfolding unmatched
-other-stands c none f = refl
-other-stands c (some e) f = refl
+module _ {old new : List ℕ} {side : Side} {at : ℕ} (p : DeclOn old new side at) {n : List Decl} {q : Entry}
+    (k : Survives n (off side old new) (declIn (on side old new) at .name) q) where
+  pub stands-off : {j : ℕ} → q ≡ Body j → unmatchedIn old new n side at ≡ []
+  unfolding unmatchedIn unmatched
+  stands-off e = rw (survives-body _ _ k e)
 
-module _ (old new : List ℕ) (side : Side) {name : Name} {q : Entry} (k : Survives (off side old new) name q) where
-  pub stands-off : {j : ℕ} → q ≡ Body j → unmatchedDecl old new side name ≡ []
-  unfolding unmatchedDecl
-  stands-off e = rw (survives-body _ name k e) (other-stands _ _ _)
+  module _ (e : q ≡ Unresolvable) where
+    alone : unmatchedIn old new n side at ≡ lone old new side (declIn (on side old new) at)
+    unfolding unmatchedIn unmatched
+    alone = rw (survives-none _ _ k e)
 
-  module _ {r : Entry} (h : Survives (on side old new) name r) where
-    pub stands-nowhere : r ≡ Unresolvable → unmatchedDecl old new side name ≡ []
-    unfolding unmatchedDecl unmatched
-    stands-nowhere e = rw (survives-none _ name h e)
+    pub removed : side ≡ Side.Old → Reports old new (declRemoved at) true (unmatchedIn old new n side at)
+    removed o = rw (alone, o) (decl-removed old new (p .accepted .0) (p .accepted .1) (reading old new) at (rw o at (p .here)))
 
-    module _ (a : BothAccepted old new) (e : q ≡ Unresolvable) {i : ℕ} (f : r ≡ Body i) where
-      alone : unmatchedDecl old new side name ≡ lone old new side (declIn (on side old new) i)
-      unfolding unmatchedDecl unmatched
-      alone = rw (survives-body _ name h f, survives-none _ name k e)
+    pub added : side ≡ Side.New → Reports old new (declAdded at) true (unmatchedIn old new n side at)
+    added o = rw (alone, o) (decl-added old new (p .accepted .0) (p .accepted .1) (reading old new) at (rw o at (p .here)))
 
-      pub removed : side ≡ Side.Old → Reports old new (declRemoved i) true (unmatchedDecl old new side name)
-      removed o = rw (alone, o) (decl-removed old new (a .0) (a .1) (reading old new) i (rw o at (survives-here _ name h f)))
+-- ---- on both, where n stand in the new image
 
-      pub added : side ≡ Side.New → Reports old new (declAdded i) true (unmatchedDecl old new side name)
-      added o = rw (alone, o) (decl-added old new (a .0) (a .1) (reading old new) i (rw o at (survives-here _ name h f)))
+module _ {old new : List ℕ} {i : ℕ} (p : DeclOn old new Side.Old i) {n : List Decl} {q : Entry} (k : Survives n new (declIn old i .name) q) where
+  pub new-none : q ≡ Unresolvable → keptIn old new n i ≡ []
+  unfolding keptIn matched
+  new-none e = rw (survives-none new _ k e)
 
--- ---- on both
+  module _ {j : ℕ} (e : q ≡ Body j) where
+    both-kept : keptIn old new n i ≡ compareDecls (reading old new) (declIn old i) (declIn new j)
+    unfolding keptIn matched declRules
+    both-kept = rw (survives-body new _ k e)
 
-module _ (old new : List ℕ) {name : Name} {r : Entry} (h : Survives old name r) where
-  pub old-none : r ≡ Unresolvable → keptDecl old new name ≡ []
-  unfolding keptDecl matched
-  old-none e = rw (survives-none old name h e)
+    module _ {m : Mode} {d : List ℕ} {t : Tally} where
+      -- what comparing them asks, and gives
+      pub both-asks : Ready m d t (keptIn old new n i)
+          → DeclPair old new i j × Ready m d t (compareDecls (reading old new) (declIn old i) (declIn new j))
+      both-asks w = rw (← both-kept) (record { accepted = p .accepted; here = (p .here, survives-here new _ k e) }, w)
 
-  module _ {q : Entry} (k : Survives new name q) {i : ℕ} (e : r ≡ Body i) where
-    pub new-none : q ≡ Unresolvable → keptDecl old new name ≡ []
-    unfolding keptDecl matched
-    new-none f = rw (survives-body old name h e, survives-none new name k f)
-
-    module _ {j : ℕ} (f : q ≡ Body j) where
-      both-kept : keptDecl old new name ≡ compareDecls (reading old new) (declIn old i) (declIn new j)
-      unfolding keptDecl matched declRules
-      both-kept = rw (survives-body old name h e, survives-body new name k f)
-
-      module _ {m : Mode} {d : List ℕ} {t : Tally} where
-        -- what comparing them asks, and gives
-        pub both-asks : BothAccepted old new → Ready m d t (keptDecl old new name)
-            → DeclPair old new i j × Ready m d t (compareDecls (reading old new) (declIn old i) (declIn new j))
-        both-asks a w = rw (← both-kept) (record { accepted = a; here = (survives-here old name h e, survives-here new name k f) }, w)
-
-        pub both-ran : {u : Tally} {d′ : List ℕ}
-            → Ran m d t (compareDecls (reading old new) (declIn old i) (declIn new j)) u d′
-            → Ran m d t (keptDecl old new name) u d′
-        both-ran w = rw both-kept w
+      pub both-ran : {u : Tally} {d′ : List ℕ}
+          → Ran m d t (compareDecls (reading old new) (declIn old i) (declIn new j)) u d′
+          → Ran m d t (keptIn old new n i) u d′
+      both-ran w = rw both-kept w

@@ -1,18 +1,21 @@
 -- The declarations of two images, compared by name: what is reported of them, part by part. Assumes nothing.
-use mathlib.Core.Bool.{Bool, _&&_}
+use mathlib.Core.Bool.{Bool, false, _&&_}
+use mathlib.Core.Option.{Option, none, some}
 use mathlib.Core.List.{List}
 use Prim.Native.Nat.{ℕ}
 use Rattle.maps.specs.Orders.{before}
 use Rattle.maps.specs.Keyed.{lookup}
 use Rattle.maps.specs.Compare.{unmatched, matched, between}
 use Rattle.image.specs.Schema.{Name, Decl}
-use Rattle.parts.specs.Promise.{schemaOf}
+use Rattle.parts.specs.Promise.{schemaOf, DeclHere, declIn}
+use Rattle.parts.specs.declared.Entry.{Entry}
 use Rattle.rules.specs.Survivors.{nameOf, declarations, viewOf}
 use Rattle.rules.specs.Types.{sameType}
 use Rattle.rules.specs.Changes.{Change}
 use Rattle.rules.specs.Clauses.{declRules, changes}
-use Rattle.rules.specs.Verdict.{isAlias, aliasPair}
-use Rattle.items.specs.Pairs.{reading}
+use Rattle.rules.specs.Verdict.{alias, isAlias, aliasPair}
+use Rattle.survivors.specs.Answers.{Survives, Follows}
+use Rattle.items.specs.Pairs.{reading, BothAccepted}
 use Rattle.items.specs.Sides.{on, off}
 use Rattle.items.specs.declared.Side.{Side}
 use Rattle.items.specs.declared.Side.the-variants as side
@@ -25,6 +28,14 @@ module _ (old new : List ℕ) where
   abbrev pub standingOff : Side → List Decl
   standingOff s = declarations (schemaOf (off s old new))
 
+  -- ---- what the searches answer: the declaration that comes next on a side, and what stands on the other under the name of one
+
+  abbrev pub NextOn : Side → Entry → Entry → Type 0
+  NextOn s after r = Follows (standing s) (on s old new) after r
+
+  abbrev pub NamesakeOff : Side → ℕ → Entry → Type 0
+  NamesakeOff s at r = Survives (standingOff s) (off s old new) (declIn (on s old new) at .name) r
+
   -- ---- what stands on one side only is gone or came
 
   abbrev pub lone : Side → Decl → List Change
@@ -34,18 +45,24 @@ module _ (old new : List ℕ) where
   unfoldable pub unmatchedDecls : Side → List Change
   unmatchedDecls s = between nameOf before (unmatched (lone s)) (standing s) (standingOff s)
 
-  -- of one name
-  unfoldable pub unmatchedDecl : Side → Name → List Change
-  unmatchedDecl s name = unmatched (lone s) (lookup nameOf before name (standing s)) (lookup nameOf before name (standingOff s))
+  -- of the one at a place, where n stand on the other side
+  unfoldable pub unmatchedIn : List Decl → Side → ℕ → List Change
+  unmatchedIn n s at = unmatched (lone s) (some (declIn (on s old new) at)) (lookup nameOf before (declIn (on s old new) at .name) n)
+
+  abbrev pub unmatchedDecl : Side → ℕ → List Change
+  unmatchedDecl s at = unmatchedIn (standingOff s) s at
 
   -- ---- what stands on both was kept
 
   unfoldable pub keptDecls : List Change
   keptDecls = between nameOf before (matched (declRules (reading old new) .kept)) (standing side.Old) (standing side.New)
 
-  unfoldable pub keptDecl : Name → List Change
-  keptDecl name =
-      matched (declRules (reading old new) .kept) (lookup nameOf before name (standing side.Old)) (lookup nameOf before name (standing side.New))
+  -- of the old one at a place, where n stand in the new image
+  unfoldable pub keptIn : List Decl → ℕ → List Change
+  keptIn n i = matched (declRules (reading old new) .kept) (some (declIn old i)) (lookup nameOf before (declIn old i .name) n)
+
+  abbrev pub keptDecl : ℕ → List Change
+  keptDecl i = keptIn (standing side.New) i
 
   -- ---- all clauses
 
@@ -60,3 +77,13 @@ module _ (old new : List ℕ) where
   -- of one name
   unfoldable pub aliasesAt : Name → Bool
   aliasesAt name = isAlias (lookup nameOf before name (standing side.Old)) && isAlias (lookup nameOf before name (standing side.New))
+
+  -- of what an id of the old image stands for: it is one too
+  unfoldable pub aliasesOf : Option Decl → Bool
+  aliasesOf none = false
+  aliasesOf (some d) = alias d && aliasesAt (d .name)
+
+-- both images are accepted, and at a place stands a declaration of a side
+pub record DeclOn (old new : List ℕ) (s : Side) (at : ℕ) : Type 0 where
+  pub accepted : BothAccepted old new
+  pub here : DeclHere (on s old new) at

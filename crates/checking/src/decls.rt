@@ -1,4 +1,6 @@
 // 2. and 3. Declarations, by rising name: removed, added, kept.
+use crate::sides::namesake_off;
+use crate::sides::next_on;
 use clauses::enums::compare_enums;
 use clauses::flags::compare_flags;
 use clauses::messages::compare_messages;
@@ -11,18 +13,14 @@ use lines::sites::decl_removed;
 use lines::sites::kind_changed;
 use parts::Entry;
 use parts::decls::decl_kind;
-use parts::decls::decl_name;
-use survivors::decls::next_decl;
-use survivors::decls::survivor;
 use tally::Tally;
 use text::Mode;
-ghost use Rattle.parts.specs.Promise.{DeclHere, declIn, EntryHere};
+ghost use Rattle.parts.specs.Promise.{declIn};
 ghost use Rattle.rules.specs.Clauses.{compareKind, compareDecls};
-ghost use Rattle.survivors.specs.Answers.{Survives, Follows};
 ghost use Rattle.tally.specs.Reporting.{Ready, Ran};
 ghost use Rattle.items.specs.Pairs.{reading, BothAccepted, DeclPair, KindPair};
-ghost use Rattle.items.specs.Sides.{on, off};
-ghost use Rattle.checking.specs.Decls.{unmatchedDecls, unmatchedDecl, keptDecls, keptDecl};
+ghost use Rattle.items.specs.declared.Side.{Side};
+ghost use Rattle.checking.specs.Decls.{DeclOn, unmatchedDecls, unmatchedDecl, keptDecls, keptDecl};
 
 // Two declarations of one kind.
 fn compare_kind(
@@ -69,40 +67,7 @@ fn compare_decls(
     compare_kind(mode, old, new, out, t, kind, i, j)
 }
 
-// The next declaration on a side.
-fn next_on(side: Side, old: &[u8], new: &[u8], after: Entry) -> Entry
-    requires { ⌜ BothAccepted (now old) (now new) × EntryHere (on side (now old) (now new)) after ⌝ }
-    ensures { λ r. ⌜ Follows (on side (now (old .entry)) (now (new .entry))) after r ⌝ }
-{
-    match side {
-        Side::Old => next_decl(old, after),
-        Side::New => next_decl(new, after),
-    }
-}
-
-// The declaration that stands on a side under the name of the one at a place of it.
-fn namesake_on(side: Side, old: &[u8], new: &[u8], at: usize) -> Entry
-    requires { ⌜ BothAccepted (now old) (now new) × DeclHere (on side (now old) (now new)) at ⌝ }
-    ensures { λ r. ⌜ Survives (on side (now (old .entry)) (now (new .entry))) (declIn (on side (now (old .entry)) (now (new .entry))) at .name) r ⌝ }
-{
-    match side {
-        Side::Old => survivor(old, decl_name(old, at)),
-        Side::New => survivor(new, decl_name(new, at)),
-    }
-}
-
-// And on the other side.
-fn namesake_off(side: Side, old: &[u8], new: &[u8], at: usize) -> Entry
-    requires { ⌜ BothAccepted (now old) (now new) × DeclHere (on side (now old) (now new)) at ⌝ }
-    ensures { λ r. ⌜ Survives (off side (now (old .entry)) (now (new .entry))) (declIn (on side (now (old .entry)) (now (new .entry))) at .name) r ⌝ }
-{
-    match side {
-        Side::Old => survivor(new, decl_name(old, at)),
-        Side::New => survivor(old, decl_name(new, at)),
-    }
-}
-
-// One name: a change, if no declaration stands under it on the other side.
+// The declaration at a place of a side: a change, if none stands under its name on the other.
 fn unmatched_decl(
     mode: Mode,
     old: &[u8],
@@ -112,18 +77,15 @@ fn unmatched_decl(
     side: Side,
     at: usize,
 ) -> Tally
-    requires { ⌜ BothAccepted (now old) (now new) × DeclHere (on side (now old) (now new)) at × Ready mode (now out) t (unmatchedDecl (now old) (now new) side (declIn (on side (now old) (now new)) at .name)) ⌝ }
-    ensures { λ r. ⌜ Ran mode (now (out .entry)) t (unmatchedDecl (now (old .entry)) (now (new .entry)) side (declIn (on side (now (old .entry)) (now (new .entry))) at .name)) r (now (out .exit)) ⌝ }
+    requires { ⌜ DeclOn (now old) (now new) side at × Ready mode (now out) t (unmatchedDecl (now old) (now new) side at) ⌝ }
+    ensures { λ r. ⌜ Ran mode (now (out .entry)) t (unmatchedDecl (now (old .entry)) (now (new .entry)) side at) r (now (out .exit)) ⌝ }
 {
     let Entry::Unresolvable = namesake_off(side, old, new, at) else {
         return t;
     };
-    let Entry::Body(own) = namesake_on(side, old, new, at) else {
-        return t;
-    };
     match side {
-        Side::Old => emit(mode, old, new, out, t, decl_removed(own)),
-        Side::New => emit(mode, old, new, out, t, decl_added(own)),
+        Side::Old => emit(mode, old, new, out, t, decl_removed(at)),
+        Side::New => emit(mode, old, new, out, t, decl_added(at)),
     }
 }
 
@@ -150,16 +112,12 @@ pub fn unmatched_decls(
     }
 }
 
-// One name of the old declarations: compared, if a new one stands under it too.
-fn kept_decl(mode: Mode, old: &[u8], new: &[u8], out: &mut [u8], t: Tally, at: usize) -> Tally
-    requires { ⌜ BothAccepted (now old) (now new) × DeclHere (now old) at × Ready mode (now out) t (keptDecl (now old) (now new) (declIn (now old) at .name)) ⌝ }
-    ensures { λ r. ⌜ Ran mode (now (out .entry)) t (keptDecl (now (old .entry)) (now (new .entry)) (declIn (now (old .entry)) at .name)) r (now (out .exit)) ⌝ }
+// The old declaration at a place: compared, if a new one stands under its name too.
+fn kept_decl(mode: Mode, old: &[u8], new: &[u8], out: &mut [u8], t: Tally, i: usize) -> Tally
+    requires { ⌜ DeclOn (now old) (now new) Side.Old i × Ready mode (now out) t (keptDecl (now old) (now new) i) ⌝ }
+    ensures { λ r. ⌜ Ran mode (now (out .entry)) t (keptDecl (now (old .entry)) (now (new .entry)) i) r (now (out .exit)) ⌝ }
 {
-    let name = decl_name(old, at);
-    let Entry::Body(i) = survivor(old, name) else {
-        return t;
-    };
-    let Entry::Body(j) = survivor(new, name) else {
+    let Entry::Body(j) = namesake_off(Side::Old, old, new, i) else {
         return t;
     };
     compare_decls(mode, old, new, out, t, i, j)
@@ -172,7 +130,7 @@ pub fn kept_decls(mode: Mode, old: &[u8], new: &[u8], out: &mut [u8], t: Tally) 
     let mut tally = t;
     let mut after = Entry::Unresolvable;
     loop {
-        let Entry::Body(at) = next_decl(old, after) else {
+        let Entry::Body(at) = next_on(Side::Old, old, new, after) else {
             return tally;
         };
         tally = kept_decl(mode, old, new, out, tally, at);

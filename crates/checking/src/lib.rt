@@ -1,6 +1,7 @@
 // All clauses over two accepted images, in the order of the report; and refusal 11.
 pub mod aliases;
 mod decls;
+mod sides;
 
 use crate::decls::kept_decls;
 use crate::decls::unmatched_decls;

@@ -17,7 +17,6 @@ use Rattle.rules.specs.Types.{sameType}
 use Rattle.rules.specs.Survivors.{variantOrdinal, variantMap}
 use Rattle.rules.specs.Changes.{Change, quoted}
 use Rattle.rules.specs.Clauses.{compareTypes, fieldText, compareFieldNames, sameEncoding, compareEncodings, compareDeprecated, compareFields, fieldRules, compareFieldSets, compareMessages, enumRules, compareNonExhaustive, compareEnums, flagsRules, compareFlags, unionRules, compareUnions, compareNewtypes}
-use Rattle.survivors.specs.Answers.{ItemSurvives}
 use Rattle.survivors.specs.Runs.{itemIn, itemOrdinal, itemMap, itemsOf, Holds}
 use Rattle.survivors.specs.declared.Found.{Found}
 use Rattle.survivors.specs.declared.Found.the-variants.{At}
@@ -26,11 +25,11 @@ use Rattle.lines.specs.Clauses.{fieldRenamed, fieldTypeChanged, fieldEncodingCh
 use Rattle.details.specs.declared.Scope.{Scope}
 use Rattle.lines.proofs.Clauses.{Reports, field-renamed, field-type-changed, field-encoding-changed, field-deprecated, decl-deprecated, non-exhaustive-changed, newtype-changed}
 use Rattle.items.specs.Pairs.{reading, BothAccepted, DeclPair, KindPair, ofPair, FieldPair}
-use Rattle.items.specs.Items.{OwnerHere, ItemsIn, fieldItems, unionItems, shape, rules, keptItems, keptAt, itemChanges}
+use Rattle.items.specs.Items.{OwnerHere, ItemsIn, ItemIn, FoundOff, fieldItems, unionItems, shape, rules, keptItems, keptAt, itemChanges}
 use Rattle.items.specs.declared.Side.{Side}
 use Rattle.items.specs.declared.Owner.{Owner}
 use Rattle.items.specs.declared.Items.{Items}
-use Rattle.items.proofs.Standing.{item-here, kept-item}
+use Rattle.items.proofs.Standing.{kept-item, new-here}
 use Rattle.clauses.proofs.Tests.{typesDiffer}
 use Rattle.clauses.proofs.Sets.{loneParts, lone-parts, kept-silent}
 
@@ -100,11 +99,15 @@ over x b o h k = record {
 pub record Kept (old new : List ℕ) (x : Items) (k i j : ℕ) : Type 0 where
   pub inside : ItemsIn old new x
   pub here : ItemHere (shape old new x) old i × ItemHere (shape old new x) new j
-  pub are : keptAt old new x k ≡ rules old new x .kept (itemIn (shape old new x) old i) (itemIn (shape old new x) new j)
+  pub are : keptAt old new x k i ≡ rules old new x .kept (itemIn (shape old new x) old i) (itemIn (shape old new x) new j)
 
-pub both-found : {old new : List ℕ} {x : Items} {k : ℕ} {o u : Found} {i j : ℕ} → ItemsIn old new x
-    → ItemSurvives (shape old new x) old (x .old) k o → o ≡ At i → ItemSurvives (shape old new x) new (x .new) k u → u ≡ At j → Kept old new x k i j
-both-found {k = k} p s e t f = record { inside = p; here = (item-here p Side.Old k s e, item-here p Side.New k t f); are = kept-item p k s t e f }
+pub both-stand : {old new : List ℕ} {x : Items} {k i j : ℕ} {o : Found} → ItemIn old new x Side.Old i → FoundOff old new x Side.Old k o → o ≡ At j
+    → Kept old new x k i j
+both-stand {k = k} {i = i} p f e = record {
+  inside = p .items;
+  here = (p .here, new-here (p .items) k i f e);
+  are = kept-item (p .items) k i f e;
+}
 
 module _ {old new : List ℕ} {a b : Run} {k i j : ℕ} where
   module _ {c : Scope} (p : Kept old new (fieldItems c a b) k i j) where
@@ -112,12 +115,12 @@ module _ {old new : List ℕ} {a b : Run} {k i j : ℕ} where
     unfolding OwnerHere
     field-pair = record { accepted = p .inside .accepted; scope = p .inside .owner; here = p .here }
 
-    pub field-kept : keptAt old new (fieldItems c a b) k ≡ compareFields (reading old new) (declarationOf old new c) (fieldIn old i) (fieldIn new j)
+    pub field-kept : keptAt old new (fieldItems c a b) k i ≡ compareFields (reading old new) (declarationOf old new c) (fieldIn old i) (fieldIn new j)
     unfolding fieldRules
     field-kept = p .are
 
   pub variant-kept : {d : ℕ} {m n : Run} → Kept old new (unionItems d a b) k i j → m ≡ variantItems old i → n ≡ variantItems new j
-      → Over old new (fieldItems (Scope.Variant d i) m n) (keptAt old new (unionItems d a b) k)
+      → Over old new (fieldItems (Scope.Variant d i) m n) (keptAt old new (unionItems d a b) k i)
   unfolding OwnerHere ScopeHere declarationOf compareFieldSets unionRules
   variant-kept {d} {m} {n} p q r =
       let w = over (fieldItems (Scope.Variant d i) m n) {xs = variantIn old i .fields} {ys = variantIn new j .fields}

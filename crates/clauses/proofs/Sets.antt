@@ -13,11 +13,13 @@ use Rattle.tally.specs.Reporting.{Ready, Ran}
 use Rattle.tally.specs.declared.Tally.{Tally}
 use Rattle.tally.proofs.Running.{Owed}
 use Rattle.survivors.specs.declared.Ordinal.{Ordinal}
-use Rattle.survivors.specs.declared.Ordinal.the-variants.{Is, Nothing}
-use Rattle.items.specs.Items.{ItemsIn, rules, unmatchedItems, keptItems, keptAt, itemChanges}
+use Rattle.survivors.specs.declared.Ordinal.the-variants as ordinal
+use Rattle.survivors.specs.declared.Next.{Next}
+use Rattle.survivors.specs.declared.Next.the-variants as next
+use Rattle.items.specs.Items.{ItemsIn, ItemIn, NextOn, rules, unmatchedItems, keptItems, keptAt, itemChanges}
 use Rattle.items.specs.declared.Side.{Side}
 use Rattle.items.specs.declared.Items.{Items}
-use Rattle.items.proofs.Walks.{walkRest, walkLeft, NextOn, kept-all, kept-at, walk-less, walk-start, walk-turn, walk-done}
+use Rattle.items.proofs.Walks.{walkRest, walkLeft, kept-all, kept-at, walk-less, walk-met, walk-start, walk-turn, walk-done}
 
 -- ---- part by part
 
@@ -59,17 +61,21 @@ abbrev pub leftKept : List ℕ → List ℕ → Items → Ordinal → ℕ
 leftKept old new x after = walkLeft old new x Side.Old after
 
 module _ {old new : List ℕ} {x : Items} (p : ItemsIn old new x) where
-  pub kept-less : (after : Ordinal) {r : Ordinal} → NextOn old new x Side.Old after r → {k : ℕ} → r ≡ Is k
-      → leftKept old new x (Is k) < leftKept old new x after
-  kept-less after a e = walk-less p Side.Old after a e
+  module _ (after : Ordinal) {r : Next} (a : NextOn old new x Side.Old after r) {k i : ℕ} (e : r ≡ next.Is k i) where
+    pub kept-less : leftKept old new x (ordinal.Is k) < leftKept old new x after
+    kept-less = walk-less p Side.Old after a e
+
+    -- the old item that is met
+    pub kept-met : ItemIn old new x Side.Old i
+    kept-met = walk-met p Side.Old after a e
 
   module _ {m : Mode} {d : List ℕ} {t : Tally} where
-    pub kept-start : Ready m d t (keptItems old new x) → Owed m d t (keptItems old new x) t d (restKept old new x Nothing ∷ [])
+    pub kept-start : Ready m d t (keptItems old new x) → Owed m d t (keptItems old new x) t d (restKept old new x ordinal.Nothing ∷ [])
     kept-start q = walk-start p Side.Old (matched (rules old new x .kept)) (kept-all old new x) q
 
-    module _ {all : List Change} {t′ : Tally} {d′ : List ℕ} (after : Ordinal) (w : Owed m d t all t′ d′ (restKept old new x after ∷ [])) {r : Ordinal} (a : NextOn old new x Side.Old after r) where
-      pub kept-turn : {k : ℕ} → r ≡ Is k → Owed m d t all t′ d′ (keptAt old new x k ∷ restKept old new x (Is k) ∷ [])
-      kept-turn {k} e = walk-turn p Side.Old (matched (rules old new x .kept)) after w a e (kept-at old new x k)
+    module _ {all : List Change} {t′ : Tally} {d′ : List ℕ} (after : Ordinal) (w : Owed m d t all t′ d′ (restKept old new x after ∷ [])) {r : Next} (a : NextOn old new x Side.Old after r) where
+      pub kept-turn : {k i : ℕ} → r ≡ next.Is k i → Owed m d t all t′ d′ (keptAt old new x k i ∷ restKept old new x (ordinal.Is k) ∷ [])
+      kept-turn {k} {i} e = walk-turn p Side.Old (matched (rules old new x .kept)) after w a e (kept-at old new x k i)
 
-      pub kept-done : r ≡ Nothing → Ran m d t all t′ d′
+      pub kept-done : r ≡ next.Nothing → Ran m d t all t′ d′
       kept-done e = walk-done p Side.Old (matched (rules old new x .kept)) after w a e

@@ -6,6 +6,8 @@ use details::Scope;
 use items::Items;
 use items::Owner;
 use items::Side;
+use items::sides::found_off;
+use items::sides::next_on;
 use items::walk::unmatched_items;
 use lines::sites::field_deprecated;
 use lines::sites::field_encoding_changed;
@@ -18,11 +20,9 @@ use members::fields::field_type;
 use members::items::item_name;
 use parts::Limit;
 use parts::Run;
-use parts::Shape;
 use survivors::Found;
+use survivors::Next;
 use survivors::Ordinal;
-use survivors::items::next_item;
-use survivors::items::survivor_item;
 use tally::Tally;
 use text::Mode;
 use types::names::same_name;
@@ -36,7 +36,8 @@ ghost use Rattle.rules.specs.Clauses.{sameEncoding, compareFields};
 ghost use Rattle.tally.specs.Reporting.{Ready, Ran};
 ghost use Rattle.details.specs.Details.{declarationOf};
 ghost use Rattle.items.specs.Pairs.{reading, FieldPair};
-ghost use Rattle.items.specs.Items.{ItemsIn, fieldItems, keptItems, keptAt, itemChanges};
+ghost use Rattle.items.specs.declared.Side.{Side};
+ghost use Rattle.items.specs.Items.{ItemsIn, ItemIn, fieldItems, keptItems, keptAt, itemChanges};
 
 fn limits_equal(a: Limit, b: Limit) -> bool
     ensures { λ r. ⌜ r ≡ sameOption eqb (limitOf a) (limitOf b) ⌝ }
@@ -97,7 +98,7 @@ fn compare_fields(
     compare_deprecated(mode, old, new, out, t, was, is, field_deprecated(scope, j))
 }
 
-// One ordinal of the old fields: compared, if a new field stands under it too.
+// The old field at a place, under its ordinal: compared, if a new field stands under it too.
 fn kept_field(
     mode: Mode,
     old: &[u8],
@@ -108,14 +109,17 @@ fn kept_field(
     a: Run,
     b: Run,
     ordinal: u32,
+    i: usize,
 ) -> Tally
-    requires { ⌜ ItemsIn (now old) (now new) (fieldItems scope a b) × Ready mode (now out) t (keptAt (now old) (now new) (fieldItems scope a b) ordinal) ⌝ }
-    ensures { λ r. ⌜ Ran mode (now (out .entry)) t (keptAt (now (old .entry)) (now (new .entry)) (fieldItems scope a b) ordinal) r (now (out .exit)) ⌝ }
+    requires { ⌜ ItemIn (now old) (now new) (fieldItems scope a b) Side.Old i × Ready mode (now out) t (keptAt (now old) (now new) (fieldItems scope a b) ordinal i) ⌝ }
+    ensures { λ r. ⌜ Ran mode (now (out .entry)) t (keptAt (now (old .entry)) (now (new .entry)) (fieldItems scope a b) ordinal i) r (now (out .exit)) ⌝ }
 {
-    let Found::At(i) = survivor_item(old, Shape::Field, a, ordinal) else {
-        return t;
+    let items = Items {
+        of: Owner::Fields(scope),
+        old: a,
+        new: b,
     };
-    let Found::At(j) = survivor_item(new, Shape::Field, b, ordinal) else {
+    let Found::At(j) = found_off(Side::Old, old, new, items, ordinal) else {
         return t;
     };
     compare_fields(mode, old, new, out, t, scope, i, j)
@@ -134,13 +138,18 @@ fn kept_fields(
     requires { ⌜ ItemsIn (now old) (now new) (fieldItems scope a b) × Ready mode (now out) t (keptItems (now old) (now new) (fieldItems scope a b)) ⌝ }
     ensures { λ r. ⌜ Ran mode (now (out .entry)) t (keptItems (now (old .entry)) (now (new .entry)) (fieldItems scope a b)) r (now (out .exit)) ⌝ }
 {
+    let items = Items {
+        of: Owner::Fields(scope),
+        old: a,
+        new: b,
+    };
     let mut tally = t;
     let mut after = Ordinal::Nothing;
     loop {
-        let Ordinal::Is(ordinal) = next_item(old, Shape::Field, a, after) else {
+        let Next::Is(ordinal, i) = next_on(Side::Old, old, new, items, after) else {
             return tally;
         };
-        tally = kept_field(mode, old, new, out, tally, scope, a, b, ordinal);
+        tally = kept_field(mode, old, new, out, tally, scope, a, b, ordinal, i);
         after = Ordinal::Is(ordinal);
     }
 }

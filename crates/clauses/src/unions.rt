@@ -4,23 +4,24 @@ use details::Scope;
 use items::Items;
 use items::Owner;
 use items::Side;
+use items::sides::found_off;
+use items::sides::next_on;
 use items::walk::unmatched_items;
 use members::items::decl_items;
 use members::items::variant_items;
 use parts::Run;
-use parts::Shape;
 use survivors::Found;
+use survivors::Next;
 use survivors::Ordinal;
-use survivors::items::next_item;
-use survivors::items::survivor_item;
 use tally::Tally;
 use text::Mode;
 ghost use Rattle.rules.specs.Clauses.{compareUnions};
 ghost use Rattle.tally.specs.Reporting.{Ready, Ran};
 ghost use Rattle.items.specs.Pairs.{KindPair, ofPair};
-ghost use Rattle.items.specs.Items.{ItemsIn, unionItems, keptItems, keptAt};
+ghost use Rattle.items.specs.declared.Side.{Side};
+ghost use Rattle.items.specs.Items.{ItemsIn, ItemIn, unionItems, keptItems, keptAt};
 
-// One ordinal of the old variants: their fields are compared, if a new variant stands under it too.
+// The old variant at a place, under its ordinal: the fields are compared, if a new variant stands under it too.
 fn kept_variant(
     mode: Mode,
     old: &[u8],
@@ -31,14 +32,17 @@ fn kept_variant(
     a: Run,
     b: Run,
     ordinal: u32,
+    i: usize,
 ) -> Tally
-    requires { ⌜ ItemsIn (now old) (now new) (unionItems decl a b) × Ready mode (now out) t (keptAt (now old) (now new) (unionItems decl a b) ordinal) ⌝ }
-    ensures { λ r. ⌜ Ran mode (now (out .entry)) t (keptAt (now (old .entry)) (now (new .entry)) (unionItems decl a b) ordinal) r (now (out .exit)) ⌝ }
+    requires { ⌜ ItemIn (now old) (now new) (unionItems decl a b) Side.Old i × Ready mode (now out) t (keptAt (now old) (now new) (unionItems decl a b) ordinal i) ⌝ }
+    ensures { λ r. ⌜ Ran mode (now (out .entry)) t (keptAt (now (old .entry)) (now (new .entry)) (unionItems decl a b) ordinal i) r (now (out .exit)) ⌝ }
 {
-    let Found::At(i) = survivor_item(old, Shape::Variant, a, ordinal) else {
-        return t;
+    let items = Items {
+        of: Owner::Union(decl),
+        old: a,
+        new: b,
     };
-    let Found::At(j) = survivor_item(new, Shape::Variant, b, ordinal) else {
+    let Found::At(j) = found_off(Side::Old, old, new, items, ordinal) else {
         return t;
     };
     let m = variant_items(old, i);
@@ -59,13 +63,18 @@ fn kept_variants(
     requires { ⌜ ItemsIn (now old) (now new) (unionItems decl a b) × Ready mode (now out) t (keptItems (now old) (now new) (unionItems decl a b)) ⌝ }
     ensures { λ r. ⌜ Ran mode (now (out .entry)) t (keptItems (now (old .entry)) (now (new .entry)) (unionItems decl a b)) r (now (out .exit)) ⌝ }
 {
+    let items = Items {
+        of: Owner::Union(decl),
+        old: a,
+        new: b,
+    };
     let mut tally = t;
     let mut after = Ordinal::Nothing;
     loop {
-        let Ordinal::Is(ordinal) = next_item(old, Shape::Variant, a, after) else {
+        let Next::Is(ordinal, i) = next_on(Side::Old, old, new, items, after) else {
             return tally;
         };
-        tally = kept_variant(mode, old, new, out, tally, decl, a, b, ordinal);
+        tally = kept_variant(mode, old, new, out, tally, decl, a, b, ordinal, i);
         after = Ordinal::Is(ordinal);
     }
 }

@@ -1,6 +1,6 @@
 -- What stands on one side only is reported by the change of a site, whoever owns it. Assumes nothing.
 use mathlib.Core.Path.{_≡_}
-use mathlib.Core.Bool.{true}
+use mathlib.Core.Bool.{Bool, true, false}
 use mathlib.Core.List.{List}
 use Prim.Native.Nat.{ℕ}
 use Rattle.parts.specs.Promise.{ItemHere, DeclHere, bareIn, variantIn, declIn}
@@ -8,19 +8,16 @@ use Rattle.rules.specs.Changes.{level, minor}
 use Rattle.rules.specs.Clauses.{enumBump, enumRules, unionRules}
 use Rattle.lines.specs.declared.Site.{Site}
 use Rattle.lines.proofs.Clauses.{Reports, field-removed, field-added, variant-removed, variant-added, bit-removed, bit-added, bare-named, variant-named}
-use Rattle.survivors.specs.Answers.{ItemSurvives}
 use Rattle.survivors.specs.Runs.{itemIn}
-use Rattle.survivors.specs.declared.Found.{Found}
-use Rattle.survivors.specs.declared.Found.the-variants.{At, Nothing}
 use Rattle.items.specs.Pairs.{reading, BothAccepted}
-use Rattle.items.specs.Sides.{on, off}
-use Rattle.items.specs.Items.{shapeOf, rulesOf, OwnerHere, goneSite, cameSite, shape, lone, unmatchedAt, ItemsIn}
+use Rattle.items.specs.Sides.{on}
+use Rattle.items.specs.Items.{shapeOf, rulesOf, OwnerHere, goneSite, cameSite, shape, hasOff, lone, unmatchedAt, ItemsIn, ItemIn}
 use Rattle.items.specs.declared.Side.{Side}
 use Rattle.items.specs.declared.Side.the-variants as side
 use Rattle.items.specs.declared.Owner.{Owner}
 use Rattle.items.specs.declared.Owner.the-variants as owner
 use Rattle.items.specs.declared.Items.{Items}
-use Rattle.items.proofs.Standing.{item-here, unmatched-item}
+use Rattle.items.proofs.Standing.{unmatched-alone}
 
 module _ (old new : List ℕ) (b : BothAccepted old new) where
   gone-reports : (o : Owner) → OwnerHere old new o → (at : ℕ) → ItemHere (shapeOf o) old at
@@ -55,12 +52,10 @@ module _ {old new : List ℕ} {x : Items} (p : ItemsIn old new x) where
   lone-reports side.Old at i = gone-reports old new (p .accepted) (x .of) (p .owner) at i
   lone-reports side.New at i = came-reports old new (p .accepted) (x .of) (p .owner) at i
 
-  -- an item that one side has under an ordinal, and the other has not
-  pub unmatched-reports : (s : Side) (k : ℕ)
-      → {u : Found} → ItemSurvives (shape old new x) (off s old new) (off s (x .old) (x .new)) k u → u ≡ Nothing
-      → {o : Found} → ItemSurvives (shape old new x) (on s old new) (on s (x .old) (x .new)) k o → {at : ℕ} → o ≡ At at
-      → Reports old new (siteOn s new (x .of) at) true (unmatchedAt old new x s k)
-  unmatched-reports s k b f a {at} e = rw (unmatched-item p s k a e b f) (lone-reports s at (item-here p s k a e))
+-- an item at a place of one side, under an ordinal that the other has not
+pub unmatched-reports : {old new : List ℕ} {x : Items} {s : Side} {at : ℕ} → ItemIn old new x s at → (k : ℕ) → {t : Bool} → t ≡ hasOff old new x s k → t ≡ false
+    → Reports old new (siteOn s new (x .of) at) true (unmatchedAt old new x s k at)
+unmatched-reports {s = s} {at = at} p k a e = rw (unmatched-alone (p .items) s k at a e) (lone-reports (p .items) s at (p .here))
 
 -- ---- whose items they are
 

@@ -1,15 +1,22 @@
 -- Two runs of numbered items, compared by ordinal: what is reported of them, part by part. Assumes nothing.
+use mathlib.Core.Bool.{Bool}
+use mathlib.Core.Option.{some}
 use mathlib.Core.List.{List}
 use Prim.Native.Nat.{ℕ}
 use lib.Dec.{ltb}
 use Rattle.maps.specs.Keyed.{lookup}
+use Rattle.maps.specs.Walk.{isSome}
 use Rattle.maps.specs.Compare.{Rules, unmatched, matched, between, compare}
-use Rattle.parts.specs.Promise.{DeclHere, declIn, ItemOf, ItemsHere}
+use Rattle.parts.specs.Promise.{DeclHere, declIn, ItemOf, ItemHere, ItemsHere, ordinalIn}
 use Rattle.parts.specs.declared.Shape.{Shape}
 use Rattle.parts.specs.declared.Run.{Run}
 use Rattle.rules.specs.Changes.{Change, level}
 use Rattle.rules.specs.Clauses.{fieldRules, enumBump, enumRules, flagsRules, unionRules}
-use Rattle.survivors.specs.Runs.{itemOrdinal, itemMap, itemsOf}
+use Rattle.survivors.specs.Answers.{placeMap, ItemSurvives, ItemFollows}
+use Rattle.survivors.specs.Runs.{itemIn, itemOrdinal, itemMap, itemsOf}
+use Rattle.survivors.specs.declared.Found.{Found}
+use Rattle.survivors.specs.declared.Ordinal.{Ordinal}
+use Rattle.survivors.specs.declared.Next.{Next}
 use Rattle.details.specs.Details.{declarationOf, ScopeHere}
 use Rattle.lines.specs.Clauses.{fieldRemoved, fieldAdded, variantRemoved, variantAdded, bitRemoved, bitAdded}
 use Rattle.details.specs.declared.Scope.{Scope}
@@ -69,6 +76,17 @@ module _ (old new : List ℕ) (x : Items) where
   abbrev pub standingOff : Side → List (ItemOf shape)
   standingOff s = itemMap shape (itemsOf shape (off s old new) (off s (x .old) (x .new)))
 
+  -- ---- what the searches answer: the item that comes next on a side, and what stands under an ordinal on the other
+
+  abbrev pub NextOn : Side → Ordinal → Next → Type 0
+  NextOn s after r = ItemFollows shape (on s old new) (on s (x .old) (x .new)) after r
+
+  abbrev pub hasOff : Side → ℕ → Bool
+  hasOff s k = isSome (lookup (ordinalIn (off s old new)) ltb k (placeMap shape (off s old new) (off s (x .old) (x .new))))
+
+  abbrev pub FoundOff : Side → ℕ → Found → Type 0
+  FoundOff s k r = ItemSurvives shape (off s old new) (off s (x .old) (x .new)) k r
+
   -- ---- what stands on one side only is gone or came
 
   abbrev pub lone : Side → ItemOf shape → List Change
@@ -78,22 +96,28 @@ module _ (old new : List ℕ) (x : Items) where
   unfoldable pub unmatchedItems : Side → List Change
   unmatchedItems s = between (itemOrdinal shape) ltb (unmatched (lone s)) (standing s) (standingOff s)
 
-  -- of one ordinal
-  unfoldable pub unmatchedAt : Side → ℕ → List Change
-  unmatchedAt s k = unmatched (lone s) (lookup (itemOrdinal shape) ltb k (standing s)) (lookup (itemOrdinal shape) ltb k (standingOff s))
+  -- of one ordinal, under which the item at a place stands
+  unfoldable pub unmatchedAt : Side → ℕ → ℕ → List Change
+  unmatchedAt s k at = unmatched (lone s) (some (itemIn shape (on s old new) at)) (lookup (itemOrdinal shape) ltb k (standingOff s))
 
   -- ---- what stands on both was kept
 
   unfoldable pub keptItems : List Change
   keptItems = between (itemOrdinal shape) ltb (matched (rules .kept)) (standing side.Old) (standing side.New)
 
-  unfoldable pub keptAt : ℕ → List Change
-  keptAt k = matched (rules .kept) (lookup (itemOrdinal shape) ltb k (standing side.Old)) (lookup (itemOrdinal shape) ltb k (standing side.New))
+  -- of one ordinal, under which the old item at a place stands
+  unfoldable pub keptAt : ℕ → ℕ → List Change
+  keptAt k at = matched (rules .kept) (some (itemIn shape old at)) (lookup (itemOrdinal shape) ltb k (standing side.New))
 
   -- ---- all of them
 
   unfoldable pub itemChanges : List Change
   itemChanges = compare (itemOrdinal shape) ltb rules (standing side.Old) (standing side.New)
+
+-- both runs are well formed, and at a place stands an item of a side
+pub record ItemIn (old new : List ℕ) (x : Items) (s : Side) (at : ℕ) : Type 0 where
+  pub items : ItemsIn old new x
+  pub here : ItemHere (shape old new x) (on s old new) at
 
 -- ---- the sites of an item at a place
 

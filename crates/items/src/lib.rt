@@ -1,6 +1,6 @@
 // Two runs of numbered items: what stands on one side only, by rising ordinal, in one walk for fields, variants and bits, removed or
 // added.
-mod sides;
+pub mod sides;
 mod sites;
 pub mod walk;
 

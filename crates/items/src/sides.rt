@@ -1,19 +1,16 @@
-// The searches on a side, or on the other.
+// The searches among the items of a side, or of the other: all that a walk over items asks.
 use crate::Items;
 use crate::Owner;
 use crate::Side;
 use parts::Shape;
 use survivors::Found;
+use survivors::Next;
 use survivors::Ordinal;
+use survivors::items::has_item;
 use survivors::items::next_item;
 use survivors::items::survivor_item;
 ghost use mathlib.Core.Path.{_≡_};
-ghost use lib.Dec.{ltb};
-ghost use Rattle.maps.specs.Walk.{next};
-ghost use Rattle.parts.specs.Promise.{ordinalIn};
-ghost use Rattle.survivors.specs.Answers.{numberOf, placeMap, ItemSurvives};
-ghost use Rattle.items.specs.Sides.{on, off};
-ghost use Rattle.items.specs.Items.{shapeOf, ItemsIn};
+ghost use Rattle.items.specs.Items.{shapeOf, ItemsIn, NextOn, hasOff, FoundOff};
 
 fn shape_of(of: Owner) -> Shape
     ensures { λ r. ⌜ r ≡ shapeOf of ⌝ }
@@ -26,10 +23,10 @@ fn shape_of(of: Owner) -> Shape
     }
 }
 
-// The next ordinal on a side.
-pub fn next_on(side: Side, old: &[u8], new: &[u8], items: Items, after: Ordinal) -> Ordinal
+// The next item on a side.
+pub fn next_on(side: Side, old: &[u8], new: &[u8], items: Items, after: Ordinal) -> Next
     requires { ⌜ ItemsIn (now old) (now new) items ⌝ }
-    ensures { λ r. ⌜ numberOf r ≡ next (ordinalIn (on side (now (old .entry)) (now (new .entry)))) ltb (numberOf after) (placeMap (shapeOf (items .of)) (on side (now (old .entry)) (now (new .entry))) (on side (items .old) (items .new))) ⌝ }
+    ensures { λ r. ⌜ NextOn (now (old .entry)) (now (new .entry)) items side after r ⌝ }
 {
     let of = items.of;
     let shape = shape_of(of);
@@ -39,26 +36,28 @@ pub fn next_on(side: Side, old: &[u8], new: &[u8], items: Items, after: Ordinal)
     }
 }
 
-// The item that stands under an ordinal on a side.
-pub fn found_on(side: Side, old: &[u8], new: &[u8], items: Items, ordinal: u32) -> Found
+// Whether an item stands under an ordinal on the other side.
+pub fn has_off(side: Side, old: &[u8], new: &[u8], items: Items, ordinal: u32) -> bool
     requires { ⌜ ItemsIn (now old) (now new) items ⌝ }
-    ensures { λ r. ⌜ ItemSurvives (shapeOf (items .of)) (on side (now (old .entry)) (now (new .entry))) (on side (items .old) (items .new)) ordinal r ⌝ }
+    ensures { λ r. ⌜ r ≡ hasOff (now (old .entry)) (now (new .entry)) items side ordinal ⌝ }
 {
     let of = items.of;
     let shape = shape_of(of);
     match side {
-        Side::Old => survivor_item(old, shape, items.old, ordinal),
-        Side::New => survivor_item(new, shape, items.new, ordinal),
+        Side::Old => has_item(new, shape, items.new, ordinal),
+        Side::New => has_item(old, shape, items.old, ordinal),
     }
 }
 
-// And on the other side.
+// The item that stands under an ordinal on the other side.
 pub fn found_off(side: Side, old: &[u8], new: &[u8], items: Items, ordinal: u32) -> Found
     requires { ⌜ ItemsIn (now old) (now new) items ⌝ }
-    ensures { λ r. ⌜ ItemSurvives (shapeOf (items .of)) (off side (now (old .entry)) (now (new .entry))) (off side (items .old) (items .new)) ordinal r ⌝ }
+    ensures { λ r. ⌜ FoundOff (now (old .entry)) (now (new .entry)) items side ordinal r ⌝ }
 {
+    let of = items.of;
+    let shape = shape_of(of);
     match side {
-        Side::Old => found_on(Side::New, old, new, items, ordinal),
-        Side::New => found_on(Side::Old, old, new, items, ordinal),
+        Side::Old => survivor_item(new, shape, items.new, ordinal),
+        Side::New => survivor_item(old, shape, items.old, ordinal),
     }
 }

@@ -1,20 +1,19 @@
 // The walk over what stands on one side only.
 use crate::Items;
 use crate::Side;
-use crate::sides::found_off;
-use crate::sides::found_on;
+use crate::sides::has_off;
 use crate::sides::next_on;
 use crate::sites::came_site;
 use crate::sites::gone_site;
 use lines::reporting::emit;
-use survivors::Found;
+use survivors::Next;
 use survivors::Ordinal;
 use tally::Tally;
 use text::Mode;
 ghost use Rattle.tally.specs.Reporting.{Ready, Ran};
-ghost use Rattle.items.specs.Items.{ItemsIn, unmatchedItems, unmatchedAt};
+ghost use Rattle.items.specs.Items.{ItemsIn, ItemIn, unmatchedItems, unmatchedAt};
 
-// One ordinal: a change, if no item stands under it on the other side.
+// The item at a place, under its ordinal: a change, if none stands under it on the other side.
 fn unmatched_item(
     mode: Mode,
     old: &[u8],
@@ -24,16 +23,14 @@ fn unmatched_item(
     side: Side,
     items: Items,
     ordinal: u32,
+    at: usize,
 ) -> Tally
-    requires { ⌜ ItemsIn (now old) (now new) items × Ready mode (now out) t (unmatchedAt (now old) (now new) items side ordinal) ⌝ }
-    ensures { λ r. ⌜ Ran mode (now (out .entry)) t (unmatchedAt (now (old .entry)) (now (new .entry)) items side ordinal) r (now (out .exit)) ⌝ }
+    requires { ⌜ ItemIn (now old) (now new) items side at × Ready mode (now out) t (unmatchedAt (now old) (now new) items side ordinal at) ⌝ }
+    ensures { λ r. ⌜ Ran mode (now (out .entry)) t (unmatchedAt (now (old .entry)) (now (new .entry)) items side ordinal at) r (now (out .exit)) ⌝ }
 {
-    let Found::Nothing = found_off(side, old, new, items, ordinal) else {
+    if has_off(side, old, new, items, ordinal) {
         return t;
-    };
-    let Found::At(at) = found_on(side, old, new, items, ordinal) else {
-        return t;
-    };
+    }
     let of = items.of;
     match side {
         Side::Old => emit(mode, old, new, out, t, gone_site(of, at)),
@@ -57,10 +54,10 @@ pub fn unmatched_items(
     let mut tally = t;
     let mut after = Ordinal::Nothing;
     loop {
-        let Ordinal::Is(ordinal) = next_on(side, old, new, items, after) else {
+        let Next::Is(ordinal, at) = next_on(side, old, new, items, after) else {
             return tally;
         };
-        tally = unmatched_item(mode, old, new, out, tally, side, items, ordinal);
+        tally = unmatched_item(mode, old, new, out, tally, side, items, ordinal, at);
         after = Ordinal::Is(ordinal);
     }
 }

@@ -8,7 +8,7 @@ use mathlib.Core.Option.{Option, some, Option·map}
 use Rattle.maps.specs.Lists.{pass, All}
 use Rattle.maps.specs.Orders.{same}
 use Rattle.maps.specs.Keyed.{insert, survivors, lookup}
-use Rattle.maps.specs.Walk.{next}
+use Rattle.maps.specs.Walk.{past, following}
 use Rattle.maps.proofs.Survivors.{insert-cases, all-insert, all-survivors}
 
 module _ {K E P : Type 0} (key : E → K) (lt : K → K → Bool) (f : P → E) (at : P → K) where
@@ -46,16 +46,22 @@ module _ {K E P : Type 0} (key : E → K) (lt : K → K → Bool) (f : P → E) 
       go true ih = refl
       go false ih = ih
 
-  pub next-map : (b : Option K) (m : List P) → Placed m → next key lt b (map f m) ≡ next at lt b m
-  unfolding next All
-  next-map b [] h = refl
-  next-map b (p ∷ m) h = rw (h .0, next-map b m (h .1))
+  following-map : (b : Option K) (m : List P) → Placed m → following key lt b (map f m) ≡ Option·map f (following at lt b m)
+  unfolding following All
+  following-map b [] h = refl
+  following-map b (p ∷ m) h = rw (h .0) (go (past lt b (at p)) (following-map b m (h .1)))
+    where
+      go : (u : Bool) → following key lt b (map f m) ≡ Option·map f (following at lt b m)
+          → cond u (some (f p)) (following key lt b (map f m)) ≡ Option·map f (cond u (some p) (following at lt b m))
+      go true ih = refl
+      go false ih = ih
 
   -- the place that stands has the entry that stands
   pub lookup-placed : (k : K) (ps : List P) → Placed ps → lookup key lt k (survivors key lt (map f ps)) ≡ Option·map f (lookup at lt k (survivors at lt ps))
   lookup-placed k ps h =
       ap (lookup key lt k) (survivors-map ps h) ∙ lookup-map k (survivors at lt ps) (all-survivors at lt (λ p. key (f p) ≡ at p) ps h)
 
-  pub next-placed : (b : Option K) (ps : List P) → Placed ps → next key lt b (survivors key lt (map f ps)) ≡ next at lt b (survivors at lt ps)
-  next-placed b ps h =
-      ap (next key lt b) (survivors-map ps h) ∙ next-map b (survivors at lt ps) (all-survivors at lt (λ p. key (f p) ≡ at p) ps h)
+  pub following-placed : (b : Option K) (ps : List P) → Placed ps
+      → following key lt b (survivors key lt (map f ps)) ≡ Option·map f (following at lt b (survivors at lt ps))
+  following-placed b ps h =
+      ap (following key lt b) (survivors-map ps h) ∙ following-map b (survivors at lt ps) (all-survivors at lt (λ p. key (f p) ≡ at p) ps h)

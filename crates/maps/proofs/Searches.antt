@@ -2,7 +2,7 @@
 -- laws of a step of each.
 -- Assumes nothing.
 use mathlib.Core.Path.{_≡_, refl, sym, ap, _∙_}
-use mathlib.Core.Bool.{Bool, true, false, cond}
+use mathlib.Core.Bool.{Bool, true, false, cond, _||_}
 use mathlib.Core.List.{List, [], _∷_, _++_, flatMap, append-nil}
 use mathlib.Core.Option.{Option, none, some, orElse}
 use Prim.Native.Nat.{ℕ, zero, suc, _-_, _≤_, _<_}
@@ -13,7 +13,7 @@ use lib.Seq.{take-suc, take-length}
 use Rattle.maps.specs.Lists.{pass}
 use Rattle.maps.specs.Orders.{Strict, same}
 use Rattle.maps.specs.Keyed.{survivors, lookup}
-use Rattle.maps.specs.Walk.{seen, lastSeen, latest, better, least}
+use Rattle.maps.specs.Walk.{isSome, better, least, has, seen, lastSeen, latest}
 use Rattle.maps.proofs.Lists.{flatMap-append}
 use Rattle.maps.proofs.Survivors.{lookup-lastSeen}
 
@@ -114,13 +114,48 @@ pub lookup-latest : {K E : Type 0} {lt : K → K → Bool} (key : E → K) (S : 
     → lookup key lt k (survivors key lt l) ≡ latest key lt k l
 lookup-latest {lt = lt} key S k l = lookup-lastSeen key S k l ∙ lastSeen-latest key lt k none l ∙ or-none (latest key lt k l)
 
--- ---- the least key, from the front
+-- ---- whether an entry is listed, from the front
+
+module _ {K E : Type 0} (key : E → K) (lt : K → K → Bool) (k : K) where
+  pub has-here : (e : E) (l : List E) → same lt k (key e) ≡ true → has key lt k (e ∷ l) ≡ true
+  unfolding has
+  has-here e l p = rw p
+
+  pub has-other : (e : E) (l : List E) → same lt k (key e) ≡ false → has key lt k (e ∷ l) ≡ has key lt k l
+  unfolding has
+  has-other e l p = rw p
+
+  pub has-nil : has key lt k [] ≡ false
+  unfolding has
+  has-nil = refl
+
+  seen-has : (o : Option E) (l : List E) → isSome (lastSeen key lt k o l) ≡ isSome o || has key lt k l
+  unfolding has seen isSome
+  seen-has o [] = ap isSome (lastSeen-nil key lt k o) ∙ or-false (isSome o)
+    where
+      or-false : (u : Bool) → u ≡ u || false
+      or-false true = refl
+      or-false false = refl
+  seen-has o (e ∷ l) = ap isSome (lastSeen-cons key lt k o e l) ∙ seen-has (seen key lt k o e) l ∙ go (same lt k (key e)) refl (isSome o) refl
+    where
+      go : (u : Bool) → same lt k (key e) ≡ u → (v : Bool) → isSome o ≡ v → isSome (seen key lt k o e) || has key lt k l ≡ v || (u || has key lt k l)
+      go true p true q = rw p
+      go true p false q = rw p
+      go false p v q = rw (p, q)
+
+-- something stands under a key if something is listed under it
+pub lookup-has : {K E : Type 0} {lt : K → K → Bool} (key : E → K) (S : Strict K lt) (k : K) (l : List E)
+    → isSome (lookup key lt k (survivors key lt l)) ≡ has key lt k l
+unfolding isSome
+lookup-has {lt = lt} key S k l = ap isSome (lookup-lastSeen key S k l) ∙ seen-has key lt k none l
+
+-- ---- the best entry, from the front
 
 module _ {K E : Type 0} (key : E → K) (lt : K → K → Bool) (b : Option K) where
-  pub least-cons : (o : Option K) (e : E) (l : List E) → least key lt b o (e ∷ l) ≡ least key lt b (better lt b o (key e)) l
+  pub least-cons : (o : Option E) (e : E) (l : List E) → least key lt b o (e ∷ l) ≡ least key lt b (better key lt b o e) l
   unfolding least pass
   least-cons o e l = refl
 
-  pub least-nil : (o : Option K) → least key lt b o [] ≡ o
+  pub least-nil : (o : Option E) → least key lt b o [] ≡ o
   unfolding least pass
   least-nil o = refl

@@ -2,27 +2,22 @@
 -- reported does not rest on these definitions: contracts of searches cite them, and laws tie them to `survivors`, `lookup` and `between`.
 -- Assumes nothing.
 use mathlib.Core.Path.{_≡_}
-use mathlib.Core.Bool.{Bool, true, cond}
+use mathlib.Core.Bool.{Bool, true, false, cond, not, _&&_, _||_}
 use mathlib.Core.List.{List, [], _∷_}
 use mathlib.Core.Option.{Option, none, some, orElse}
 use Rattle.maps.specs.Lists.{pass, All}
 use Rattle.maps.specs.Orders.{same}
 use Rattle.maps.specs.Compare.{between}
 
-module _ {K : Type 0} (lt : K → K → Bool) where
-  -- whether k is past a bound: none is before all keys, some a is just after a
-  unfoldable pub past : Option K → K → Bool
-  past none k = true
-  past (some a) k = lt a k
+-- whether there is something
+unfoldable pub isSome : {A : Type 0} → Option A → Bool
+isSome none = false
+isSome (some a) = true
 
-  -- the lesser of the best key so far, if any, and k
-  unfoldable pub lesser : Option K → K → Option K
-  lesser none k = some k
-  lesser (some a) k = cond (lt k a) (some k) (some a)
-
-  -- the same, where k counts only past a bound
-  unfoldable pub better : Option K → Option K → K → Option K
-  better b best k = cond (past b k) (lesser best k) best
+-- whether k is past a bound: none is before all keys, some a is just after a
+unfoldable pub past : {K : Type 0} → (K → K → Bool) → Option K → K → Bool
+past lt none k = true
+past lt (some a) k = lt a k
 
 module _ {K E : Type 0} (key : E → K) (lt : K → K → Bool) where
   -- each key is before all that follow it
@@ -35,18 +30,32 @@ module _ {K E : Type 0} (key : E → K) (lt : K → K → Bool) where
   above b [] = []
   above b (e ∷ m) = cond (past lt b (key e)) (e ∷ m) (above b m)
 
-  -- the first key of a map past a bound
-  unfoldable pub next : Option K → List E → Option K
-  next b [] = none
-  next b (e ∷ m) = cond (past lt b (key e)) (some (key e)) (next b m)
+  -- the first entry of a map past a bound
+  unfoldable pub following : Option K → List E → Option E
+  following b [] = none
+  following b (e ∷ m) = cond (past lt b (key e)) (some e) (following b m)
 
   -- what a walk has yet to give past a bound
   unfoldable pub rest : {C : Type 0} → (Option E → Option E → List C) → List E → List E → Option K → List C
   rest g m n b = between key lt g (above b m) n
 
-  -- the least key of a list past a bound, in one pass from the front that starts with the best key so far
-  unfoldable pub least : Option K → Option K → List E → Option K
-  least b best l = pass (λ o e. better lt b o (key e)) best l
+  -- whether e takes the place of the best entry so far, if any: that one is not before it, and it is past a bound
+  unfoldable pub nearer : Option K → Option E → E → Bool
+  nearer b none e = past lt b (key e)
+  nearer b (some f) e = not (lt (key f) (key e)) && past lt b (key e)
+
+  -- the best entry after one more: of one key the later
+  unfoldable pub better : Option K → Option E → E → Option E
+  better b best e = cond (nearer b best e) (some e) best
+
+  -- the best entry of a list past a bound, in one pass from the front that starts with the best so far
+  unfoldable pub least : Option K → Option E → List E → Option E
+  least b best l = pass (better b) best l
+
+  -- whether an entry is listed under k
+  unfoldable pub has : K → List E → Bool
+  has k [] = false
+  has k (e ∷ l) = same lt k (key e) || has k l
 
   -- what was found last under k, after one entry more
   unfoldable pub seen : K → Option E → E → Option E

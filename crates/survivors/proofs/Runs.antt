@@ -1,5 +1,6 @@
 -- What the searches over a run of items say of the items that stand: for a walk over them by rising ordinal. Assumes nothing.
 use mathlib.Core.Path.{_≡_, refl, sym, ap, _∙_}
+use mathlib.Core.Bool.{Bool}
 use mathlib.Core.Option.{Option, none, some, Option·map}
 use mathlib.Core.List.{List}
 use Prim.Native.Nat.{ℕ, zero, suc, _<_}
@@ -8,22 +9,24 @@ use native.Mathlib.Numerals.{sub-one}
 use lib.Dec.{ltb}
 use Rattle.maps.specs.Lists.{All}
 use Rattle.maps.specs.Keyed.{survivors, lookup}
-use Rattle.maps.specs.Walk.{Rising, next}
+use Rattle.maps.specs.Walk.{isSome, Rising, following}
 use Rattle.maps.proofs.Orders.{byNumber}
 use Rattle.maps.proofs.Survivors.{rising}
-use Rattle.maps.proofs.Places.{Placed, lookup-placed, next-placed}
+use Rattle.maps.proofs.Places.{Placed, lookup-placed, following-placed}
 use Rattle.parts.specs.Promise.{ItemOf, ItemHere, itemEnd, ItemsHere, placesFrom, ordinalIn}
 use Rattle.parts.specs.declared.Shape.{Shape}
 use Rattle.parts.specs.declared.Shape.the-variants as shape
 use Rattle.parts.specs.declared.Run.{Run}
 use Rattle.parts.proofs.Promise.{places-none, places-more, items-first, items-rest, field-ordinal, variant-ordinal}
 use Rattle.rules.specs.Survivors.{fieldMap, variantMap}
-use Rattle.survivors.specs.Answers.{placeOf, FoundHere, numberOf, placeMap, ItemSurvives}
+use Rattle.survivors.specs.Answers.{placeOf, FoundHere, numberOf, placeMap, ItemSurvives, placeNext, NextHere, ItemFollows}
 use Rattle.survivors.specs.Runs.{itemIn, itemOrdinal, itemMap, itemsOf, Holds}
 use Rattle.survivors.specs.declared.Found.{Found}
 use Rattle.survivors.specs.declared.Found.the-variants as found
 use Rattle.survivors.specs.declared.Ordinal.{Ordinal}
 use Rattle.survivors.specs.declared.Ordinal.the-variants as ordinal
+use Rattle.survivors.specs.declared.Next.{Next}
+use Rattle.survivors.specs.declared.Next.the-variants as next
 
 -- a run that is well formed
 pub run-holds : (h : Shape) (s : List ℕ) (n : Run) → ItemsHere h s (n .count) (n .start) → Holds h s n (itemsOf h s n)
@@ -57,6 +60,11 @@ placed h s (suc c) at g =
     rw (places-more s (suc c) at h l, sub-one)
     (item-ordinal h s at (items-first h s (suc c) at l g), placed h s c (itemEnd h s at) (rw sub-one at (items-rest h s (suc c) at l g)))
 
+some-map : {A B : Type 0} (f : A → B) (o : Option A) → isSome o ≡ isSome (Option·map f o)
+unfolding isSome
+some-map f none = refl
+some-map f (some a) = refl
+
 module _ (h : Shape) (s : List ℕ) (n : Run) {xs : List (ItemOf h)} (r : Holds h s n xs) where
   -- what stands is at the places that stand
   pub holds-lookup : (k : ℕ) → lookup (itemOrdinal h) ltb k (itemMap h xs) ≡ Option·map (itemIn h s) (lookup (ordinalIn s) ltb k (placeMap h s n))
@@ -65,11 +73,12 @@ module _ (h : Shape) (s : List ℕ) (n : Run) {xs : List (ItemOf h)} (r : Holds 
       rw (stands h xs, r .are)
       (lookup-placed (itemOrdinal h) ltb (itemIn h s) (ordinalIn s) k (placesFrom h s (n .count) (n .start)) (placed h s (n .count) (n .start) (r .here)))
 
-  pub holds-next : (b : Option ℕ) → next (itemOrdinal h) ltb b (itemMap h xs) ≡ next (ordinalIn s) ltb b (placeMap h s n)
+  pub holds-following : (b : Option ℕ)
+      → following (itemOrdinal h) ltb b (itemMap h xs) ≡ Option·map (itemIn h s) (following (ordinalIn s) ltb b (placeMap h s n))
   unfolding itemsOf placeMap
-  holds-next b =
+  holds-following b =
       rw (stands h xs, r .are)
-      (next-placed (itemOrdinal h) ltb (itemIn h s) (ordinalIn s) b (placesFrom h s (n .count) (n .start)) (placed h s (n .count) (n .start) (r .here)))
+      (following-placed (itemOrdinal h) ltb (itemIn h s) (ordinalIn s) b (placesFrom h s (n .count) (n .start)) (placed h s (n .count) (n .start) (r .here)))
 
   -- the answers of `survivor_item`
   module _ (k : ℕ) {o : Found} (a : ItemSurvives h s n k o) where
@@ -86,15 +95,28 @@ module _ (h : Shape) (s : List ℕ) (n : Run) {xs : List (ItemOf h)} (r : Holds 
       unfolding FoundHere
       found-here = rw e at (a .here)
 
-  -- the answers of `next_item`
-  module _ (after : Ordinal) {o : Ordinal} (a : numberOf o ≡ next (ordinalIn s) ltb (numberOf after) (placeMap h s n)) where
-    pub next-none : o ≡ ordinal.Nothing → next (itemOrdinal h) ltb (numberOf after) (itemMap h xs) ≡ none
-    unfolding numberOf
-    next-none e = holds-next (numberOf after) ∙ sym a ∙ ap numberOf e
+  -- the answers of `has_item`
+  pub has-stands : (k : ℕ) {t : Bool} → t ≡ isSome (lookup (ordinalIn s) ltb k (placeMap h s n)) → t ≡ isSome (lookup (itemOrdinal h) ltb k (itemMap h xs))
+  has-stands k a = a ∙ some-map (itemIn h s) (lookup (ordinalIn s) ltb k (placeMap h s n)) ∙ ap isSome (sym (holds-lookup k))
 
-    pub next-ordinal : {k : ℕ} → o ≡ ordinal.Is k → next (itemOrdinal h) ltb (numberOf after) (itemMap h xs) ≡ some k
-    unfolding numberOf
-    next-ordinal e = holds-next (numberOf after) ∙ sym a ∙ ap numberOf e
+  -- the answers of `next_item`
+  module _ (after : Ordinal) {o : Next} (a : ItemFollows h s n after o) where
+    pub next-none : o ≡ next.Nothing → following (itemOrdinal h) ltb (numberOf after) (itemMap h xs) ≡ none
+    unfolding placeNext
+    next-none e = holds-following (numberOf after) ∙ ap (Option·map (itemIn h s)) (sym (a .place) ∙ ap placeNext e)
+
+    module _ {k p : ℕ} (e : o ≡ next.Is k p) where
+      pub next-item : following (itemOrdinal h) ltb (numberOf after) (itemMap h xs) ≡ some (itemIn h s p)
+      unfolding placeNext
+      next-item = holds-following (numberOf after) ∙ ap (Option·map (itemIn h s)) (sym (a .place) ∙ ap placeNext e)
+
+      pub next-here : ItemHere h s p
+      unfolding NextHere
+      next-here = (rw e at (a .here)) .1
+
+      pub next-ordinal : itemOrdinal h (itemIn h s p) ≡ k
+      unfolding NextHere
+      next-ordinal = item-ordinal h s p next-here ∙ sym ((rw e at (a .here)) .0)
 
 -- where a walk starts, and the bound after an ordinal
 pub number-none : {o : Ordinal} → o ≡ ordinal.Nothing → numberOf o ≡ none

@@ -1,47 +1,46 @@
 -- What the searches answer. Assumes nothing.
 use mathlib.Core.Path.{_≡_}
+use mathlib.Core.Bool.{Bool, false}
 use mathlib.Core.Option.{Option, none, some, Option·map}
 use mathlib.Core.List.{List}
 use Prim.Native.Nat.{ℕ}
 use lib.Dec.{ltb}
 use Rattle.maps.specs.Keyed.{survivors, lookup}
 use Rattle.maps.specs.Orders.{before}
-use Rattle.maps.specs.Walk.{better, next}
-use Rattle.image.specs.Schema.{Name}
-use Rattle.parts.specs.Promise.{schemaOf, entryDecl, EntryHere, ItemHere, placesFrom, ordinalIn}
+use Rattle.maps.specs.Walk.{following, nearer}
+use Rattle.image.specs.Schema.{Name, Decl}
+use Rattle.parts.specs.Promise.{entryDecl, EntryHere, ItemHere, placesFrom, ordinalIn}
 use Rattle.parts.specs.declared.Entry.{Entry}
 use Rattle.parts.specs.declared.Shape.{Shape}
 use Rattle.parts.specs.declared.Run.{Run}
-use Rattle.rules.specs.Survivors.{nameOf, declarations}
+use Rattle.rules.specs.Survivors.{nameOf}
 use Rattle.survivors.specs.declared.Found.{Found}
 use Rattle.survivors.specs.declared.Found.the-variants as found
 use Rattle.survivors.specs.declared.Ordinal.{Ordinal}
 use Rattle.survivors.specs.declared.Ordinal.the-variants as ordinal
+use Rattle.survivors.specs.declared.Next.{Next}
+use Rattle.survivors.specs.declared.Next.the-variants as next
 
--- ---- declarations
+-- ---- declarations: `standing` are those that stand
 
 -- the name of an entry's declaration
 unfoldable pub named : List ℕ → Entry → Option Name
 named s r = Option·map nameOf (entryDecl s r)
 
 -- the declaration that stands under a name
-pub record Survives (s : List ℕ) (name : Name) (r : Entry) : Type 0 where
-  pub value : entryDecl s r ≡ lookup nameOf before name (declarations (schemaOf s))
+pub record Survives (standing : List Decl) (s : List ℕ) (name : Name) (r : Entry) : Type 0 where
+  pub value : entryDecl s r ≡ lookup nameOf before name standing
   pub here : EntryHere s r
 
--- a declaration with the next name of those that stand
-pub record Follows (s : List ℕ) (after r : Entry) : Type 0 where
-  pub name : named s r ≡ next nameOf before (named s after) (declarations (schemaOf s))
+-- the declaration that stands under the next name
+pub record Follows (standing : List Decl) (s : List ℕ) (after r : Entry) : Type 0 where
+  pub value : entryDecl s r ≡ following nameOf before (named s after) standing
   pub here : EntryHere s r
 
--- the best name so far, after an entry more: one that is unresolvable is skipped
-unfoldable pub nearest : Option Name → Option Name → Option Name → Option Name
-nearest b best none = best
-nearest b best (some k) = better before b best k
-
-pub record Nearer (s : List ℕ) (after best found r : Entry) : Type 0 where
-  pub name : named s r ≡ nearest (named s after) (named s best) (named s found)
-  pub here : EntryHere s r
+-- whether an entry more takes the place of the best declaration so far: one that is unresolvable is skipped
+unfoldable pub nearerDecl : Option Name → Option Decl → Option Decl → Bool
+nearerDecl b best none = false
+nearerDecl b best (some d) = nearer nameOf before b best d
 
 -- ---- items
 
@@ -65,3 +64,17 @@ placeMap h s n = survivors (ordinalIn s) ltb (placesFrom h s (n .count) (n .star
 pub record ItemSurvives (h : Shape) (s : List ℕ) (n : Run) (k : ℕ) (r : Found) : Type 0 where
   pub place : placeOf r ≡ lookup (ordinalIn s) ltb k (placeMap h s n)
   pub here : FoundHere h s r
+
+-- the place that comes next, and its ordinal
+unfoldable pub placeNext : Next → Option ℕ
+placeNext (next.Is k p) = some p
+placeNext next.Nothing = none
+
+unfoldable pub NextHere : Shape → List ℕ → Next → Type 0
+NextHere h s (next.Is k p) = (k ≡ ordinalIn s p) × ItemHere h s p
+NextHere h s next.Nothing = Unit {0}
+
+-- the item that stands under the next ordinal
+pub record ItemFollows (h : Shape) (s : List ℕ) (n : Run) (after : Ordinal) (r : Next) : Type 0 where
+  pub place : placeNext r ≡ following (ordinalIn s) ltb (numberOf after) (placeMap h s n)
+  pub here : NextHere h s r

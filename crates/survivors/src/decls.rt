@@ -9,13 +9,14 @@ use parts::entries::id_count;
 ghost use mathlib.Core.Path.{_≡_};
 ghost use Rattle.maps.specs.Orders.{before};
 ghost use Rattle.maps.specs.Walk.{past};
-ghost use Rattle.parts.specs.Promise.{Accepted, DeclHere, declIn, EntryHere};
-ghost use Rattle.survivors.specs.Answers.{named, Survives, Follows, Nearer};
+ghost use Rattle.parts.specs.Promise.{Accepted, schemaOf, DeclHere, declIn, entryDecl, EntryHere};
+ghost use Rattle.rules.specs.Survivors.{declarations};
+ghost use Rattle.survivors.specs.Answers.{named, Survives, Follows, nearerDecl};
 
 // The declaration that stands under a name: "The search goes from the end and stops at the first match."
 pub fn survivor(image: &[u8], name: &[u8]) -> Entry
     requires { ⌜ Accepted (now image) ⌝ }
-    ensures { λ r. ⌜ Survives (now (image .entry)) (now (name .entry)) r ⌝ }
+    ensures { λ r. ⌜ Survives (declarations (schemaOf (now (image .entry)))) (now (image .entry)) (now (name .entry)) r ⌝ }
 {
     let mut i = id_count(image);
     'search: loop {
@@ -65,36 +66,38 @@ fn is_past(image: &[u8], after: Entry, at: usize) -> bool
     is_before(image, bound, at)
 }
 
-// Of the best entry so far and the one found, the one with the lesser name past that of `after`.
-fn nearer(image: &[u8], after: Entry, best: Entry, found: Entry) -> Entry
+// Whether an entry takes the place of the best one so far: its name is past that of `after`, and the best one's is not before it. The best
+// one is looked at first: where names are listed as they rise, that alone decides of all that follow it.
+fn is_nearer(image: &[u8], after: Entry, best: Entry, found: Entry) -> bool
     requires { ⌜ EntryHere (now image) after × EntryHere (now image) best × EntryHere (now image) found ⌝ }
-    ensures { λ r. ⌜ Nearer (now (image .entry)) after best found r ⌝ }
+    ensures { λ r. ⌜ r ≡ nearerDecl (named (now (image .entry)) after) (entryDecl (now (image .entry)) best) (entryDecl (now (image .entry)) found) ⌝ }
 {
     let Entry::Body(at) = found else {
-        return best;
+        return false;
     };
-    if !is_past(image, after, at) {
-        return best;
-    }
     let Entry::Body(least) = best else {
-        return found;
+        return is_past(image, after, at);
     };
-    if is_before(image, at, least) {
-        return found;
+    if is_before(image, least, at) {
+        return false;
     }
-    best
+    is_past(image, after, at)
 }
 
-// A declaration with the least name past that of `after`, from the start if that is unresolvable.
+// The declaration that stands under the least name past that of `after`, from the start if that is unresolvable: in a pass from the front
+// that goes over to a later one of the same name.
 pub fn next_decl(image: &[u8], after: Entry) -> Entry
     requires { ⌜ Accepted (now image) × EntryHere (now image) after ⌝ }
-    ensures { λ r. ⌜ Follows (now (image .entry)) after r ⌝ }
+    ensures { λ r. ⌜ Follows (declarations (schemaOf (now (image .entry)))) (now (image .entry)) after r ⌝ }
 {
     let n = id_count(image);
     let mut best = Entry::Unresolvable;
     let mut i = 0;
     while i < n {
-        best = nearer(image, after, best, entry(image, id_at(image, i)));
+        let found = entry(image, id_at(image, i));
+        if is_nearer(image, after, best, found) {
+            best = found;
+        }
         i += 1;
     }
     best

@@ -1,6 +1,7 @@
 // Fields, variants and bits by their ordinals: "The same holds for ordinals and bits inside one body or variant." Items have no fixed
-// size, so both searches pass from the front.
+// size, so all searches pass from the front.
 use crate::Found;
+use crate::Next;
 use crate::Ordinal;
 use members::items::item_end;
 use members::items::ordinal_at;
@@ -8,9 +9,10 @@ use parts::Run;
 use parts::Shape;
 ghost use mathlib.Core.Path.{_≡_};
 ghost use lib.Dec.{ltb};
-ghost use Rattle.maps.specs.Walk.{past, better, next};
-ghost use Rattle.parts.specs.Promise.{ItemsHere, ordinalIn};
-ghost use Rattle.survivors.specs.Answers.{placeMap, numberOf, ItemSurvives};
+ghost use Rattle.maps.specs.Keyed.{lookup};
+ghost use Rattle.maps.specs.Walk.{isSome, past, nearer};
+ghost use Rattle.parts.specs.Promise.{ItemHere, ItemsHere, ordinalIn};
+ghost use Rattle.survivors.specs.Answers.{numberOf, placeMap, ItemSurvives, placeNext, NextHere, ItemFollows};
 
 // The item that stands under an ordinal, the last one listed.
 pub fn survivor_item(image: &[u8], shape: Shape, run: Run, ordinal: u32) -> Found
@@ -30,6 +32,23 @@ pub fn survivor_item(image: &[u8], shape: Shape, run: Run, ordinal: u32) -> Foun
     found
 }
 
+// Whether an item stands under an ordinal: it does if any is listed, so the search stops at the first.
+pub fn has_item(image: &[u8], shape: Shape, run: Run, ordinal: u32) -> bool
+    requires { ⌜ ItemsHere shape (now image) (run .count) (run .start) ⌝ }
+    ensures { λ r. ⌜ r ≡ isSome (lookup (ordinalIn (now (image .entry))) ltb ordinal (placeMap shape (now (image .entry)) run)) ⌝ }
+{
+    let mut at = run.start;
+    let mut left = run.count;
+    while 0 < left {
+        if ordinal_at(image, at) == ordinal {
+            return true;
+        }
+        at = item_end(image, shape, at);
+        left -= 1;
+    }
+    false
+}
+
 // Whether an ordinal is past a bound: every ordinal is past none.
 fn is_past(after: Ordinal, ordinal: u32) -> bool
     ensures { λ r. ⌜ r ≡ past ltb (numberOf after) ordinal ⌝ }
@@ -40,32 +59,33 @@ fn is_past(after: Ordinal, ordinal: u32) -> bool
     bound < ordinal
 }
 
-// Of the best ordinal so far and one more, the lesser past `after`.
-fn nearer(after: Ordinal, best: Ordinal, ordinal: u32) -> Ordinal
-    ensures { λ r. ⌜ numberOf r ≡ better ltb (numberOf after) (numberOf best) ordinal ⌝ }
+// Whether the item at a place takes the place of the best one so far: its ordinal is past `after`, and the best one's is not before it.
+fn is_nearer(image: &[u8], shape: Shape, after: Ordinal, best: Next, at: usize) -> bool
+    requires { ⌜ NextHere shape (now image) best × ItemHere shape (now image) at ⌝ }
+    ensures { λ r. ⌜ r ≡ nearer (ordinalIn (now (image .entry))) ltb (numberOf after) (placeNext best) at ⌝ }
 {
-    if !is_past(after, ordinal) {
-        return best;
-    }
-    let Ordinal::Is(least) = best else {
-        return Ordinal::Is(ordinal);
+    let ordinal = ordinal_at(image, at);
+    let Next::Is(least, _) = best else {
+        return is_past(after, ordinal);
     };
-    if ordinal < least {
-        return Ordinal::Is(ordinal);
+    if least < ordinal {
+        return false;
     }
-    best
+    is_past(after, ordinal)
 }
 
-// The least ordinal past `after`, from the start if that is none.
-pub fn next_item(image: &[u8], shape: Shape, run: Run, after: Ordinal) -> Ordinal
+// The item that stands under the least ordinal past `after`, from the start if that is none.
+pub fn next_item(image: &[u8], shape: Shape, run: Run, after: Ordinal) -> Next
     requires { ⌜ ItemsHere shape (now image) (run .count) (run .start) ⌝ }
-    ensures { λ r. ⌜ numberOf r ≡ next (ordinalIn (now (image .entry))) ltb (numberOf after) (placeMap shape (now (image .entry)) run) ⌝ }
+    ensures { λ r. ⌜ ItemFollows shape (now (image .entry)) run after r ⌝ }
 {
-    let mut best = Ordinal::Nothing;
+    let mut best = Next::Nothing;
     let mut at = run.start;
     let mut left = run.count;
     while 0 < left {
-        best = nearer(after, best, ordinal_at(image, at));
+        if is_nearer(image, shape, after, best, at) {
+            best = Next::Is(ordinal_at(image, at), at);
+        }
         at = item_end(image, shape, at);
         left -= 1;
     }

@@ -1,24 +1,29 @@
--- The lesser of the best key so far and one more, past a bound: by the tests that decide it. Assumes nothing.
+-- Whether one more entry takes the place of the best so far, by the tests that decide it, and which is the best then. Assumes nothing.
 use mathlib.Core.Path.{_≡_}
 use mathlib.Core.Bool.{Bool, true, false}
 use mathlib.Core.Option.{Option, none, some}
-use Rattle.maps.specs.Walk.{past, lesser, better}
+use Rattle.maps.specs.Walk.{past, nearer, better}
 
-module _ {K : Type 0} (lt : K → K → Bool) (b best : Option K) (k : K) {t : Bool} (p : t ≡ past lt b k) where
-  pub better-within : t ≡ false → best ≡ better lt b best k
-  unfolding better
-  better-within q = rw (← p, q)
+module _ {K E : Type 0} (key : E → K) (lt : K → K → Bool) (b : Option K) (best : Option E) (e : E) where
+  -- t: it is past the bound
+  module _ {t : Bool} (p : t ≡ past lt b (key e)) where
+    pub nearer-first : best ≡ none → t ≡ nearer key lt b best e
+    unfolding nearer
+    nearer-first f = rw f p
 
-  module _ (q : t ≡ true) where
-    pub better-first : best ≡ none → some k ≡ better lt b best k
-    unfolding better lesser
-    better-first e = rw (← p, q, e)
+    pub nearer-past : {a : E} → best ≡ some a → lt (key a) (key e) ≡ false → t ≡ nearer key lt b best e
+    unfolding nearer
+    nearer-past f w = rw (f, w) p
 
-    module _ {a : K} (e : best ≡ some a) {u : Bool} (v : u ≡ lt k a) where
-      pub better-less : u ≡ true → some k ≡ better lt b best k
-      unfolding better lesser
-      better-less w = rw (← p, q, e, ← v, w)
+  pub nearer-before : {a : E} → best ≡ some a → lt (key a) (key e) ≡ true → false ≡ nearer key lt b best e
+  unfolding nearer
+  nearer-before f w = rw (f, w)
 
-      pub better-more : u ≡ false → some a ≡ better lt b best k
-      unfolding better lesser
-      better-more w = rw (← p, q, e, ← v, w)
+  module _ {t : Bool} (p : t ≡ nearer key lt b best e) where
+    pub better-taken : t ≡ true → some e ≡ better key lt b best e
+    unfolding better
+    better-taken q = rw (← p, q)
+
+    pub better-left : t ≡ false → best ≡ better key lt b best e
+    unfolding better
+    better-left q = rw (← p, q)

@@ -1,7 +1,7 @@
 -- The searches over the declaration ids: a turn, the ways out. Assumes nothing.
 use mathlib.Core.Path.{_≡_, refl, sym, ap, _∙_}
-use mathlib.Core.Bool.{true, false}
-use mathlib.Core.Option.{Option, none, some, Option·map}
+use mathlib.Core.Bool.{Bool, true, false, cond}
+use mathlib.Core.Option.{Option, none, some}
 use mathlib.Core.List.{List, [], _∷_, _++_, flatMap}
 use Prim.Native.Nat.{ℕ, suc, _+_, _-_, _≤_, _<_}
 use native.Mathlib.Numerals.{add-one}
@@ -9,10 +9,10 @@ use lib.ListN.{length, getD, take, drop, drop-of-length-le}
 use lib.Seq.{drop-cons}
 use Rattle.maps.specs.Orders.{same, before}
 use Rattle.maps.specs.Keyed.{lookup}
-use Rattle.maps.specs.Walk.{latest, next, least}
+use Rattle.maps.specs.Walk.{latest, following, better, least}
 use Rattle.maps.proofs.Names.{byName}
 use Rattle.maps.proofs.Searches.{latest-start, latest-nothing, latest-skips, latest-other, latest-found, lookup-latest, least-cons, least-nil}
-use Rattle.maps.proofs.Walking.{next-least}
+use Rattle.maps.proofs.Walking.{following-least}
 use Rattle.image.specs.Schema.{Name, Decl}
 use Rattle.parts.specs.Promise.{schemaOf, declIn, entryDecl, EntryHere, Resolved}
 use Rattle.parts.specs.declared.Entry.{Entry}
@@ -20,7 +20,7 @@ use Rattle.parts.specs.declared.Entry.the-variants.{Body, Unresolvable}
 use Rattle.parts.proofs.Promise.{resolved-here}
 use Rattle.rules.specs.Survivors.{Registry, resolved, listed, nameOf, declarations}
 use Rattle.rules.specs.Survivors.{standsFor as entryOf}
-use Rattle.survivors.specs.Answers.{named, Survives, nearest}
+use Rattle.survivors.specs.Answers.{Survives, nearerDecl}
 
 -- what one id lists
 unfoldable pub declared : Registry → ℕ → List Decl
@@ -52,7 +52,7 @@ module _ (s : List ℕ) (name : Name) where
       ∙ ap (latest nameOf before name) (sym (listed-flat R ids))
       ∙ sym (lookup-latest nameOf byName name (listed R ids))
 
-  pub back-end : (i : ℕ) → i ≡ 0 → back i ≡ lookup nameOf before name (declarations (schemaOf s)) → Survives s name Unresolvable
+  pub back-end : (i : ℕ) → i ≡ 0 → back i ≡ lookup nameOf before name (declarations (schemaOf s)) → Survives (declarations (schemaOf s)) s name Unresolvable
   unfolding back entryDecl EntryHere
   back-end i e p = record { value = sym (latest-nothing nameOf before name (declared (schemaOf s .registry)) (schemaOf s .ids) i e) ∙ p; here = tt }
 
@@ -75,7 +75,7 @@ module _ (s : List ℕ) (name : Name) where
       unfolding back
       back-other n = sym (latest-other nameOf before name (declared (schemaOf s .registry)) (schemaOf s .ids) 0 i h b (declIn s at) one (rw w at n))
 
-      pub back-found : same before name own ≡ true → back i ≡ lookup nameOf before name (declarations (schemaOf s)) → Survives s name (Body at)
+      pub back-found : same before name own ≡ true → back i ≡ lookup nameOf before name (declarations (schemaOf s)) → Survives (declarations (schemaOf s)) s name (Body at)
       unfolding back entryDecl EntryHere
       back-found n p = record {
         value = sym (latest-found nameOf before name (declared (schemaOf s .registry)) (schemaOf s .ids) 0 i h b (declIn s at) one (rw w at n)) ∙ p;
@@ -85,33 +85,42 @@ module _ (s : List ℕ) (name : Name) where
 -- ---- from the front
 
 module _ (s : List ℕ) (b : Option Name) where
-  -- what is found going on from a position, with the best name so far
-  unfoldable pub ahead : Option Name → ℕ → Option Name
+  -- what is found going on from a position, with the best declaration so far
+  unfoldable pub ahead : Option Decl → ℕ → Option Decl
   ahead best i = least nameOf before b best (listed (schemaOf s .registry) (drop i (schemaOf s .ids)))
 
-  pub ahead-start : ahead none 0 ≡ next nameOf before b (declarations (schemaOf s))
+  pub ahead-start : ahead none 0 ≡ following nameOf before b (declarations (schemaOf s))
   unfolding ahead declarations
-  ahead-start = sym (next-least nameOf byName b (listed (schemaOf s .registry) (schemaOf s .ids)))
+  ahead-start = sym (following-least nameOf byName b (listed (schemaOf s .registry) (schemaOf s .ids)))
 
-  pub ahead-end : (best : Option Name) (i : ℕ) {o : Option Name} → length (schemaOf s .ids) ≤ i → ahead best i ≡ o → best ≡ o
+  pub ahead-end : (best : Option Decl) (i : ℕ) {o : Option Decl} → length (schemaOf s .ids) ≤ i → ahead best i ≡ o → best ≡ o
   unfolding ahead listed
   ahead-end best i h p = sym (rw (drop-of-length-le (schemaOf s .ids) h) (least-nil nameOf before b best)) ∙ p
 
-  least-resolved : (best : Option Name) (o : Option Decl) (ds : List Decl)
-      → least nameOf before b best (resolved o ds) ≡ least nameOf before b (nearest b best (Option·map nameOf o)) ds
-  unfolding resolved nearest
+  -- the best after an entry more
+  abbrev after : Option Decl → Option Decl → Option Decl
+  after best o = cond (nearerDecl b best o) o best
+
+  least-resolved : (best o : Option Decl) (ds : List Decl)
+      → least nameOf before b best (resolved o ds) ≡ least nameOf before b (after best o) ds
+  unfolding resolved nearerDecl better
   least-resolved best none ds = refl
   least-resolved best (some d) ds = least-cons nameOf before b best d ds
 
-  -- a turn, at the entry of the id at the position
-  pub ahead-turn : (best best′ : Option Name) (i : ℕ) {o : Option Name} → i < length (schemaOf s .ids) → {id : ℕ} → id ≡ getD (schemaOf s .ids) i 0 → {r : Entry} → Resolved s id r
-      → best′ ≡ nearest b best (named s r) → ahead best i ≡ o → ahead best′ (i + 1) ≡ o
-  unfolding ahead listed entryOf named
-  ahead-turn best best′ i h e {r} v q p =
-      let R = schemaOf s .registry in
-      let ids = schemaOf s .ids in
-      let u : getD R (getD ids i 0) none ≡ entryDecl s r = rw (← e) (sym (v .value)) in
-      rw add-one
-      (ap (λ (k : Option Name). least nameOf before b k (listed R (drop (suc i) ids))) q
-      ∙ sym (rw (drop-cons ids i 0 h, u) (least-resolved best (entryDecl s r) (listed R (drop (suc i) ids))))
-      ∙ p)
+  -- a turn, at the entry r of the id at the position; t: it takes the place of the best
+  module _ (best : Entry) (i : ℕ) {o : Option Decl} (h : i < length (schemaOf s .ids)) {id : ℕ} (e : id ≡ getD (schemaOf s .ids) i 0)
+      {r : Entry} (v : Resolved s id r) {t : Bool} (q : t ≡ nearerDecl b (entryDecl s best) (entryDecl s r)) (p : ahead (entryDecl s best) i ≡ o) where
+    turn : ahead (cond t (entryDecl s r) (entryDecl s best)) (i + 1) ≡ o
+    unfolding ahead listed entryOf
+    turn =
+        let R = schemaOf s .registry in
+        let ids = schemaOf s .ids in
+        let u : getD R (getD ids i 0) none ≡ entryDecl s r = rw (← e) (sym (v .value)) in
+        rw (add-one, q)
+        (sym (rw (drop-cons ids i 0 h, u) (least-resolved (entryDecl s best) (entryDecl s r) (listed R (drop (suc i) ids)))) ∙ p)
+
+    pub ahead-taken : t ≡ true → {best′ : Entry} → best′ ≡ r → EntryHere s best′ × (ahead (entryDecl s best′) (i + 1) ≡ o)
+    ahead-taken w f = rw f (v .here, rw w at turn)
+
+    pub ahead-left : t ≡ false → EntryHere s best → {best′ : Entry} → best′ ≡ best → EntryHere s best′ × (ahead (entryDecl s best′) (i + 1) ≡ o)
+    ahead-left w g f = rw f (g, rw w at turn)

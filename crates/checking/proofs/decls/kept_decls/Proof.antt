@@ -2,28 +2,28 @@
 use Rattle.maps.specs.Compare.{matched}
 use Rattle.rules.specs.Clauses.{declRules}
 use Rattle.tally.proofs.Running.{ran-length}
-use Rattle.survivors.proofs.Declarations.{follows-here}
+use Rattle.survivors.proofs.Declarations.{declarations-rising, follows-here}
 use Rattle.survivors.proofs.Walks.{declsLeft, decls-less}
 use Rattle.checking.proofs.Turns.{Walked, walk-start, walk-done, walk-room, walk-turn}
 use Rattle.items.specs.Pairs.{reading}
 use Rattle.items.specs.declared.Side.{Side}
-use Rattle.checking.specs.Decls.{standing, keptDecls, keptDecl}
+use Rattle.checking.specs.Decls.{standing, keptDecls, keptIn}
 use Rattle.checking.proofs.decls.kept_decls.Statement.{statement}
 use Rattle.checking.proofs.decls.kept_decls.Tie as tie
 
 abbrev Inv-loop : tie.InvT-loop
 Inv-loop mode old new out₀ tally₀ after₀ out tally after =
-    Walked (matched (declRules (reading old new) .kept)) old (standing old new Side.New) mode out₀ tally₀ after tally out
+    Walked (matched (declRules (reading old new) .kept)) (standing old new Side.Old) old (standing old new Side.New) mode out₀ tally₀ after tally out
 
 abbrev μ-loop : tie.MeasureT-loop
-μ-loop mode old new out₀ tally₀ after₀ out tally after = declsLeft old after
+μ-loop mode old new out₀ tally₀ after₀ out tally after = declsLeft (standing old new Side.Old) old after
 
 loop-holds : tie.Need-loop-holds Inv-loop μ-loop
 unfolding keptDecls
 loop-holds c = walk-start (c .before .before .before .pre .1)
 
-next-decl-requires : tie.Need-next-decl-requires Inv-loop μ-loop
-next-decl-requires c κs = (c .before .before .before .before .pre .0 .0, c .loop .inv .here)
+next-on-requires : tie.Need-next-on-requires Inv-loop μ-loop
+next-on-requires c κs = (c .before .before .before .before .pre .0, c .loop .inv .here)
 
 enum-known-at : tie.Need-enum-known-at Inv-loop μ-loop
 enum-known-at c = c .match .keys1
@@ -33,31 +33,31 @@ enum-told c = c .match .keys2
 
 returns : tie.Need-returns Inv-loop μ-loop
 unfolding keptDecls
-returns c = walk-done (c .before .before .before .loop .inv) (c .before .before .next-decl .ensures) (c .enum-told .given .1)
+returns c = walk-done (c .before .before .before .loop .inv) (c .before .before .next-on .ensures) (c .enum-told .given .1)
 
 same-length : tie.Need-same-length Inv-loop μ-loop
 same-length c = ran-length (returns c) (c .before .before .before .before .before .before .before .pre .1)
 
 kept-decl-requires : tie.Need-kept-decl-requires Inv-loop μ-loop
-unfolding keptDecl
+unfolding keptIn
 kept-decl-requires c κs =
-    let n = c .before .before .before .before in (
-      n .before .before .before .before .before .pre .0,
-      follows-here _ _ (n .next-decl .ensures) (c .before .before .at .given .1),
-      walk-room (n .before .loop .inv) (n .next-decl .ensures) (c .before .before .at .given .1),
+    let n = c .before .before .before .before in
+    let e = c .before .before .at .given .1 in (
+      record { accepted = n .before .before .before .before .before .pre .0; here = follows-here _ _ (n .next-on .ensures) e },
+      walk-room (n .before .loop .inv) (n .next-on .ensures) (declarations-rising _) e,
     )
 
 loop-less : tie.Need-loop-less Inv-loop μ-loop
 loop-less c =
     let a = c .before .before .before .before .before in
-    decls-less _ _ (a .before .before .next-decl .ensures) (a .at .given .1)
+    decls-less _ (declarations-rising _) _ _ (a .before .before .next-on .ensures) (a .at .given .1)
 
 loop-again : tie.Need-loop-again Inv-loop μ-loop
-unfolding keptDecl
+unfolding keptIn
 loop-again c =
     let a = c .before .before .before .before .before in
     let n = a .before .before in
-    walk-turn (n .before .loop .inv) (n .next-decl .ensures) (a .at .given .1) (c .before .before .kept-decl .ensures)
+    walk-turn (n .before .loop .inv) (n .next-on .ensures) (declarations-rising _) (a .at .given .1) (c .before .before .kept-decl .ensures)
 
 pub kept-decls-spec : {M : Type 1} → statement M
 kept-decls-spec =
@@ -66,7 +66,7 @@ kept-decls-spec =
     Inv-loop
     μ-loop
     loop-holds
-    next-decl-requires
+    next-on-requires
     enum-known-at
     enum-told
     same-length

@@ -1,20 +1,20 @@
 -- `checking::decls::unmatched_decls` meets its contract: a walk over the declarations of the side. Assumes nothing.
 use Rattle.maps.specs.Compare.{unmatched}
 use Rattle.tally.proofs.Running.{ran-length}
-use Rattle.survivors.proofs.Declarations.{follows-here}
+use Rattle.survivors.proofs.Declarations.{declarations-rising, follows-here}
 use Rattle.survivors.proofs.Walks.{declsLeft, decls-less}
 use Rattle.checking.proofs.Turns.{Walked, walk-start, walk-done, walk-room, walk-turn}
 use Rattle.items.specs.Sides.{on}
-use Rattle.checking.specs.Decls.{standingOff, lone, unmatchedDecls, unmatchedDecl}
+use Rattle.checking.specs.Decls.{standing, standingOff, lone, unmatchedDecls, unmatchedIn}
 use Rattle.checking.proofs.decls.unmatched_decls.Statement.{statement}
 use Rattle.checking.proofs.decls.unmatched_decls.Tie as tie
 
 abbrev Inv-loop : tie.InvT-loop
 Inv-loop mode old new out₀ side tally₀ after₀ out tally after =
-    Walked (unmatched (lone old new side)) (on side old new) (standingOff old new side) mode out₀ tally₀ after tally out
+    Walked (unmatched (lone old new side)) (standing old new side) (on side old new) (standingOff old new side) mode out₀ tally₀ after tally out
 
 abbrev μ-loop : tie.MeasureT-loop
-μ-loop mode old new out₀ side tally₀ after₀ out tally after = declsLeft (on side old new) after
+μ-loop mode old new out₀ side tally₀ after₀ out tally after = declsLeft (standing old new side) (on side old new) after
 
 loop-holds : tie.Need-loop-holds Inv-loop μ-loop
 unfolding unmatchedDecls
@@ -37,25 +37,25 @@ same-length : tie.Need-same-length Inv-loop μ-loop
 same-length c = ran-length (returns c) (c .before .before .before .before .before .before .before .pre .1)
 
 unmatched-decl-requires : tie.Need-unmatched-decl-requires Inv-loop μ-loop
-unfolding unmatchedDecl
+unfolding unmatchedIn
 unmatched-decl-requires c κs =
-    let n = c .before .before .before .before in (
-      n .before .before .before .before .before .pre .0,
-      follows-here _ _ (n .next-on .ensures) (c .before .before .at .given .1),
-      walk-room (n .before .loop .inv) (n .next-on .ensures) (c .before .before .at .given .1),
+    let n = c .before .before .before .before in
+    let e = c .before .before .at .given .1 in (
+      record { accepted = n .before .before .before .before .before .pre .0; here = follows-here _ _ (n .next-on .ensures) e },
+      walk-room (n .before .loop .inv) (n .next-on .ensures) (declarations-rising _) e,
     )
 
 loop-less : tie.Need-loop-less Inv-loop μ-loop
 loop-less c =
     let a = c .before .before .before .before .before in
-    decls-less _ _ (a .before .before .next-on .ensures) (a .at .given .1)
+    decls-less _ (declarations-rising _) _ _ (a .before .before .next-on .ensures) (a .at .given .1)
 
 loop-again : tie.Need-loop-again Inv-loop μ-loop
-unfolding unmatchedDecl
+unfolding unmatchedIn
 loop-again c =
     let a = c .before .before .before .before .before in
     let n = a .before .before in
-    walk-turn (n .before .loop .inv) (n .next-on .ensures) (a .at .given .1) (c .before .before .unmatched-decl .ensures)
+    walk-turn (n .before .loop .inv) (n .next-on .ensures) (declarations-rising _) (a .at .given .1) (c .before .before .unmatched-decl .ensures)
 
 pub unmatched-decls-spec : {M : Type 1} → statement M
 unmatched-decls-spec =

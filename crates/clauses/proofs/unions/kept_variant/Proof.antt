@@ -1,56 +1,33 @@
 -- `clauses::unions::kept_variant` meets its contract. Assumes nothing.
 use Rattle.tally.proofs.Running.{ran-none}
 use Rattle.items.specs.Items.{unionItems}
-use Rattle.items.proofs.Standing.{kept-none-old, kept-none-new}
-use Rattle.clauses.proofs.Pairs.{Kept, both-found, variant-kept}
+use Rattle.items.proofs.Standing.{kept-none}
+use Rattle.clauses.proofs.Pairs.{Kept, both-stand, variant-kept}
 use borrow.Author.Needs.{needs}
 use Rattle.clauses.proofs.unions.kept_variant.Statement.{statement}
 use Rattle.clauses.proofs.unions.kept_variant.Tie as tie
 
--- the start, from each item that is looked for, and from where both are found
-abbrev s₁ : tie.After-survivor-item → tie.Start
-s₁ c = c .before .before .before .before
-
-abbrev s₂ : tie.After-survivor-item2 → tie.Start
-s₂ c = s₁ (c .before .before .before .before)
-
+-- the start, from where a new one is found
 abbrev st : tie.After-j → tie.Start
-st c = s₂ (c .before .before)
+st c = c .before .before .before .before .before .before
 
 kept : (c : tie.After-j) → Kept (st c .args .old .now) (st c .args .new .now) (unionItems (st c .args .decl) (st c .args .a) (st c .args .b))
-    (st c .args .ordinal) (c .before .before .before .before .i .given .0 .0) (c .j .given .0 .0)
-kept c =
-    let l = c .before .before in
-    both-found (st c .pre .0) (l .before .before .before .before .survivor-item .ensures) (l .before .before .i .given .1)
-    (l .survivor-item2 .ensures) (c .j .given .1)
+    (st c .args .ordinal) (st c .args .i) (c .j .given .0 .0)
+kept c = both-stand (st c .pre .0) (c .before .before .found-off .ensures) (c .j .given .1)
 
-survivor-item-requires : tie.Need-survivor-item-requires
-survivor-item-requires c κs = search needs
+found-off-requires : tie.Need-found-off-requires
+found-off-requires c κs = search needs
 
-enum-known-i : tie.Need-enum-known-i
-enum-known-i c = search needs
+enum-known-j : tie.Need-enum-known-j
+enum-known-j c = search needs
 
 enum-told : tie.Need-enum-told
 enum-told c = search needs
 
 returns : tie.Need-returns
 returns c =
-    let l = c .before .before in
-    ran-none (kept-none-old (s₁ l .pre .0) _ (l .survivor-item .ensures) (c .enum-told .given .1)) (s₁ l .pre .1)
-
-survivor-item-requires-2 : tie.Need-survivor-item-requires-2
-survivor-item-requires-2 c κs = search needs
-
-enum-known-j : tie.Need-enum-known-j
-enum-known-j c = search needs
-
-enum-told-2 : tie.Need-enum-told-2
-enum-told-2 c = search needs
-
-returns-2 : tie.Need-returns-2
-returns-2 c =
-    let l = c .before .before in
-    ran-none (kept-none-new (s₂ l .pre .0) _ (l .survivor-item2 .ensures) (c .enum-told2 .given .1)) (s₂ l .pre .1)
+    let s = c .before .before .before .before .before .before in
+    ran-none (kept-none (s .pre .0 .items) _ _ (c .before .before .found-off .ensures) (c .enum-told .given .1)) (s .pre .1)
 
 variant-items-requires : tie.Need-variant-items-requires
 variant-items-requires c κs = kept (c .before) .here .0
@@ -67,26 +44,21 @@ compare-field-sets-requires c κs =
 same-length : tie.Need-same-length
 same-length c = search needs
 
-returns-3 : tie.Need-returns-3
-returns-3 c =
-    let v = c .before .before .before .before in
-    let w = variant-kept (kept (v .before .before .before)) (v .before .variant-items .ensures) (v .variant-items2 .ensures) in
+returns-2 : tie.Need-returns-2
+returns-2 c =
+    let w = variant-kept (kept (c .before .before .before .before .before .before .before)) (c .before .before .before .before .before .variant-items .ensures) (c .before .before .before .before .variant-items2 .ensures) in
     rw (w .are) (c .before .before .compare-field-sets .ensures)
 
 pub kept-variant-spec : {M : Type 1} → statement M
 kept-variant-spec =
     tie.close
     (tie.spec
-    survivor-item-requires
-    enum-known-i
+    found-off-requires
+    enum-known-j
     enum-told
     returns
-    survivor-item-requires-2
-    enum-known-j
-    enum-told-2
-    returns-2
     variant-items-requires
     variant-items-requires-2
     compare-field-sets-requires
     same-length
-    returns-3)
+    returns-2)

@@ -3,27 +3,27 @@
 use mathlib.Core.List.{[], _∷_}
 use Rattle.tally.proofs.Running.{Owed, owed-room, owed-next, ran-length}
 use Rattle.items.specs.Items.{unionItems, keptItems}
-use Rattle.clauses.proofs.Sets.{restKept, leftKept, kept-less, kept-start, kept-turn, kept-done}
+use Rattle.clauses.proofs.Sets.{restKept, leftKept, kept-less, kept-met, kept-start, kept-turn, kept-done}
 use borrow.Author.Needs.{needs}
 use Rattle.clauses.proofs.unions.kept_variants.Statement.{statement}
 use Rattle.clauses.proofs.unions.kept_variants.Tie as tie
 
 abbrev Inv-loop : tie.InvT-loop
-Inv-loop mode old new out₀ decl a b tally₀ after₀ out tally after =
+Inv-loop mode old new out₀ decl a b items tally₀ after₀ out tally after =
     Owed mode out₀ tally₀ (keptItems old new (unionItems decl a b)) tally out (restKept old new (unionItems decl a b) after ∷ [])
 
 abbrev μ-loop : tie.MeasureT-loop
-μ-loop mode old new out₀ decl a b tally₀ after₀ out tally after = leftKept old new (unionItems decl a b) after
+μ-loop mode old new out₀ decl a b items tally₀ after₀ out tally after = leftKept old new (unionItems decl a b) after
 
--- the start, from the next ordinal
-abbrev st : tie.After-next-item Inv-loop μ-loop → tie.Start Inv-loop μ-loop
+-- the start, from the next item
+abbrev st : tie.After-next-on Inv-loop μ-loop → tie.Start Inv-loop μ-loop
 st c = c .before .before .before .before .before
 
 loop-holds : tie.Need-loop-holds Inv-loop μ-loop
 loop-holds c = kept-start (c .before .before .before .pre .0) (c .before .before .before .pre .1)
 
-next-item-requires : tie.Need-next-item-requires Inv-loop μ-loop
-next-item-requires c κs = c .before .before .before .before .pre .0 .here .0
+next-on-requires : tie.Need-next-on-requires Inv-loop μ-loop
+next-on-requires c κs = c .before .before .before .before .pre .0
 
 enum-known-ordinal : tie.Need-enum-known-ordinal Inv-loop μ-loop
 enum-known-ordinal c = search needs
@@ -34,7 +34,7 @@ enum-told c = search needs
 returns : tie.Need-returns Inv-loop μ-loop
 returns c =
     let n = c .before .before in
-    kept-done (st n .pre .0) _ (n .before .loop .inv) (n .next-item .ensures) (c .enum-told .given .1)
+    kept-done (st n .pre .0) _ (n .before .loop .inv) (n .next-on .ensures) (c .enum-told .given .1)
 
 same-length : tie.Need-same-length Inv-loop μ-loop
 same-length c = ran-length (returns c) (st (c .before .before) .pre .1)
@@ -43,17 +43,18 @@ kept-variant-requires : tie.Need-kept-variant-requires Inv-loop μ-loop
 kept-variant-requires c κs =
     let n = c .before .before .before .before in
     let p = st n .pre .0 in
-    (p, owed-room (kept-turn p _ (n .before .loop .inv) (n .next-item .ensures) (c .before .before .ordinal .given .1)))
+    let e = c .before .before .ordinal .given .1 in
+    (kept-met p _ (n .next-on .ensures) e, owed-room (kept-turn p _ (n .before .loop .inv) (n .next-on .ensures) e))
 
 loop-less : tie.Need-loop-less Inv-loop μ-loop
 loop-less c =
     let n = c .before .before .before .before .before .before .before in
-    kept-less (st n .pre .0) _ (n .next-item .ensures) (c .before .before .before .before .before .ordinal .given .1)
+    kept-less (st n .pre .0) _ (n .next-on .ensures) (c .before .before .before .before .before .ordinal .given .1)
 
 loop-again : tie.Need-loop-again Inv-loop μ-loop
 loop-again c =
     let n = c .before .before .before .before .before .before .before in
-    owed-next (kept-turn (st n .pre .0) _ (n .before .loop .inv) (n .next-item .ensures) (c .before .before .before .before .before .ordinal .given .1))
+    owed-next (kept-turn (st n .pre .0) _ (n .before .loop .inv) (n .next-on .ensures) (c .before .before .before .before .before .ordinal .given .1))
     (c .before .before .kept-variant .ensures)
 
 pub kept-variants-spec : {M : Type 1} → statement M
@@ -63,7 +64,7 @@ kept-variants-spec =
     Inv-loop
     μ-loop
     loop-holds
-    next-item-requires
+    next-on-requires
     enum-known-ordinal
     enum-told
     same-length

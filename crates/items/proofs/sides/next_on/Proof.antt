@@ -23,12 +23,12 @@ next-item-requires-2 c κs = new-run (c .before .before .before .before .before 
 returns : tie.Need-returns
 returns c =
     next-as (c .before .before .before .before .before .before .pre) (c .before .before .before .shape-of .ensures)
-    side.Old (c .before .enum-told .given .1) _ _ (c .next-item .ensures)
+    side.Old (c .before .enum-told .given .1) (c .next-item .ensures)
 
 returns-2 : tie.Need-returns-2
 returns-2 c =
     next-as (c .before .before .before .before .before .before .pre) (c .before .before .before .shape-of .ensures)
-    side.New (c .before .enum-told2 .given .1) _ _ (c .next-item2 .ensures)
+    side.New (c .before .enum-told2 .given .1) (c .next-item2 .ensures)
 
 pub next-on-spec : {M : Type 1} → statement M
 next-on-spec =

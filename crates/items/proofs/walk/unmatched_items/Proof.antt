@@ -7,7 +7,7 @@ use Rattle.rules.specs.Changes.{Change}
 use Rattle.survivors.specs.declared.Ordinal.the-variants.{Is}
 use Rattle.tally.proofs.Running.{Owed, owed-room, owed-next, ran-length}
 use Rattle.items.specs.Items.{lone, unmatchedItems, unmatchedAt}
-use Rattle.items.proofs.Walks.{walkRest, walkLeft, unmatched-all, unmatched-at, walk-start, walk-turn, walk-done, walk-less}
+use Rattle.items.proofs.Walks.{walkRest, walkLeft, unmatched-all, unmatched-at, walk-start, walk-turn, walk-done, walk-less, walk-met}
 use Rattle.items.proofs.walk.unmatched_items.Statement.{statement}
 use Rattle.items.proofs.walk.unmatched_items.Tie as tie
 
@@ -26,7 +26,7 @@ abbrev all : tie.After-ordinal Inv-loop μ-loop → List Change
 all c = unmatchedItems (st c .args .old .now) (st c .args .new .now) (st c .args .items) (st c .args .side)
 
 abbrev here : tie.After-ordinal Inv-loop μ-loop → List Change
-here c = unmatchedAt (st c .args .old .now) (st c .args .new .now) (st c .args .items) (st c .args .side) (c .ordinal .given .0 .0)
+here c = unmatchedAt (st c .args .old .now) (st c .args .new .now) (st c .args .items) (st c .args .side) (c .ordinal .given .0 .0) (c .ordinal .given .0 .1 .0)
 
 abbrev there : tie.After-ordinal Inv-loop μ-loop → List Change
 there c =
@@ -39,7 +39,7 @@ turned : (c : tie.After-ordinal Inv-loop μ-loop)
     (c .before .before .before .loop .tally) (c .before .before .before .loop .out) (here c ∷ there c ∷ [])
 turned c =
     walk-turn (st c .pre .0) _ _ _ (c .before .before .before .loop .inv) (c .before .before .next-on .ensures)
-    (c .ordinal .given .1) (unmatched-at _ _ _ _ _)
+    (c .ordinal .given .1) (unmatched-at _ _ _ _ _ _)
 
 loop-holds : tie.Need-loop-holds Inv-loop μ-loop
 loop-holds c = walk-start (c .before .before .before .pre .0) _ _ (unmatched-all _ _ _ _) (c .before .before .before .pre .1)
@@ -62,7 +62,9 @@ same-length : tie.Need-same-length Inv-loop μ-loop
 same-length c = ran-length (returns c) (c .before .before .before .before .before .before .before .pre .1)
 
 unmatched-item-requires : tie.Need-unmatched-item-requires Inv-loop μ-loop
-unmatched-item-requires c κs = (c .before .before .before .before .before .before .before .before .before .pre .0, owed-room (turned (c .before .before)))
+unmatched-item-requires c κs =
+    let a = c .before .before in
+    (walk-met (st a .pre .0) (st a .args .side) (a .before .before .before .loop .after) (a .before .before .next-on .ensures) (a .ordinal .given .1), owed-room (turned a))
 
 loop-less : tie.Need-loop-less Inv-loop μ-loop
 loop-less c =

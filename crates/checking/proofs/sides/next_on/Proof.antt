@@ -1,7 +1,7 @@
--- `checking::decls::next_on` meets its contract: in each arm the side is known. Assumes nothing.
+-- `checking::sides::next_on` meets its contract: in each arm the side is known. Assumes nothing.
 use borrow.Author.Needs.{needs}
-use Rattle.checking.proofs.decls.next_on.Statement.{statement}
-use Rattle.checking.proofs.decls.next_on.Tie as tie
+use Rattle.checking.proofs.sides.next_on.Statement.{statement}
+use Rattle.checking.proofs.sides.next_on.Tie as tie
 
 enum-told : tie.Need-enum-told
 enum-told c = search needs
