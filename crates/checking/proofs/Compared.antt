@@ -1,13 +1,14 @@
 -- Two declarations under one name: kinds that differ are reported, and two of one kind are compared by its clause. Assumes nothing.
 use mathlib.Core.Path.{_≡_, refl, sym, _∙_}
 use mathlib.Core.Bool.{true}
-use mathlib.Core.List.{List, []}
+use mathlib.Core.List.{List, [], append-nil}
 use Prim.Native.Nat.{ℕ, zero, suc}
 use borrow.Author.Tests.{eq-eqb, ne-eqb}
 use Rattle.image.specs.Schema.{Decl}
 use Rattle.text.specs.declared.Mode.{Mode}
 use Rattle.parts.specs.Promise.{declIn}
-use Rattle.rules.specs.Clauses.{Reader, compareKind, compareDecls}
+use Rattle.parts.specs.Kinds.{kindOf}
+use Rattle.rules.specs.Clauses.{Context, compareKind, compareAlike, compareDecls}
 use Rattle.tally.specs.Reporting.{Ready, Ran}
 use Rattle.tally.specs.declared.Tally.{Tally}
 use Rattle.lines.specs.Clauses.{kindChanged}
@@ -24,19 +25,19 @@ module _ {old new : List ℕ} {i j : ℕ} (p : DeclPair old new i j) {k l : ℕ}
       (kind-changed old new (p .accepted .0) (p .accepted .1) i j (p .here .0) (p .here .1))
 
   module _ (q : k ≡ l) where
-    kinds-agree : compareDecls (reading old new) (declIn old i) (declIn new j) ≡ compareKind k (reading old new) (declIn old i) (declIn new j)
-    unfolding compareDecls
-    kinds-agree = rw (eq-eqb _ _ (sym e ∙ q ∙ f), e)
+    kinds-agree : compareDecls (reading old new) (declIn old i) (declIn new j) ≡ compareKind (kindOf k) (reading old new) (declIn old i) (declIn new j)
+    unfolding compareDecls compareAlike
+    kinds-agree = rw (eq-eqb _ _ (sym e ∙ q ∙ f), e) (append-nil _)
 
     module _ {m : Mode} {d : List ℕ} {t : Tally} where
       -- what comparing two of one kind asks, and gives
       pub agree-asks :
           Ready m d t (compareDecls (reading old new) (declIn old i) (declIn new j))
-          → KindPair k old new i j × Ready m d t (compareKind k (reading old new) (declIn old i) (declIn new j))
+          → KindPair k old new i j × Ready m d t (compareKind (kindOf k) (reading old new) (declIn old i) (declIn new j))
       agree-asks a = rw (← kinds-agree) (record { pair = p; kinds = (sym e, sym f ∙ sym q) }, a)
 
       pub agree-ran : {u : Tally} {d′ : List ℕ}
-          → Ran m d t (compareKind k (reading old new) (declIn old i) (declIn new j)) u d′
+          → Ran m d t (compareKind (kindOf k) (reading old new) (declIn old i) (declIn new j)) u d′
           → Ran m d t (compareDecls (reading old new) (declIn old i) (declIn new j)) u d′
       agree-ran a = rw kinds-agree a
 
@@ -44,23 +45,27 @@ module _ {old new : List ℕ} {i j : ℕ} (p : DeclPair old new i j) {k l : ℕ}
 
 module _ {old new : List ℕ} {i j kind : ℕ} (p : KindPair kind old new i j) {k : ℕ} (e : kind ≡ k) {m : Mode} {d : List ℕ} {t : Tally} where
   pub kind-asks :
-      Ready m d t (compareKind kind (reading old new) (declIn old i) (declIn new j))
-      → KindPair k old new i j × Ready m d t (compareKind k (reading old new) (declIn old i) (declIn new j))
+      Ready m d t (compareKind (kindOf kind) (reading old new) (declIn old i) (declIn new j))
+      → KindPair k old new i j × Ready m d t (compareKind (kindOf k) (reading old new) (declIn old i) (declIn new j))
   kind-asks a = rw (← e) (p, a)
 
   pub kind-ran : {u : Tally} {d′ : List ℕ}
-      → Ran m d t (compareKind k (reading old new) (declIn old i) (declIn new j)) u d′
-      → Ran m d t (compareKind kind (reading old new) (declIn old i) (declIn new j)) u d′
+      → Ran m d t (compareKind (kindOf k) (reading old new) (declIn old i) (declIn new j)) u d′
+      → Ran m d t (compareKind (kindOf kind) (reading old new) (declIn old i) (declIn new j)) u d′
   kind-ran a = rw e a
 
 -- past the five that have a clause
-pub no-clause : (kind : ℕ) (r : Reader) (a b : Decl)
+pub no-clause : (kind : ℕ) (r : Context) (a b : Decl)
     → (kind ≡ 0 → ⊥) → (kind ≡ 1 → ⊥) → (kind ≡ 2 → ⊥) → (kind ≡ 3 → ⊥) → (kind ≡ 4 → ⊥)
-    → compareKind kind r a b ≡ []
-unfolding compareKind
+    → compareKind (kindOf kind) r a b ≡ []
+unfolding compareKind kindOf
 no-clause zero r a b n₀ n₁ n₂ n₃ n₄ = absurd (n₀ refl)
 no-clause (suc zero) r a b n₀ n₁ n₂ n₃ n₄ = absurd (n₁ refl)
 no-clause (suc (suc zero)) r a b n₀ n₁ n₂ n₃ n₄ = absurd (n₂ refl)
 no-clause (suc (suc (suc zero))) r a b n₀ n₁ n₂ n₃ n₄ = absurd (n₃ refl)
 no-clause (suc (suc (suc (suc zero)))) r a b n₀ n₁ n₂ n₃ n₄ = absurd (n₄ refl)
-no-clause (suc (suc (suc (suc (suc k))))) r a b n₀ n₁ n₂ n₃ n₄ = refl
+no-clause (suc (suc (suc (suc (suc zero))))) r a b n₀ n₁ n₂ n₃ n₄ = refl
+no-clause (suc (suc (suc (suc (suc (suc zero)))))) r a b n₀ n₁ n₂ n₃ n₄ = refl
+no-clause (suc (suc (suc (suc (suc (suc (suc zero))))))) r a b n₀ n₁ n₂ n₃ n₄ = refl
+no-clause (suc (suc (suc (suc (suc (suc (suc (suc zero)))))))) r a b n₀ n₁ n₂ n₃ n₄ = refl
+no-clause (suc (suc (suc (suc (suc (suc (suc (suc (suc k))))))))) r a b n₀ n₁ n₂ n₃ n₄ = refl

@@ -10,11 +10,11 @@ use Rattle.image.specs.Schema.{Name, Decl}
 use Rattle.parts.specs.Promise.{schemaOf, DeclHere, declIn}
 use Rattle.parts.specs.declared.Entry.{Entry}
 use Rattle.rules.specs.Survivors.{nameOf, declarations, viewOf}
-use Rattle.rules.specs.Types.{sameType}
 use Rattle.rules.specs.Changes.{Change}
 use Rattle.rules.specs.Clauses.{declRules, changes}
 use Rattle.rules.specs.Verdict.{alias, isAlias, aliasPair}
 use Rattle.survivors.specs.Answers.{Survives, Follows}
+use Rattle.rules.specs.Answer.{plainReading}
 use Rattle.items.specs.Pairs.{reading, BothAccepted}
 use Rattle.items.specs.Sides.{on, off}
 use Rattle.items.specs.declared.Side.{Side}
@@ -67,7 +67,7 @@ module _ (old new : List ℕ) where
   -- ---- all clauses
 
   unfoldable pub allChanges : List Change
-  allChanges = changes sameType (viewOf (schemaOf old)) (viewOf (schemaOf new))
+  allChanges = changes plainReading (viewOf (schemaOf old)) (viewOf (schemaOf new))
 
   -- ---- 11
 

@@ -5,6 +5,7 @@ use parts::decls::decl_name;
 use parts::entries::entry;
 use parts::entries::id_at;
 use parts::entries::id_count;
+use parts::kinds::ALIAS;
 use survivors::decls::survivor;
 ghost use mathlib.Core.Path.{_≡_};
 ghost use Rattle.parts.specs.Promise.{DeclHere, declIn, entryDecl, EntryHere};
@@ -19,7 +20,7 @@ fn is_alias(image: &[u8], at: Entry) -> bool
     let Entry::Body(body) = at else {
         return false;
     };
-    decl_kind(image, body) == 6
+    decl_kind(image, body) == ALIAS
 }
 
 // Whether the survivors of a name are generic aliases in both images.
@@ -43,7 +44,7 @@ fn aliases_of(old: &[u8], new: &[u8], at: Entry) -> bool
     let Entry::Body(body) = at else {
         return false;
     };
-    if decl_kind(old, body) != 6 {
+    if decl_kind(old, body) != ALIAS {
         return false;
     }
     aliases_at(old, new, body)

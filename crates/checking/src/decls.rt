@@ -13,8 +13,14 @@ use lines::sites::decl_removed;
 use lines::sites::kind_changed;
 use parts::Entry;
 use parts::decls::decl_kind;
+use parts::kinds::ENUM;
+use parts::kinds::FLAGS;
+use parts::kinds::MESSAGE;
+use parts::kinds::NEWTYPE;
+use parts::kinds::UNION;
 use tally::Tally;
 use text::Mode;
+ghost use Rattle.parts.specs.Kinds.{kindOf};
 ghost use Rattle.parts.specs.Promise.{declIn};
 ghost use Rattle.rules.specs.Clauses.{compareKind, compareDecls};
 ghost use Rattle.tally.specs.Reporting.{Ready, Ran};
@@ -33,15 +39,15 @@ fn compare_kind(
     i: usize,
     j: usize,
 ) -> Tally
-    requires { ⌜ KindPair kind (now old) (now new) i j × Ready mode (now out) t (compareKind kind (reading (now old) (now new)) (declIn (now old) i) (declIn (now new) j)) ⌝ }
-    ensures { λ r. ⌜ Ran mode (now (out .entry)) t (compareKind kind (reading (now (old .entry)) (now (new .entry))) (declIn (now (old .entry)) i) (declIn (now (new .entry)) j)) r (now (out .exit)) ⌝ }
+    requires { ⌜ KindPair kind (now old) (now new) i j × Ready mode (now out) t (compareKind (kindOf kind) (reading (now old) (now new)) (declIn (now old) i) (declIn (now new) j)) ⌝ }
+    ensures { λ r. ⌜ Ran mode (now (out .entry)) t (compareKind (kindOf kind) (reading (now (old .entry)) (now (new .entry))) (declIn (now (old .entry)) i) (declIn (now (new .entry)) j)) r (now (out .exit)) ⌝ }
 {
     match kind {
-        0 => compare_messages(mode, old, new, out, t, i, j),
-        1 => compare_enums(mode, old, new, out, t, i, j),
-        2 => compare_flags(mode, old, new, out, t, i, j),
-        3 => compare_unions(mode, old, new, out, t, i, j),
-        4 => compare_newtypes(mode, old, new, out, t, i, j),
+        MESSAGE => compare_messages(mode, old, new, out, t, i, j),
+        ENUM => compare_enums(mode, old, new, out, t, i, j),
+        FLAGS => compare_flags(mode, old, new, out, t, i, j),
+        UNION => compare_unions(mode, old, new, out, t, i, j),
+        NEWTYPE => compare_newtypes(mode, old, new, out, t, i, j),
         // Config, trait, impl: silent; so is a generic alias, of which a pair is refused.
         _ => t,
     }

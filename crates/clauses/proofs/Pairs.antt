@@ -2,7 +2,7 @@
 use mathlib.Core.Path.{_≡_, refl, _∙_}
 use mathlib.Core.Bool.{not, _&&_, Bool·beq}
 use mathlib.Core.Option.{none, some}
-use mathlib.Core.List.{List, [], _∷_, _++_}
+use mathlib.Core.List.{List, [], _∷_, _++_, append-nil}
 use Prim.Native.Nat.{ℕ}
 use lib.Dec.{eqb, ltb}
 use Rattle.image.specs.Words.{bytes}
@@ -13,7 +13,7 @@ use Rattle.parts.specs.declared.Shape.{Shape}
 use Rattle.parts.specs.declared.Run.{Run}
 use Rattle.parts.proofs.Promise.{item-bare, field-type-here, inner-here, message-listed, enum-listed, flags-listed, union-listed, variant-listed}
 use Rattle.rules.specs.Equal.{sameOption, sameName}
-use Rattle.rules.specs.Types.{sameType}
+use Rattle.rules.specs.Answer.{plainReading}
 use Rattle.rules.specs.Survivors.{variantOrdinal, variantMap}
 use Rattle.rules.specs.Changes.{Change, quoted}
 use Rattle.rules.specs.Clauses.{compareTypes, fieldText, compareFieldNames, sameEncoding, compareEncodings, compareDeprecated, compareFields, fieldRules, compareFieldSets, compareMessages, enumRules, compareNonExhaustive, compareEnums, flagsRules, compareFlags, unionRules, compareUnions, compareNewtypes}
@@ -63,7 +63,7 @@ module _ {old new : List ℕ} {c : Scope} {i j : ℕ} (p : FieldPair old new c i
       (typesDiffer old new (typePlace old i) (typePlace new j))
       (compareTypes (reading old new) (declarationOf old new c) (some (fieldIn new j .name)) (fieldText (fieldIn new j))
       (fieldIn old i .type) (fieldIn new j .type))
-  type-changed = field-type-changed old new (p .accepted .0) (p .accepted .1) c (p .scope) i j (p .here .0) (p .here .1) sameType
+  type-changed = field-type-changed old new (p .accepted .0) (p .accepted .1) c (p .scope) i j (p .here .0) (p .here .1) plainReading
 
   pub encoding-changed : Reports old new (fieldEncodingChanged c i j)
       (not (sameEncoding (fieldIn old i .encoding) (fieldIn new j .encoding) && sameOption eqb (fieldIn old i .limit) (fieldIn new j .limit)))
@@ -126,7 +126,7 @@ module _ {old new : List ℕ} {a b : Run} {k i j : ℕ} where
       let w = over (fieldItems (Scope.Variant d i) m n) {xs = variantIn old i .fields} {ys = variantIn new j .fields}
       (p .inside .accepted) (p .inside .owner, p .here .0)
       (rw q (variant-listed old i (p .here .0))) (rw r (variant-listed new j (p .here .1))) in
-      record { inside = w .inside; are = p .are ∙ w .are }
+      record { inside = w .inside; are = p .are ∙ append-nil _ ∙ w .are }
 
 -- ---- two declarations
 
@@ -146,7 +146,7 @@ module _ {old new : List ℕ} {i j : ℕ} (p : KindPair 4 old new i j) where
       (typesDiffer old new (innerPlace old i) (innerPlace new j))
       (ofPair compareNewtypes old new i j)
   inner-changed =
-      newtype-changed old new (p .pair .accepted .0) (p .pair .accepted .1) i j (p .pair .here .0) (p .pair .here .1) (p .kinds .0) (p .kinds .1) sameType
+      newtype-changed old new (p .pair .accepted .0) (p .pair .accepted .1) i j (p .pair .here .0) (p .pair .here .1) (p .kinds .0) (p .kinds .1) plainReading
 
   pub inners-here : TypeHere 32 old (innerPlace old i) × TypeHere 32 new (innerPlace new j)
   inners-here = (inner-here old i (p .pair .here .0) (p .kinds .0), inner-here new j (p .pair .here .1) (p .kinds .1))

@@ -5,15 +5,15 @@ use Prim.Native.Nat.{ℕ}
 use Rattle.image.specs.Schema.{Name, Decl}
 use Rattle.parts.specs.Promise.{Accepted, schemaOf, DeclHere, declIn, ItemHere}
 use Rattle.parts.specs.declared.Shape.{Shape}
-use Rattle.rules.specs.Types.{sameType}
 use Rattle.rules.specs.Changes.{Change}
-use Rattle.rules.specs.Clauses.{Reader, reader}
+use Rattle.rules.specs.Clauses.{Context, context}
+use Rattle.rules.specs.Answer.{plainReading}
 use Rattle.details.specs.Details.{ScopeHere}
 use Rattle.details.specs.declared.Scope.{Scope}
 
 -- types are read as document 01 says, each with its own image's registry
-abbrev pub reading : List ℕ → List ℕ → Reader
-reading old new = reader sameType (schemaOf old .registry) (schemaOf new .registry)
+abbrev pub reading : List ℕ → List ℕ → Context
+reading old new = context plainReading (schemaOf old .registry) (schemaOf new .registry)
 
 abbrev pub BothAccepted : List ℕ → List ℕ → Type 0
 BothAccepted old new = Accepted old × Accepted new
@@ -29,7 +29,7 @@ pub record KindPair (kind : ℕ) (old new : List ℕ) (i j : ℕ) : Type 0 where
   pub kinds : (declIn old i .kind ≡ kind) × (declIn new j .kind ≡ kind)
 
 -- what a clause reports of them, under the old one's name
-abbrev pub ofPair : (Reader → Name → Decl → Decl → List Change) → List ℕ → List ℕ → ℕ → ℕ → List Change
+abbrev pub ofPair : (Context → Name → Decl → Decl → List Change) → List ℕ → List ℕ → ℕ → ℕ → List Change
 ofPair clause old new i j = clause (reading old new) (declIn old i .name) (declIn old i) (declIn new j)
 
 -- two fields, of what a scope names
