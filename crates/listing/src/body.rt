@@ -17,12 +17,14 @@ pub struct Reader<'a> {
     pub at: usize,
 }
 
+// A reader at the start of a body.
 pub fn new<'a>(src: &'a [u8]) -> Reader<'a>
     ensures { λ r. ⌜ (r .src ≡ src .entry) × (r .at ≡ 0) ⌝ }
 {
     Reader { src, at: 0 }
 }
 
+// The kind of the declaration that starts at the position.
 pub fn kind<'a>(r: Reader<'a>) -> u8
     requires { ⌜ DeclHere (now (r .src)) (r .at) ⌝ }
     ensures { λ k. ⌜ k ≡ declIn (now (r .entry .src)) (r .entry .at) .kind ⌝ }
@@ -30,6 +32,7 @@ pub fn kind<'a>(r: Reader<'a>) -> u8
     decl_kind(r.src, r.at)
 }
 
+// Its name.
 pub fn name<'a>(r: Reader<'a>) -> &'a [u8]
     requires { ⌜ DeclHere (now (r .src)) (r .at) ⌝ }
     ensures { λ s. ⌜ now s ≡ declIn (now (r .entry .src)) (r .entry .at) .name ⌝ }

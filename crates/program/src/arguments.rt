@@ -11,6 +11,7 @@ pub fn is_option(word: &[u8]) -> bool {
     word.len() != 0 && word[0] == b'-'
 }
 
+// Whether a word asks for the contents of one image.
 pub fn is_list(word: &[u8]) -> bool {
     check::same(word, b"--list")
 }

@@ -4,6 +4,7 @@ ghost use Rattle.io.specs.Counts.{Counts};
 // One byte more than an image may have: a longer file is refused by 1, and its other bytes are not read.
 const ROOM: usize = 32769;
 
+// Room for an image, and for one byte more, by which a longer file is told.
 pub fn blank() -> [u8; ROOM] {
     [0; ROOM]
 }

@@ -39,6 +39,7 @@ pub fn print_refusal(number: u64, side: u64) {
     warn_unless(is_written);
 }
 
+// How the program is called.
 pub fn print_usage() {
     io::write_all(
         STDERR_FILENO,

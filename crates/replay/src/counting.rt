@@ -16,6 +16,7 @@ pub enum Step {
     Broken,
 }
 
+// One more.
 pub fn more(x: u64) -> u64 {
     std::num::wrapping_add_u64(x, 1)
 }

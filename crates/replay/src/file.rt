@@ -33,6 +33,7 @@ pub fn wide(x: u8) -> usize
     x as usize
 }
 
+// A number of one byte.
 pub fn read_u8(fd: i32) -> Number {
     let mut b = [0u8; 1];
     if !fill(fd, &mut b, 1) {
@@ -41,6 +42,7 @@ pub fn read_u8(fd: i32) -> Number {
     Number::Is(wide(b[0]))
 }
 
+// A number of four bytes, the lowest first.
 pub fn read_u32(fd: i32) -> Number {
     let mut b = [0u8; 4];
     if !fill(fd, &mut b, 4) {

@@ -6,6 +6,7 @@ ghost use mathlib.Core.Path.{_≡_};
 ghost use Rattle.rules.specs.Equal.{sameName, sameNames};
 ghost use Rattle.types.specs.Names.{NamesIn, namesIn};
 
+// Whether two names are the same bytes.
 pub fn same_name(a: &[u8], b: &[u8]) -> bool
     ensures { λ r. ⌜ r ≡ sameName (now (a .entry)) (now (b .entry)) ⌝ }
 {
