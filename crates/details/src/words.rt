@@ -66,7 +66,7 @@ pub fn put_word(mode: Mode, out: &mut [u8], at: usize, word: usize) -> usize
 
 // The word of a kind of declaration.
 pub fn put_kind(mode: Mode, out: &mut [u8], at: usize, kind: u8) -> usize
-    requires { ⌜ (kind ≤ (number implKind)) × Space mode (now out) at (length (kindWord kind)) ⌝ }
+    requires { ⌜ (kind ≤ number implKind) × Space mode (now out) at (length (kindWord kind)) ⌝ }
     ensures { λ r. ⌜ Puts mode (now (out .entry)) at (kindWord kind) r (now (out .exit)) ⌝ }
 {
     put_word(mode, out, at, DECLS + kind as usize)

@@ -2,11 +2,12 @@
 use mathlib.Core.Path.{_≡_}
 use mathlib.Core.List.{List, [], _++_}
 use Prim.Native.Nat.{ℕ, zero, suc}
+use lib.ListN.{length}
 use Rattle.image.specs.Schema.{Name}
 use Rattle.image.specs.Words.{bytes}
 use Rattle.parts.specs.Promise.{typeEnd}
 use Rattle.rules.specs.Text.{joined, showLeaf, showSize, showType}
-use Rattle.text.specs.Text.{Puts}
+use Rattle.text.specs.Text.{Space, Puts}
 use Rattle.text.specs.declared.Mode.{Mode}
 use Rattle.types.specs.Resolved.{nodeIn, typeIn}
 use Rattle.display.specs.declared.Shown.{Shown}
@@ -23,6 +24,10 @@ repeated (suc n) text = text ++ repeated n text
 -- the text of the type whose node stands at a place of s: without inner types, its size, and whole
 abbrev pub leafText : List ℕ → ℕ → List ℕ
 leafText s node = showLeaf (nodeIn s node)
+
+-- there is room for the first
+abbrev pub LeafSpace : Mode → List ℕ → ℕ → List ℕ → ℕ → Type 0
+LeafSpace mode d at s node = Space mode d at (length (leafText s node))
 
 abbrev pub sizeText : List ℕ → ℕ → List ℕ
 sizeText s node = showSize (nodeIn s node)

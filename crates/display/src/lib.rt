@@ -33,7 +33,7 @@ ghost use Rattle.rules.specs.Text.{showName};
 ghost use Rattle.text.specs.Text.{Space, Puts};
 ghost use Rattle.types.specs.Names.{LabelNames};
 ghost use Rattle.types.specs.Resolved.{namedBy};
-ghost use Rattle.display.specs.Display.{leafText, sizeText, typeText, Displayed};
+ghost use Rattle.display.specs.Display.{LeafSpace, leafText, sizeText, typeText, Displayed};
 
 // The place in the buffer after a type's text, and the place in the image after the type.
 struct Shown {
@@ -54,7 +54,7 @@ fn named_display(mode: Mode, image: &[u8], out: &mut [u8], at: usize, id: u32) -
 
 // `u3`, `i5`.
 fn sub_byte_display(mode: Mode, image: &[u8], out: &mut [u8], at: usize, node: usize) -> usize
-    requires { ⌜ LabelHere (now image) node × (labelIn (now image) node .tag ≡ (number subByteTag)) × Space mode (now out) at (length (leafText (now image) node)) ⌝ }
+    requires { ⌜ LabelHere (now image) node × (labelIn (now image) node .tag ≡ number subByteTag) × LeafSpace mode (now out) at (now image) node ⌝ }
     ensures { λ r. ⌜ Puts mode (now (out .entry)) at (leafText (now (image .entry)) node) r (now (out .exit)) ⌝ }
 {
     let signed = put_word(mode, out, at, b"u i ", type_code(image, node));
@@ -77,7 +77,7 @@ fn label_names(image: &[u8], node: usize) -> Run
 
 // `bits { a, b }`.
 fn bits_display(mode: Mode, image: &[u8], out: &mut [u8], at: usize, node: usize) -> usize
-    requires { ⌜ LabelHere (now image) node × ((number namedTag) < labelIn (now image) node .tag) × Space mode (now out) at (length (leafText (now image) node)) ⌝ }
+    requires { ⌜ LabelHere (now image) node × (number namedTag < labelIn (now image) node .tag) × LeafSpace mode (now out) at (now image) node ⌝ }
     ensures { λ r. ⌜ Puts mode (now (out .entry)) at (leafText (now (image .entry)) node) r (now (out .exit)) ⌝ }
 {
     let opened = put_text(mode, out, at, b"bits { ");
@@ -87,7 +87,7 @@ fn bits_display(mode: Mode, image: &[u8], out: &mut [u8], at: usize, node: usize
 
 // A type without inner types.
 fn leaf_display(mode: Mode, image: &[u8], out: &mut [u8], at: usize, node: usize) -> usize
-    requires { ⌜ Accepted (now image) × LabelHere (now image) node × Space mode (now out) at (length (leafText (now image) node)) ⌝ }
+    requires { ⌜ Accepted (now image) × LabelHere (now image) node × LeafSpace mode (now out) at (now image) node ⌝ }
     ensures { λ r. ⌜ Puts mode (now (out .entry)) at (leafText (now (image .entry)) node) r (now (out .exit)) ⌝ }
 {
     let tag = type_tag(image, node);

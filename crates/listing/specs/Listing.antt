@@ -3,11 +3,12 @@ use mathlib.Core.Path.{_≡_}
 use mathlib.Core.Option.{Option, none, some}
 use mathlib.Core.List.{List, [], _∷_, _++_}
 use Prim.Native.Nat.{ℕ, suc}
-use lib.ListN.{length}
+use lib.ListN.{length, getD}
 use Rattle.image.specs.Schema.{Name, Decl, Schema}
 use Rattle.image.specs.Words.{bytes, kindWord}
 use Rattle.image.specs.Parse.{Parsed, ok, no}
 use Rattle.image.specs.Image.{readImage}
+use Rattle.parts.specs.Promise.{schemaOf}
 use Rattle.text.specs.Decimal.{decimal}
 use Rattle.rules.specs.Outcome.{Outcome, refused, textOnly, select, fit, textLength, written}
 use Rattle.parts.specs.Codes.{number, oldSide}
@@ -30,6 +31,10 @@ entryText id (some d) = entryLine id d
 unfoldable pub linesFrom : ℕ → List (Option Decl) → List ℕ
 linesFrom id [] = []
 linesFrom id (e ∷ es) = entryText id e ++ linesFrom (suc id) es
+
+-- of an entry of an accepted image
+abbrev pub entryIn : List ℕ → ℕ → List ℕ
+entryIn image id = entryText id (getD (schemaOf image .registry) id none)
 
 unfoldable pub listing : Schema → List ℕ
 listing x = linesFrom 0 (x .registry)

@@ -13,18 +13,17 @@ use text::Mode;
 use text::start_in;
 use verdicts::Verdict;
 ghost use mathlib.Core.Path.{_≡_};
-ghost use mathlib.Core.Option.{none};
 ghost use Prim.Native.Nat.{_<_};
-ghost use lib.ListN.{length, getD};
+ghost use lib.ListN.{length};
 ghost use Rattle.parts.specs.Promise.{Accepted, schemaOf};
 ghost use Rattle.text.specs.Text.{Space, Puts};
 ghost use Rattle.verdicts.specs.Verdicts.{verdictIs};
-ghost use Rattle.listing.specs.Listing.{entryText, listing, outcome, Wrote};
+ghost use Rattle.listing.specs.Listing.{entryIn, listing, outcome, Wrote};
 
 // The line of an entry, after the lines before it; nothing for an empty entry.
 fn put_one(mode: Mode, image: &[u8], out: &mut [u8], at: usize, id: usize) -> usize
-    requires { ⌜ Accepted (now image) × (id < length (schemaOf (now image) .registry)) × Space mode (now out) at (length (entryText id (getD (schemaOf (now image) .registry) id none))) ⌝ }
-    ensures { λ r. ⌜ Puts mode (now (out .entry)) at (entryText id (getD (schemaOf (now (image .entry)) .registry) id none)) r (now (out .exit)) ⌝ }
+    requires { ⌜ Accepted (now image) × (id < length (schemaOf (now image) .registry)) × Space mode (now out) at (length (entryIn (now image) id)) ⌝ }
+    ensures { λ r. ⌜ Puts mode (now (out .entry)) at (entryIn (now (image .entry)) id) r (now (out .exit)) ⌝ }
 {
     let body = parts::entries::body(image, id);
     let count = body.count;

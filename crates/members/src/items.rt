@@ -42,7 +42,7 @@ fn items_at(image: &[u8], at: usize) -> Run
 
 // The items of a message, an enum, flags or a union.
 pub fn decl_items(image: &[u8], at: usize) -> Run
-    requires { ⌜ DeclHere (now image) at × (declIn (now image) at .kind ≤ (number unionKind)) ⌝ }
+    requires { ⌜ DeclHere (now image) at × (declIn (now image) at .kind ≤ number unionKind) ⌝ }
     ensures { λ r. ⌜ r ≡ itemsIn (now (image .entry)) at ⌝ }
 {
     let end = name_end(image, at + 1);

@@ -57,7 +57,7 @@ pub fn non_exhaustive(image: &[u8], at: usize) -> bool
 
 // Where a newtype's type stands.
 pub fn inner_type(image: &[u8], at: usize) -> usize
-    requires { ⌜ DeclHere (now image) at × (declIn (now image) at .kind ≡ (number newtypeKind)) ⌝ }
+    requires { ⌜ DeclHere (now image) at × (declIn (now image) at .kind ≡ number newtypeKind) ⌝ }
     ensures { λ r. ⌜ r ≡ innerPlace (now (image .entry)) at ⌝ }
 {
     name_end(image, at + 1)

@@ -19,7 +19,7 @@ pub fn type_tag(image: &[u8], at: usize) -> u8
 
 // The code of a primitive or a semantic type; of a sub-byte, whether it is signed.
 pub fn type_code(image: &[u8], at: usize) -> u8
-    requires { ⌜ LabelHere (now image) at × (labelIn (now image) at .tag ≤ (number semanticTag)) ⌝ }
+    requires { ⌜ LabelHere (now image) at × (labelIn (now image) at .tag ≤ number semanticTag) ⌝ }
     ensures { λ r. ⌜ r ≡ labelIn (now (image .entry)) at .first ⌝ }
 {
     image[at + 1]
@@ -27,7 +27,7 @@ pub fn type_code(image: &[u8], at: usize) -> u8
 
 // The bits of a sub-byte.
 pub fn type_bits(image: &[u8], at: usize) -> u8
-    requires { ⌜ LabelHere (now image) at × (labelIn (now image) at .tag ≡ (number subByteTag)) ⌝ }
+    requires { ⌜ LabelHere (now image) at × (labelIn (now image) at .tag ≡ number subByteTag) ⌝ }
     ensures { λ r. ⌜ r ≡ labelIn (now (image .entry)) at .second ⌝ }
 {
     image[at + 2]
@@ -35,7 +35,7 @@ pub fn type_bits(image: &[u8], at: usize) -> u8
 
 // The id of a named type.
 pub fn type_id(image: &[u8], at: usize) -> u32
-    requires { ⌜ LabelHere (now image) at × (labelIn (now image) at .tag ≡ (number namedTag)) ⌝ }
+    requires { ⌜ LabelHere (now image) at × (labelIn (now image) at .tag ≡ number namedTag) ⌝ }
     ensures { λ r. ⌜ r ≡ labelIn (now (image .entry)) at .first ⌝ }
 {
     u32_at(image, at + 1)
@@ -43,7 +43,7 @@ pub fn type_id(image: &[u8], at: usize) -> u32
 
 // The size of a fixed array.
 pub fn type_size(image: &[u8], at: usize) -> u64
-    requires { ⌜ LabelHere (now image) at × (labelIn (now image) at .tag ≡ (number fixedArrayTag)) ⌝ }
+    requires { ⌜ LabelHere (now image) at × (labelIn (now image) at .tag ≡ number fixedArrayTag) ⌝ }
     ensures { λ r. ⌜ r ≡ labelIn (now (image .entry)) at .first ⌝ }
 {
     image::numbers::number(image, at + 1, 8)
@@ -51,7 +51,7 @@ pub fn type_size(image: &[u8], at: usize) -> u64
 
 // The names of bits.
 pub fn bit_names(image: &[u8], at: usize) -> Run
-    requires { ⌜ LabelHere (now image) at × (labelIn (now image) at .tag ≡ (number bitsTag)) ⌝ }
+    requires { ⌜ LabelHere (now image) at × (labelIn (now image) at .tag ≡ number bitsTag) ⌝ }
     ensures { λ r. ⌜ r ≡ bitsIn (now (image .entry)) at ⌝ }
 {
     Run {

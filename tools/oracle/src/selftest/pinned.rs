@@ -61,7 +61,7 @@ const FIELDS: [(&str, &str); 14] = [
     ),
     ("f : distance verdictOf b a ≡ 2", "b a Distance(2)"),
     (
-        "f : counted verdictOf FieldRemoved b a ≡ 2",
+        "f : countBetween verdictOf (kindAt FieldRemoved) b a ≡ 2",
         "b a Count(FieldRemoved, 2)",
     ),
     (
@@ -77,7 +77,7 @@ const FIELDS: [(&str, &str); 14] = [
     ("f : told a b ≡ lines (x ∷ [])", ""),
     ("f : distance verdictOf a b ≡ two", ""),
     ("f : distance verdictOf a b", ""),
-    ("f : counted verdictOf NothingAdded a b ≡ 1", ""),
+    ("f : countBetween verdictOf (kindAt NothingAdded) a b ≡ 1", ""),
     ("f : 1 ≡ 1", ""),
     ("f", ""),
 ];
