@@ -17,6 +17,8 @@ use Rattle.rules.specs.Report.{report}
 use Rattle.rules.specs.Answer.{bothSides, Outcome, refused, compared, comparePair, acceptNew, acceptOld, outcome, checked, fit, reported, written}
 use Rattle.rules.proofs.Answer.{Case, old-refused, new-refused, pair-refused, verdict, case}
 use Rattle.rules.proofs.Bound.{report-bound}
+use Rattle.types.specs.Readings.{readingOf}
+use Rattle.types.specs.declared.Reading.the-variants.{Plain}
 use Rattle.items.specs.Pairs.{BothAccepted}
 use Rattle.checking.specs.Decls.{allChanges, bothAliases}
 use Rattle.compat.specs.Verdicts.{refusal, verdictIs, Passed, Reported}
@@ -31,8 +33,8 @@ module _ (old new : List ℕ) where
   unfolding bothAliases comparePair verdictIs
   pair-refused-is e = rw e
 
-  pub pair-compared : bothAliases old new ≡ false → compared (allChanges old new) ≡ pair
-  unfolding bothAliases allChanges comparePair
+  pub pair-compared : bothAliases old new ≡ false → compared (allChanges Plain old new) ≡ pair
+  unfolding bothAliases allChanges readingOf comparePair
   pair-compared e = rw e
 
   -- ---- of two that are accepted
@@ -42,14 +44,14 @@ module _ (old new : List ℕ) where
     unfolding checked outcome acceptOld acceptNew
     checked-pair = rw (accepted-read old (h .0) .1, accepted-read new (h .1) .1)
 
-    report-small : length (report (allChanges old new)) < 2 ^ 62
-    unfolding allChanges
+    report-small : length (report (allChanges Plain old new)) < 2 ^ 62
+    unfolding allChanges readingOf
     report-small = report-bound old new _ _ _ _ (accepted-read old (h .0) .1) (accepted-read new (h .1) .1)
 
-    pub measure-space : {d : List ℕ} → Space Measure d 0 (length (report (allChanges old new)))
+    pub measure-space : {d : List ℕ} → Space Measure d 0 (length (report (allChanges Plain old new)))
     measure-space = space-measure (omega (arith, report-small))
 
-    write-space : {d : List ℕ} → length (report (allChanges old new)) ≤ length d → Space Write d 0 (length (report (allChanges old new)))
+    write-space : {d : List ℕ} → length (report (allChanges Plain old new)) ≤ length d → Space Write d 0 (length (report (allChanges Plain old new)))
     write-space l = space-write (omega (arith, report-small)) (omega arith)
 
   -- ---- the report call, by the verdict
@@ -57,10 +59,10 @@ module _ (old new : List ℕ) where
   -- a verdict with number 0 is that of the changes of two accepted images
   record Told (o : Outcome) : Type 0 where
     both : BothAccepted old new
-    is : o ≡ compared (allChanges old new)
+    is : o ≡ compared (allChanges Plain old new)
 
   told : verdictIs (checked old new) .number ≡ 0 → Told (checked old new)
-  unfolding checked verdictIs refusal allChanges
+  unfolding checked verdictIs refusal allChanges readingOf
   told = go (case viewOf sameType old new)
     where
       go : {o : Outcome} → Case viewOf sameType old new o → verdictIs o .number ≡ 0 → Told o
@@ -85,7 +87,7 @@ module _ (old new : List ℕ) where
       this : Told (checked old new)
       this = told (sym (ap (λ (u : Verdict). u .number) e) ∙ z)
 
-      size : v .length ≡ length (report (allChanges old new))
+      size : v .length ≡ length (report (allChanges Plain old new))
       unfolding verdictIs
       size = ap (λ (u : Verdict). u .length) (e ∙ ap verdictIs (this .is))
 
@@ -93,18 +95,18 @@ module _ (old new : List ℕ) where
       pub report-full : {r : Verdict} → length d < v .length → r ≡ refusal 12 bothSides → Reported old new d r d
       unfolding reported verdictIs fit written
       report-full l q =
-          let full = lt-leb (length (report (allChanges old new))) (length d) (omega (arith, size)) in
+          let full = lt-leb (length (report (allChanges Plain old new))) (length d) (omega (arith, size)) in
           record { verdict = q ∙ rw (this .is, full); bytes = rw (this .is, full) }
 
       module _ (l : v .length ≤ length d) where
-        pub report-ready : BothAccepted old new × Space Write d 0 (length (report (allChanges old new)))
+        pub report-ready : BothAccepted old new × Space Write d 0 (length (report (allChanges Plain old new)))
         report-ready = (this .both, write-space (this .both) (omega (arith, size)))
 
-        pub report-passed : {r : Verdict} {d′ : List ℕ} → Passed Write d (allChanges old new) r d′ → Reported old new d r d′
+        pub report-passed : {r : Verdict} {d′ : List ℕ} → Passed Write d (allChanges Plain old new) r d′ → Reported old new d r d′
         unfolding reported fit written putIn put
         report-passed p =
-            let fits = le-leb (length (report (allChanges old new))) (length d) (omega (arith, size)) in
+            let fits = le-leb (length (report (allChanges Plain old new))) (length d) (omega (arith, size)) in
             record {
               verdict = p .verdict ∙ rw (this .is, fits);
-              bytes = p .bytes ∙ rw (this .is, fits, zero-add (length (report (allChanges old new))));
+              bytes = p .bytes ∙ rw (this .is, fits, zero-add (length (report (allChanges Plain old new))));
             }

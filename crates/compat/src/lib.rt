@@ -4,10 +4,12 @@ pub mod verdicts;
 use crate::verdicts::Verdict;
 use checking::aliases::alias_pair;
 use checking::check;
+use items::Walk;
 use lines::reporting::put_last_line;
 use reader::Acceptance;
 use reader::read_image;
 use text::Mode;
+use types::Reading;
 ghost use mathlib.Core.Path.{_≡_};
 ghost use lib.ListN.{length};
 ghost use Rattle.parts.specs.Promise.{Accepted, schemaOf};
@@ -28,11 +30,12 @@ const NEW: u8 = 2;
 const BOTH: u8 = 3;
 
 // One pass over two accepted images: the lines of the changes, and the last.
-fn pass(mode: Mode, old: &[u8], new: &[u8], out: &mut [u8]) -> Verdict
-    requires { ⌜ BothAccepted (now old) (now new) × Space mode (now out) 0 (length (report (allChanges (now old) (now new)))) ⌝ }
-    ensures { λ r. ⌜ Passed mode (now (out .entry)) (allChanges (now (old .entry)) (now (new .entry))) r (now (out .exit)) ⌝ }
+fn pass(walk: Walk, old: &[u8], new: &[u8], out: &mut [u8]) -> Verdict
+    requires { ⌜ BothAccepted (now old) (now new) × Space (walk .mode) (now out) 0 (length (report (allChanges (walk .reading) (now old) (now new)))) ⌝ }
+    ensures { λ r. ⌜ Passed (walk .mode) (now (out .entry)) (allChanges (walk .reading) (now (old .entry)) (now (new .entry))) r (now (out .exit)) ⌝ }
 {
-    let t = check(mode, old, new, out);
+    let t = check(walk, old, new, out);
+    let mode = walk.mode;
     let length = put_last_line(mode, out, t);
     Verdict::of_tally(t, length)
 }
@@ -46,7 +49,11 @@ fn compare(old: &[u8], new: &[u8]) -> Verdict
         return Verdict::refused(11, BOTH);
     }
     let mut none = [0u8; 1];
-    pass(Mode::Measure, old, new, &mut none)
+    let walk = Walk {
+        mode: Mode::Measure,
+        reading: Reading::Plain,
+    };
+    pass(walk, old, new, &mut none)
 }
 
 // The new image, after the old one is accepted.
@@ -81,7 +88,11 @@ pub fn report(old: &[u8], new: &[u8], out: &mut [u8]) -> Verdict
     if out.len() < v.length {
         return Verdict::refused(12, BOTH);
     }
-    pass(Mode::Write, old, new, out)
+    let walk = Walk {
+        mode: Mode::Write,
+        reading: Reading::Plain,
+    };
+    pass(walk, old, new, out)
 }
 
 // One value of the verdict, by its selector.

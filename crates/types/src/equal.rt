@@ -1,4 +1,5 @@
 // Whether two types are equal, each at its place in its own image.
+use crate::Reading;
 use crate::names::same_name;
 use crate::names::same_names;
 use crate::nodes::inner_types;
@@ -19,6 +20,7 @@ ghost use Rattle.parts.specs.Promise.{Accepted, LabelHere, labelIn, TypeHere};
 ghost use Rattle.rules.specs.Equal.{sameNames};
 ghost use Rattle.rules.specs.Types.{equalLabel, sameType};
 ghost use Rattle.types.specs.Resolved.{namedBy, nodeIn, typeIn};
+ghost use Rattle.types.specs.Readings.{readingOf};
 ghost use Rattle.types.specs.Equality.{Compared};
 
 // Two types are equal, and these are the places after them; or they are different.
@@ -100,13 +102,23 @@ fn nodes_equal(a: &[u8], i: usize, b: &[u8], j: usize, left: usize) -> Equality
     nodes_equal(a, k, b, m, left - 1)
 }
 
-// Whether two types are equal: named types by their names, each from its own registry.
-pub fn types_equal(a: &[u8], i: usize, b: &[u8], j: usize) -> bool
+// Whether two types are equal as document 01 reads them: named types by their names, each from its own registry.
+fn plain_equal(a: &[u8], i: usize, b: &[u8], j: usize) -> bool
     requires { ⌜ Accepted (now a) × Accepted (now b) × TypeHere 32 (now a) i × TypeHere 32 (now b) j ⌝ }
     ensures { λ r. ⌜ r ≡ sameType (typeIn (now (a .entry)) i) (typeIn (now (b .entry)) j) ⌝ }
 {
     match nodes_equal(a, i, b, j, 32) {
         Equality::Equal(_, _) => true,
         Equality::Different => false,
+    }
+}
+
+// Whether two types are equal, as they are read. A reading more is a case more.
+pub fn types_equal(reading: Reading, a: &[u8], i: usize, b: &[u8], j: usize) -> bool
+    requires { ⌜ Accepted (now a) × Accepted (now b) × TypeHere 32 (now a) i × TypeHere 32 (now b) j ⌝ }
+    ensures { λ r. ⌜ r ≡ readingOf reading (typeIn (now (a .entry)) i) (typeIn (now (b .entry)) j) ⌝ }
+{
+    match reading {
+        Reading::Plain => plain_equal(a, i, b, j),
     }
 }
