@@ -12,11 +12,12 @@ use Rattle.parts.specs.declared.Entry.the-variants.{Body, Unresolvable}
 use Rattle.rules.specs.Clauses.{compareDecls, declRules}
 use Rattle.tally.specs.Reporting.{Ready, Ran}
 use Rattle.tally.specs.declared.Tally.{Tally}
+use Rattle.types.specs.declared.Reading.{Reading}
 use Rattle.survivors.specs.Answers.{Survives}
 use Rattle.survivors.proofs.Declarations.{survives-none, survives-body, survives-here}
 use Rattle.lines.specs.Clauses.{declRemoved, declAdded}
 use Rattle.lines.proofs.Clauses.{Reports, decl-removed, decl-added}
-use Rattle.items.specs.Pairs.{reading, DeclPair}
+use Rattle.items.specs.Pairs.{contextOf, DeclPair}
 use Rattle.items.specs.Sides.{on, off}
 use Rattle.items.specs.declared.Side.{Side}
 use Rattle.checking.specs.Decls.{lone, unmatchedIn, keptIn, DeclOn}
@@ -27,42 +28,42 @@ under e h = rw (← e) h
 
 -- ---- on one side only, where n stand on the other
 
-module _ {old new : List ℕ} {side : Side} {at : ℕ} (p : DeclOn old new side at) {n : List Decl} {q : Entry}
+module _ (reading : Reading) {old new : List ℕ} {side : Side} {at : ℕ} (p : DeclOn old new side at) {n : List Decl} {q : Entry}
     (k : Survives n (off side old new) (declIn (on side old new) at .name) q) where
-  pub stands-off : {j : ℕ} → q ≡ Body j → unmatchedIn old new n side at ≡ []
+  pub stands-off : {j : ℕ} → q ≡ Body j → unmatchedIn reading old new n side at ≡ []
   unfolding unmatchedIn unmatched
   stands-off e = rw (survives-body _ _ k e)
 
   module _ (e : q ≡ Unresolvable) where
-    alone : unmatchedIn old new n side at ≡ lone old new side (declIn (on side old new) at)
+    alone : unmatchedIn reading old new n side at ≡ lone reading old new side (declIn (on side old new) at)
     unfolding unmatchedIn unmatched
     alone = rw (survives-none _ _ k e)
 
-    pub removed : side ≡ Side.Old → Reports old new (declRemoved at) true (unmatchedIn old new n side at)
-    removed o = rw (alone, o) (decl-removed old new (p .accepted .0) (p .accepted .1) (reading old new) at (rw o at (p .here)))
+    pub removed : side ≡ Side.Old → Reports old new (declRemoved at) true (unmatchedIn reading old new n side at)
+    removed o = rw (alone, o) (decl-removed old new (p .accepted .0) (p .accepted .1) (contextOf reading old new) at (rw o at (p .here)))
 
-    pub added : side ≡ Side.New → Reports old new (declAdded at) true (unmatchedIn old new n side at)
-    added o = rw (alone, o) (decl-added old new (p .accepted .0) (p .accepted .1) (reading old new) at (rw o at (p .here)))
+    pub added : side ≡ Side.New → Reports old new (declAdded at) true (unmatchedIn reading old new n side at)
+    added o = rw (alone, o) (decl-added old new (p .accepted .0) (p .accepted .1) (contextOf reading old new) at (rw o at (p .here)))
 
 -- ---- on both, where n stand in the new image
 
-module _ {old new : List ℕ} {i : ℕ} (p : DeclOn old new Side.Old i) {n : List Decl} {q : Entry} (k : Survives n new (declIn old i .name) q) where
-  pub new-none : q ≡ Unresolvable → keptIn old new n i ≡ []
+module _ (reading : Reading) {old new : List ℕ} {i : ℕ} (p : DeclOn old new Side.Old i) {n : List Decl} {q : Entry} (k : Survives n new (declIn old i .name) q) where
+  pub new-none : q ≡ Unresolvable → keptIn reading old new n i ≡ []
   unfolding keptIn matched
   new-none e = rw (survives-none new _ k e)
 
   module _ {j : ℕ} (e : q ≡ Body j) where
-    both-kept : keptIn old new n i ≡ compareDecls (reading old new) (declIn old i) (declIn new j)
+    both-kept : keptIn reading old new n i ≡ compareDecls (contextOf reading old new) (declIn old i) (declIn new j)
     unfolding keptIn matched declRules
     both-kept = rw (survives-body new _ k e)
 
     module _ {m : Mode} {d : List ℕ} {t : Tally} where
       -- what comparing them asks, and gives
-      pub both-asks : Ready m d t (keptIn old new n i)
-          → DeclPair old new i j × Ready m d t (compareDecls (reading old new) (declIn old i) (declIn new j))
+      pub both-asks : Ready m d t (keptIn reading old new n i)
+          → DeclPair old new i j × Ready m d t (compareDecls (contextOf reading old new) (declIn old i) (declIn new j))
       both-asks w = rw (← both-kept) (record { accepted = p .accepted; here = (p .here, survives-here new _ k e) }, w)
 
       pub both-ran : {u : Tally} {d′ : List ℕ}
-          → Ran m d t (compareDecls (reading old new) (declIn old i) (declIn new j)) u d′
-          → Ran m d t (keptIn old new n i) u d′
+          → Ran m d t (compareDecls (contextOf reading old new) (declIn old i) (declIn new j)) u d′
+          → Ran m d t (keptIn reading old new n i) u d′
       both-ran w = rw both-kept w

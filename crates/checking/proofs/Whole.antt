@@ -9,6 +9,7 @@ use Rattle.parts.specs.Promise.{schemaOf}
 use Rattle.rules.specs.Survivors.{viewOf}
 use Rattle.rules.specs.Changes.{Change}
 use Rattle.rules.specs.Clauses.{compareNamespaces, changes}
+use Rattle.types.specs.declared.Reading.{Reading}
 use Rattle.tally.specs.Tallies.{noChange}
 use Rattle.tally.specs.Reporting.{Ready}
 use Rattle.tally.specs.declared.Tally.{Tally}
@@ -16,22 +17,22 @@ use Rattle.tally.proofs.Running.{Owed, owed-start}
 use Rattle.items.specs.declared.Side.{Side}
 use Rattle.checking.specs.Decls.{unmatchedDecls, keptDecls, allChanges}
 
-module _ (old new : List ℕ) where
+module _ (reading : Reading) (old new : List ℕ) where
   -- in the order of the report
   abbrev pub parts : List (List Change)
   parts =
       compareNamespaces (schemaOf old .namespace) (schemaOf new .namespace)
-      ∷ unmatchedDecls old new Side.Old
-      ∷ unmatchedDecls old new Side.New
-      ∷ keptDecls old new
+      ∷ unmatchedDecls reading old new Side.Old
+      ∷ unmatchedDecls reading old new Side.New
+      ∷ keptDecls reading old new
       ∷ []
 
-  all-parts : allChanges old new ≡ together parts
+  all-parts : allChanges reading old new ≡ together parts
   unfolding allChanges changes viewOf compare unmatchedDecls keptDecls together
   all-parts = refl
 
   -- from the tally of no change on
   pub parts-start : {m : Mode} {d : List ℕ} {t : Tally} → t ≡ noChange
-      → Ready m d noChange (allChanges old new)
-      → Owed m d noChange (allChanges old new) t d parts
+      → Ready m d noChange (allChanges reading old new)
+      → Owed m d noChange (allChanges reading old new) t d parts
   parts-start e a = rw e (owed-start all-parts a)

@@ -7,6 +7,7 @@ use clauses::messages::compare_messages;
 use clauses::newtypes::compare_newtypes;
 use clauses::unions::compare_unions;
 use items::Side;
+use items::Walk;
 use lines::reporting::emit;
 use lines::sites::decl_added;
 use lines::sites::decl_removed;
@@ -19,18 +20,14 @@ use parts::kinds::MESSAGE;
 use parts::kinds::NEWTYPE;
 use parts::kinds::UNION;
 use tally::Tally;
-use text::Mode;
-ghost use Rattle.parts.specs.Kinds.{kindOf};
-ghost use Rattle.parts.specs.Promise.{declIn};
-ghost use Rattle.rules.specs.Clauses.{compareKind, compareDecls};
 ghost use Rattle.tally.specs.Reporting.{Ready, Ran};
-ghost use Rattle.items.specs.Pairs.{reading, BothAccepted, DeclPair, KindPair};
+ghost use Rattle.items.specs.Pairs.{BothAccepted, DeclPair, KindPair};
 ghost use Rattle.items.specs.declared.Side.{Side};
-ghost use Rattle.checking.specs.Decls.{DeclOn, unmatchedDecls, unmatchedDecl, keptDecls, keptDecl};
+ghost use Rattle.checking.specs.Decls.{DeclOn, ofKind, ofDecls, unmatchedDecls, unmatchedDecl, keptDecls, keptDecl};
 
 // Two declarations of one kind.
 fn compare_kind(
-    mode: Mode,
+    walk: Walk,
     old: &[u8],
     new: &[u8],
     out: &mut [u8],
@@ -39,15 +36,15 @@ fn compare_kind(
     i: usize,
     j: usize,
 ) -> Tally
-    requires { ⌜ KindPair kind (now old) (now new) i j × Ready mode (now out) t (compareKind (kindOf kind) (reading (now old) (now new)) (declIn (now old) i) (declIn (now new) j)) ⌝ }
-    ensures { λ r. ⌜ Ran mode (now (out .entry)) t (compareKind (kindOf kind) (reading (now (old .entry)) (now (new .entry))) (declIn (now (old .entry)) i) (declIn (now (new .entry)) j)) r (now (out .exit)) ⌝ }
+    requires { ⌜ KindPair kind (now old) (now new) i j × Ready (walk .mode) (now out) t (ofKind (walk .reading) (now old) (now new) kind i j) ⌝ }
+    ensures { λ r. ⌜ Ran (walk .mode) (now (out .entry)) t (ofKind (walk .reading) (now (old .entry)) (now (new .entry)) kind i j) r (now (out .exit)) ⌝ }
 {
     match kind {
-        MESSAGE => compare_messages(mode, old, new, out, t, i, j),
-        ENUM => compare_enums(mode, old, new, out, t, i, j),
-        FLAGS => compare_flags(mode, old, new, out, t, i, j),
-        UNION => compare_unions(mode, old, new, out, t, i, j),
-        NEWTYPE => compare_newtypes(mode, old, new, out, t, i, j),
+        MESSAGE => compare_messages(walk, old, new, out, t, i, j),
+        ENUM => compare_enums(walk, old, new, out, t, i, j),
+        FLAGS => compare_flags(walk, old, new, out, t, i, j),
+        UNION => compare_unions(walk, old, new, out, t, i, j),
+        NEWTYPE => compare_newtypes(walk, old, new, out, t, i, j),
         // Config, trait, impl: silent; so is a generic alias, of which a pair is refused.
         _ => t,
     }
@@ -55,7 +52,7 @@ fn compare_kind(
 
 // Two declarations under one name.
 fn compare_decls(
-    mode: Mode,
+    walk: Walk,
     old: &[u8],
     new: &[u8],
     out: &mut [u8],
@@ -63,19 +60,20 @@ fn compare_decls(
     i: usize,
     j: usize,
 ) -> Tally
-    requires { ⌜ DeclPair (now old) (now new) i j × Ready mode (now out) t (compareDecls (reading (now old) (now new)) (declIn (now old) i) (declIn (now new) j)) ⌝ }
-    ensures { λ r. ⌜ Ran mode (now (out .entry)) t (compareDecls (reading (now (old .entry)) (now (new .entry))) (declIn (now (old .entry)) i) (declIn (now (new .entry)) j)) r (now (out .exit)) ⌝ }
+    requires { ⌜ DeclPair (now old) (now new) i j × Ready (walk .mode) (now out) t (ofDecls (walk .reading) (now old) (now new) i j) ⌝ }
+    ensures { λ r. ⌜ Ran (walk .mode) (now (out .entry)) t (ofDecls (walk .reading) (now (old .entry)) (now (new .entry)) i j) r (now (out .exit)) ⌝ }
 {
     let kind = decl_kind(old, i);
     if kind != decl_kind(new, j) {
+        let mode = walk.mode;
         return emit(mode, old, new, out, t, kind_changed(i, j));
     }
-    compare_kind(mode, old, new, out, t, kind, i, j)
+    compare_kind(walk, old, new, out, t, kind, i, j)
 }
 
 // The declaration at a place of a side: a change, if none stands under its name on the other.
 fn unmatched_decl(
-    mode: Mode,
+    walk: Walk,
     old: &[u8],
     new: &[u8],
     out: &mut [u8],
@@ -83,12 +81,13 @@ fn unmatched_decl(
     side: Side,
     at: usize,
 ) -> Tally
-    requires { ⌜ DeclOn (now old) (now new) side at × Ready mode (now out) t (unmatchedDecl (now old) (now new) side at) ⌝ }
-    ensures { λ r. ⌜ Ran mode (now (out .entry)) t (unmatchedDecl (now (old .entry)) (now (new .entry)) side at) r (now (out .exit)) ⌝ }
+    requires { ⌜ DeclOn (now old) (now new) side at × Ready (walk .mode) (now out) t (unmatchedDecl (walk .reading) (now old) (now new) side at) ⌝ }
+    ensures { λ r. ⌜ Ran (walk .mode) (now (out .entry)) t (unmatchedDecl (walk .reading) (now (old .entry)) (now (new .entry)) side at) r (now (out .exit)) ⌝ }
 {
     let Entry::Unresolvable = namesake_off(side, old, new, at) else {
         return t;
     };
+    let mode = walk.mode;
     match side {
         Side::Old => emit(mode, old, new, out, t, decl_removed(at)),
         Side::New => emit(mode, old, new, out, t, decl_added(at)),
@@ -97,15 +96,15 @@ fn unmatched_decl(
 
 // The declarations of a side that do not stand on the other.
 pub fn unmatched_decls(
-    mode: Mode,
+    walk: Walk,
     old: &[u8],
     new: &[u8],
     out: &mut [u8],
     t: Tally,
     side: Side,
 ) -> Tally
-    requires { ⌜ BothAccepted (now old) (now new) × Ready mode (now out) t (unmatchedDecls (now old) (now new) side) ⌝ }
-    ensures { λ r. ⌜ Ran mode (now (out .entry)) t (unmatchedDecls (now (old .entry)) (now (new .entry)) side) r (now (out .exit)) ⌝ }
+    requires { ⌜ BothAccepted (now old) (now new) × Ready (walk .mode) (now out) t (unmatchedDecls (walk .reading) (now old) (now new) side) ⌝ }
+    ensures { λ r. ⌜ Ran (walk .mode) (now (out .entry)) t (unmatchedDecls (walk .reading) (now (old .entry)) (now (new .entry)) side) r (now (out .exit)) ⌝ }
 {
     let mut tally = t;
     let mut after = Entry::Unresolvable;
@@ -113,25 +112,25 @@ pub fn unmatched_decls(
         let Entry::Body(at) = next_on(side, old, new, after) else {
             return tally;
         };
-        tally = unmatched_decl(mode, old, new, out, tally, side, at);
+        tally = unmatched_decl(walk, old, new, out, tally, side, at);
         after = Entry::Body(at);
     }
 }
 
 // The old declaration at a place: compared, if a new one stands under its name too.
-fn kept_decl(mode: Mode, old: &[u8], new: &[u8], out: &mut [u8], t: Tally, i: usize) -> Tally
-    requires { ⌜ DeclOn (now old) (now new) Side.Old i × Ready mode (now out) t (keptDecl (now old) (now new) i) ⌝ }
-    ensures { λ r. ⌜ Ran mode (now (out .entry)) t (keptDecl (now (old .entry)) (now (new .entry)) i) r (now (out .exit)) ⌝ }
+fn kept_decl(walk: Walk, old: &[u8], new: &[u8], out: &mut [u8], t: Tally, i: usize) -> Tally
+    requires { ⌜ DeclOn (now old) (now new) Side.Old i × Ready (walk .mode) (now out) t (keptDecl (walk .reading) (now old) (now new) i) ⌝ }
+    ensures { λ r. ⌜ Ran (walk .mode) (now (out .entry)) t (keptDecl (walk .reading) (now (old .entry)) (now (new .entry)) i) r (now (out .exit)) ⌝ }
 {
     let Entry::Body(j) = namesake_off(Side::Old, old, new, i) else {
         return t;
     };
-    compare_decls(mode, old, new, out, t, i, j)
+    compare_decls(walk, old, new, out, t, i, j)
 }
 
-pub fn kept_decls(mode: Mode, old: &[u8], new: &[u8], out: &mut [u8], t: Tally) -> Tally
-    requires { ⌜ BothAccepted (now old) (now new) × Ready mode (now out) t (keptDecls (now old) (now new)) ⌝ }
-    ensures { λ r. ⌜ Ran mode (now (out .entry)) t (keptDecls (now (old .entry)) (now (new .entry))) r (now (out .exit)) ⌝ }
+pub fn kept_decls(walk: Walk, old: &[u8], new: &[u8], out: &mut [u8], t: Tally) -> Tally
+    requires { ⌜ BothAccepted (now old) (now new) × Ready (walk .mode) (now out) t (keptDecls (walk .reading) (now old) (now new)) ⌝ }
+    ensures { λ r. ⌜ Ran (walk .mode) (now (out .entry)) t (keptDecls (walk .reading) (now (old .entry)) (now (new .entry))) r (now (out .exit)) ⌝ }
 {
     let mut tally = t;
     let mut after = Entry::Unresolvable;
@@ -139,7 +138,7 @@ pub fn kept_decls(mode: Mode, old: &[u8], new: &[u8], out: &mut [u8], t: Tally) 
         let Entry::Body(at) = next_on(Side::Old, old, new, after) else {
             return tally;
         };
-        tally = kept_decl(mode, old, new, out, tally, at);
+        tally = kept_decl(walk, old, new, out, tally, at);
         after = Entry::Body(at);
     }
 }

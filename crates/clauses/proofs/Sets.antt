@@ -12,6 +12,7 @@ use Rattle.rules.specs.Changes.{Change}
 use Rattle.tally.specs.Reporting.{Ready, Ran}
 use Rattle.tally.specs.declared.Tally.{Tally}
 use Rattle.tally.proofs.Running.{Owed}
+use Rattle.types.specs.declared.Reading.{Reading}
 use Rattle.survivors.specs.declared.Ordinal.{Ordinal}
 use Rattle.survivors.specs.declared.Ordinal.the-variants as ordinal
 use Rattle.survivors.specs.declared.Next.{Next}
@@ -24,20 +25,20 @@ use Rattle.items.proofs.Walks.{walkRest, walkLeft, kept-all, kept-at, walk-less
 -- ---- part by part
 
 -- what stands on one side only, removed and added
-abbrev pub loneParts : List ℕ → List ℕ → Items → List (List Change)
-loneParts old new x = unmatchedItems old new x Side.Old ∷ unmatchedItems old new x Side.New ∷ []
+abbrev pub loneParts : Reading → List ℕ → List ℕ → Items → List (List Change)
+loneParts reading old new x = unmatchedItems reading old new x Side.Old ∷ unmatchedItems reading old new x Side.New ∷ []
 
 -- and what was kept
-abbrev pub allParts : List ℕ → List ℕ → Items → List (List Change)
-allParts old new x = unmatchedItems old new x Side.Old ∷ unmatchedItems old new x Side.New ∷ keptItems old new x ∷ []
+abbrev pub allParts : Reading → List ℕ → List ℕ → Items → List (List Change)
+allParts reading old new x = unmatchedItems reading old new x Side.Old ∷ unmatchedItems reading old new x Side.New ∷ keptItems reading old new x ∷ []
 
-module _ (old new : List ℕ) (x : Items) where
-  pub all-parts : itemChanges old new x ≡ together (allParts old new x)
+module _ (reading : Reading) (old new : List ℕ) (x : Items) where
+  pub all-parts : itemChanges reading old new x ≡ together (allParts reading old new x)
   unfolding itemChanges compare unmatchedItems keptItems together
   all-parts = refl
 
   -- where nothing is reported of what was kept
-  pub lone-parts : keptItems old new x ≡ [] → itemChanges old new x ≡ together (loneParts old new x)
+  pub lone-parts : keptItems reading old new x ≡ [] → itemChanges reading old new x ≡ together (loneParts reading old new x)
   unfolding together
   lone-parts e = all-parts ∙ rw (e, append-nil)
 
@@ -54,8 +55,8 @@ kept-silent {E = E} {C = C} key lt (e ∷ m) n = rw (none-matched {E = E} {C = C
 -- ---- the walk over what was kept
 
 -- what it has yet to report after an ordinal, and how many items it has yet to meet
-abbrev pub restKept : List ℕ → List ℕ → Items → Ordinal → List Change
-restKept old new x after = walkRest old new x (matched (rules old new x .kept)) Side.Old after
+abbrev pub restKept : Reading → List ℕ → List ℕ → Items → Ordinal → List Change
+restKept reading old new x after = walkRest old new x (matched (rules reading old new x .kept)) Side.Old after
 
 abbrev pub leftKept : List ℕ → List ℕ → Items → Ordinal → ℕ
 leftKept old new x after = walkLeft old new x Side.Old after
@@ -69,13 +70,13 @@ module _ {old new : List ℕ} {x : Items} (p : ItemsIn old new x) where
     pub kept-met : ItemIn old new x Side.Old i
     kept-met = walk-met p Side.Old after a e
 
-  module _ {m : Mode} {d : List ℕ} {t : Tally} where
-    pub kept-start : Ready m d t (keptItems old new x) → Owed m d t (keptItems old new x) t d (restKept old new x ordinal.Nothing ∷ [])
-    kept-start q = walk-start p Side.Old (matched (rules old new x .kept)) (kept-all old new x) q
+  module _ (reading : Reading) {m : Mode} {d : List ℕ} {t : Tally} where
+    pub kept-start : Ready m d t (keptItems reading old new x) → Owed m d t (keptItems reading old new x) t d (restKept reading old new x ordinal.Nothing ∷ [])
+    kept-start q = walk-start p Side.Old (matched (rules reading old new x .kept)) (kept-all reading old new x) q
 
-    module _ {all : List Change} {t′ : Tally} {d′ : List ℕ} (after : Ordinal) (w : Owed m d t all t′ d′ (restKept old new x after ∷ [])) {r : Next} (a : NextOn old new x Side.Old after r) where
-      pub kept-turn : {k i : ℕ} → r ≡ next.Is k i → Owed m d t all t′ d′ (keptAt old new x k i ∷ restKept old new x (ordinal.Is k) ∷ [])
-      kept-turn {k} {i} e = walk-turn p Side.Old (matched (rules old new x .kept)) after w a e (kept-at old new x k i)
+    module _ {all : List Change} {t′ : Tally} {d′ : List ℕ} (after : Ordinal) (w : Owed m d t all t′ d′ (restKept reading old new x after ∷ [])) {r : Next} (a : NextOn old new x Side.Old after r) where
+      pub kept-turn : {k i : ℕ} → r ≡ next.Is k i → Owed m d t all t′ d′ (keptAt reading old new x k i ∷ restKept reading old new x (ordinal.Is k) ∷ [])
+      kept-turn {k} {i} e = walk-turn p Side.Old (matched (rules reading old new x .kept)) after w a e (kept-at reading old new x k i)
 
       pub kept-done : r ≡ next.Nothing → Ran m d t all t′ d′
-      kept-done e = walk-done p Side.Old (matched (rules old new x .kept)) after w a e
+      kept-done e = walk-done p Side.Old (matched (rules reading old new x .kept)) after w a e

@@ -13,16 +13,15 @@ use Rattle.parts.specs.Promise.{TypeHere, codingOf, limitOf}
 use Rattle.parts.specs.declared.Encoding.{Encoding as Coded}
 use Rattle.parts.specs.declared.Limit.{Limit}
 use Rattle.rules.specs.Equal.{sameOption, sameName}
-use Rattle.rules.specs.Types.{sameType}
 use Rattle.rules.specs.Changes.{Change, only}
 use Rattle.rules.specs.Clauses.{sameEncoding}
 use Rattle.tally.specs.Reporting.{Ready, Ran}
 use Rattle.tally.specs.declared.Tally.{Tally}
-use Rattle.types.specs.Resolved.{typeIn}
+use Rattle.types.specs.declared.Reading.{Reading}
 use Rattle.lines.specs.Sites.{changeOf, SiteHere}
 use Rattle.lines.specs.declared.Site.{Site}
 use Rattle.lines.proofs.Clauses.{Reports}
-use Rattle.items.specs.Pairs.{BothAccepted}
+use Rattle.items.specs.Pairs.{BothAccepted, TypePair, typesDiffer, ofTypes}
 
 -- the clause that reports the change of a site if a test passes, and no more
 pub alone : {old new : List ℕ} {s : Site} → SiteHere old new s → (test : Bool) → Reports old new s test (only test (changeOf old new s))
@@ -38,16 +37,13 @@ module _ {old new : List ℕ} {s : Site} {test : Bool} {cs : List Change} (p : R
 
 -- ---- types at the places i and j, as the code found them at a and b
 
-abbrev pub typesDiffer : List ℕ → List ℕ → ℕ → ℕ → Bool
-typesDiffer old new i j = not (sameType (typeIn old i) (typeIn new j))
-
-module _ {old new : List ℕ} {i j : ℕ} (site : ℕ → ℕ → Site) {cs : List Change} (p : Reports old new (site i j) (typesDiffer old new i j) cs) where
+module _ (reading : Reading) {old new : List ℕ} {i j : ℕ} (site : ℕ → ℕ → Site) {cs : List Change} (p : Reports old new (site i j) (typesDiffer reading old new i j) cs) where
   module _ {a b : ℕ} (e : a ≡ i) (f : b ≡ j) {r : Site} (q : r ≡ site a b) {m : Mode} {d : List ℕ} {t : Tally} where
     pub types-ask : BothAccepted old new → TypeHere 32 old i → TypeHere 32 new j → Ready m d t cs
-        → BothAccepted old new × TypeHere 32 old a × TypeHere 32 new b × SiteHere old new r × Ready m d t (only (typesDiffer old new a b) (changeOf old new r))
-    types-ask g h k w = let v = test-asks p refl refl w in rw (q, e, f) (g, h, k, v .0, v .1)
+        → TypePair old new a b r × Ready m d t (ofTypes reading old new a b r)
+    types-ask g h k w = let v = test-asks p refl refl w in rw (q, e, f) (record { accepted = g; here = (h, k); site = v .0 }, v .1)
 
-    pub types-ran : {u : Tally} {d′ : List ℕ} → Ran m d t (only (typesDiffer old new a b) (changeOf old new r)) u d′ → Ran m d t cs u d′
+    pub types-ran : {u : Tally} {d′ : List ℕ} → Ran m d t (ofTypes reading old new a b r) u d′ → Ran m d t cs u d′
     types-ran w = test-ran p refl refl (rw (q, e, f) at w)
 
 -- ---- names that differ

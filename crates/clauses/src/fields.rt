@@ -6,9 +6,10 @@ use details::Scope;
 use items::Items;
 use items::Owner;
 use items::Side;
+use items::Walk;
 use items::sides::found_off;
 use items::sides::next_on;
-use items::walk::unmatched_items;
+use items::unmatched::unmatched_items;
 use lines::sites::field_deprecated;
 use lines::sites::field_encoding_changed;
 use lines::sites::field_renamed;
@@ -24,7 +25,6 @@ use survivors::Found;
 use survivors::Next;
 use survivors::Ordinal;
 use tally::Tally;
-use text::Mode;
 use types::names::same_name;
 ghost use mathlib.Core.Path.{_≡_};
 ghost use mathlib.Core.Bool.{_&&_};
@@ -32,12 +32,10 @@ ghost use lib.Dec.{eqb};
 ghost use Rattle.parts.specs.Promise.{ItemHere, fieldIn, limitOf};
 ghost use Rattle.parts.specs.declared.Shape.{Shape};
 ghost use Rattle.rules.specs.Equal.{sameOption};
-ghost use Rattle.rules.specs.Clauses.{sameEncoding, compareFields};
+ghost use Rattle.rules.specs.Clauses.{sameEncoding};
 ghost use Rattle.tally.specs.Reporting.{Ready, Ran};
-ghost use Rattle.details.specs.Details.{declarationOf};
-ghost use Rattle.items.specs.Pairs.{reading, FieldPair};
-ghost use Rattle.items.specs.declared.Side.{Side};
-ghost use Rattle.items.specs.Items.{ItemsIn, ItemIn, fieldItems, keptItems, keptAt, itemChanges};
+ghost use Rattle.items.specs.Pairs.{FieldPair, ofFields};
+ghost use Rattle.items.specs.Items.{FieldsIn, FieldIn, keptFields, keptField, fieldChanges};
 
 fn limits_equal(a: Limit, b: Limit) -> bool
     ensures { λ r. ⌜ r ≡ sameOption eqb (limitOf a) (limitOf b) ⌝ }
@@ -72,7 +70,7 @@ fn encodings_equal(old: &[u8], i: usize, new: &[u8], j: usize) -> bool
 
 // Two fields under one ordinal.
 fn compare_fields(
-    mode: Mode,
+    walk: Walk,
     old: &[u8],
     new: &[u8],
     out: &mut [u8],
@@ -81,26 +79,26 @@ fn compare_fields(
     i: usize,
     j: usize,
 ) -> Tally
-    requires { ⌜ FieldPair (now old) (now new) scope i j × Ready mode (now out) t (compareFields (reading (now old) (now new)) (declarationOf (now old) (now new) scope) (fieldIn (now old) i) (fieldIn (now new) j)) ⌝ }
-    ensures { λ r. ⌜ Ran mode (now (out .entry)) t (compareFields (reading (now (old .entry)) (now (new .entry))) (declarationOf (now (old .entry)) (now (new .entry)) scope) (fieldIn (now (old .entry)) i) (fieldIn (now (new .entry)) j)) r (now (out .exit)) ⌝ }
+    requires { ⌜ FieldPair (now old) (now new) scope i j × Ready (walk .mode) (now out) t (ofFields (walk .reading) (now old) (now new) scope i j) ⌝ }
+    ensures { λ r. ⌜ Ran (walk .mode) (now (out .entry)) t (ofFields (walk .reading) (now (old .entry)) (now (new .entry)) scope i j) r (now (out .exit)) ⌝ }
 {
     let renamed = !same_name(item_name(old, i), item_name(new, j));
-    let t = emit_if(mode, old, new, out, t, renamed, field_renamed(scope, i, j));
+    let t = emit_if(walk, old, new, out, t, renamed, field_renamed(scope, i, j));
     let a = field_type(old, i);
     let b = field_type(new, j);
     let site = field_type_changed(scope, j, a, b);
-    let t = compare_types(mode, old, new, out, t, a, b, site);
+    let t = compare_types(walk, old, new, out, t, a, b, site);
     let coded = !encodings_equal(old, i, new, j);
     let site = field_encoding_changed(scope, i, j);
-    let t = emit_if(mode, old, new, out, t, coded, site);
+    let t = emit_if(walk, old, new, out, t, coded, site);
     let was = fields::field_deprecated(old, i);
     let is = fields::field_deprecated(new, j);
-    compare_deprecated(mode, old, new, out, t, was, is, field_deprecated(scope, j))
+    compare_deprecated(walk, old, new, out, t, was, is, field_deprecated(scope, j))
 }
 
 // The old field at a place, under its ordinal: compared, if a new field stands under it too.
 fn kept_field(
-    mode: Mode,
+    walk: Walk,
     old: &[u8],
     new: &[u8],
     out: &mut [u8],
@@ -111,8 +109,8 @@ fn kept_field(
     ordinal: u32,
     i: usize,
 ) -> Tally
-    requires { ⌜ ItemIn (now old) (now new) (fieldItems scope a b) Side.Old i × Ready mode (now out) t (keptAt (now old) (now new) (fieldItems scope a b) ordinal i) ⌝ }
-    ensures { λ r. ⌜ Ran mode (now (out .entry)) t (keptAt (now (old .entry)) (now (new .entry)) (fieldItems scope a b) ordinal i) r (now (out .exit)) ⌝ }
+    requires { ⌜ FieldIn (now old) (now new) scope a b i × Ready (walk .mode) (now out) t (keptField (walk .reading) (now old) (now new) scope a b ordinal i) ⌝ }
+    ensures { λ r. ⌜ Ran (walk .mode) (now (out .entry)) t (keptField (walk .reading) (now (old .entry)) (now (new .entry)) scope a b ordinal i) r (now (out .exit)) ⌝ }
 {
     let items = Items {
         of: Owner::Fields(scope),
@@ -122,11 +120,11 @@ fn kept_field(
     let Found::At(j) = found_off(Side::Old, old, new, items, ordinal) else {
         return t;
     };
-    compare_fields(mode, old, new, out, t, scope, i, j)
+    compare_fields(walk, old, new, out, t, scope, i, j)
 }
 
 fn kept_fields(
-    mode: Mode,
+    walk: Walk,
     old: &[u8],
     new: &[u8],
     out: &mut [u8],
@@ -135,8 +133,8 @@ fn kept_fields(
     a: Run,
     b: Run,
 ) -> Tally
-    requires { ⌜ ItemsIn (now old) (now new) (fieldItems scope a b) × Ready mode (now out) t (keptItems (now old) (now new) (fieldItems scope a b)) ⌝ }
-    ensures { λ r. ⌜ Ran mode (now (out .entry)) t (keptItems (now (old .entry)) (now (new .entry)) (fieldItems scope a b)) r (now (out .exit)) ⌝ }
+    requires { ⌜ FieldsIn (now old) (now new) scope a b × Ready (walk .mode) (now out) t (keptFields (walk .reading) (now old) (now new) scope a b) ⌝ }
+    ensures { λ r. ⌜ Ran (walk .mode) (now (out .entry)) t (keptFields (walk .reading) (now (old .entry)) (now (new .entry)) scope a b) r (now (out .exit)) ⌝ }
 {
     let items = Items {
         of: Owner::Fields(scope),
@@ -149,14 +147,14 @@ fn kept_fields(
         let Next::Is(ordinal, i) = next_on(Side::Old, old, new, items, after) else {
             return tally;
         };
-        tally = kept_field(mode, old, new, out, tally, scope, a, b, ordinal, i);
+        tally = kept_field(walk, old, new, out, tally, scope, a, b, ordinal, i);
         after = Ordinal::Is(ordinal);
     }
 }
 
 // The fields of what a scope names: removed, added, kept.
 pub fn compare_field_sets(
-    mode: Mode,
+    walk: Walk,
     old: &[u8],
     new: &[u8],
     out: &mut [u8],
@@ -165,15 +163,15 @@ pub fn compare_field_sets(
     a: Run,
     b: Run,
 ) -> Tally
-    requires { ⌜ ItemsIn (now old) (now new) (fieldItems scope a b) × Ready mode (now out) t (itemChanges (now old) (now new) (fieldItems scope a b)) ⌝ }
-    ensures { λ r. ⌜ Ran mode (now (out .entry)) t (itemChanges (now (old .entry)) (now (new .entry)) (fieldItems scope a b)) r (now (out .exit)) ⌝ }
+    requires { ⌜ FieldsIn (now old) (now new) scope a b × Ready (walk .mode) (now out) t (fieldChanges (walk .reading) (now old) (now new) scope a b) ⌝ }
+    ensures { λ r. ⌜ Ran (walk .mode) (now (out .entry)) t (fieldChanges (walk .reading) (now (old .entry)) (now (new .entry)) scope a b) r (now (out .exit)) ⌝ }
 {
     let items = Items {
         of: Owner::Fields(scope),
         old: a,
         new: b,
     };
-    let t = unmatched_items(mode, old, new, out, t, Side::Old, items);
-    let t = unmatched_items(mode, old, new, out, t, Side::New, items);
-    kept_fields(mode, old, new, out, t, scope, a, b)
+    let t = unmatched_items(walk, old, new, out, t, Side::Old, items);
+    let t = unmatched_items(walk, old, new, out, t, Side::New, items);
+    kept_fields(walk, old, new, out, t, scope, a, b)
 }

@@ -1,15 +1,14 @@
 // 8. Newtypes.
 use crate::reporting::compare_types;
+use items::Walk;
 use lines::sites::newtype_changed;
 use parts::decls::inner_type;
 use tally::Tally;
-use text::Mode;
-ghost use Rattle.rules.specs.Clauses.{compareNewtypes};
 ghost use Rattle.tally.specs.Reporting.{Ready, Ran};
-ghost use Rattle.items.specs.Pairs.{KindPair, ofPair};
+ghost use Rattle.items.specs.Pairs.{KindPair, ofNewtypes};
 
 pub fn compare_newtypes(
-    mode: Mode,
+    walk: Walk,
     old: &[u8],
     new: &[u8],
     out: &mut [u8],
@@ -17,10 +16,10 @@ pub fn compare_newtypes(
     i: usize,
     j: usize,
 ) -> Tally
-    requires { ⌜ KindPair 4 (now old) (now new) i j × Ready mode (now out) t (ofPair compareNewtypes (now old) (now new) i j) ⌝ }
-    ensures { λ r. ⌜ Ran mode (now (out .entry)) t (ofPair compareNewtypes (now (old .entry)) (now (new .entry)) i j) r (now (out .exit)) ⌝ }
+    requires { ⌜ KindPair 4 (now old) (now new) i j × Ready (walk .mode) (now out) t (ofNewtypes (walk .reading) (now old) (now new) i j) ⌝ }
+    ensures { λ r. ⌜ Ran (walk .mode) (now (out .entry)) t (ofNewtypes (walk .reading) (now (old .entry)) (now (new .entry)) i j) r (now (out .exit)) ⌝ }
 {
     let a = inner_type(old, i);
     let b = inner_type(new, j);
-    compare_types(mode, old, new, out, t, a, b, newtype_changed(i, a, b))
+    compare_types(walk, old, new, out, t, a, b, newtype_changed(i, a, b))
 }

@@ -1,20 +1,17 @@
 // Changes that are reported if a test passes.
+use items::Walk;
 use lines::Site;
 use lines::reporting::emit;
 use tally::Tally;
-use text::Mode;
 use types::equal::types_equal;
 ghost use mathlib.Core.Bool.{not, _&&_};
-ghost use Rattle.parts.specs.Promise.{TypeHere};
 ghost use Rattle.rules.specs.Changes.{only};
-ghost use Rattle.rules.specs.Types.{sameType};
 ghost use Rattle.tally.specs.Reporting.{Ready, Ran};
-ghost use Rattle.types.specs.Resolved.{typeIn};
 ghost use Rattle.lines.specs.Sites.{changeOf, SiteHere};
-ghost use Rattle.items.specs.Pairs.{BothAccepted};
+ghost use Rattle.items.specs.Pairs.{TypePair, ofTypes};
 
 pub fn emit_if(
-    mode: Mode,
+    walk: Walk,
     old: &[u8],
     new: &[u8],
     out: &mut [u8],
@@ -22,18 +19,19 @@ pub fn emit_if(
     test: bool,
     site: Site,
 ) -> Tally
-    requires { ⌜ SiteHere (now old) (now new) site × Ready mode (now out) t (only test (changeOf (now old) (now new) site)) ⌝ }
-    ensures { λ r. ⌜ Ran mode (now (out .entry)) t (only test (changeOf (now (old .entry)) (now (new .entry)) site)) r (now (out .exit)) ⌝ }
+    requires { ⌜ SiteHere (now old) (now new) site × Ready (walk .mode) (now out) t (only test (changeOf (now old) (now new) site)) ⌝ }
+    ensures { λ r. ⌜ Ran (walk .mode) (now (out .entry)) t (only test (changeOf (now (old .entry)) (now (new .entry)) site)) r (now (out .exit)) ⌝ }
 {
     if !test {
         return t;
     }
+    let mode = walk.mode;
     emit(mode, old, new, out, t, site)
 }
 
 // A type that changed, of a field or of a newtype, by the places of the two types.
 pub(crate) fn compare_types(
-    mode: Mode,
+    walk: Walk,
     old: &[u8],
     new: &[u8],
     out: &mut [u8],
@@ -42,16 +40,17 @@ pub(crate) fn compare_types(
     j: usize,
     site: Site,
 ) -> Tally
-    requires { ⌜ BothAccepted (now old) (now new) × TypeHere 32 (now old) i × TypeHere 32 (now new) j × SiteHere (now old) (now new) site × Ready mode (now out) t (only (not (sameType (typeIn (now old) i) (typeIn (now new) j))) (changeOf (now old) (now new) site)) ⌝ }
-    ensures { λ r. ⌜ Ran mode (now (out .entry)) t (only (not (sameType (typeIn (now (old .entry)) i) (typeIn (now (new .entry)) j))) (changeOf (now (old .entry)) (now (new .entry)) site)) r (now (out .exit)) ⌝ }
+    requires { ⌜ TypePair (now old) (now new) i j site × Ready (walk .mode) (now out) t (ofTypes (walk .reading) (now old) (now new) i j site) ⌝ }
+    ensures { λ r. ⌜ Ran (walk .mode) (now (out .entry)) t (ofTypes (walk .reading) (now (old .entry)) (now (new .entry)) i j site) r (now (out .exit)) ⌝ }
 {
-    let test = !types_equal(old, i, new, j);
-    emit_if(mode, old, new, out, t, test, site)
+    let reading = walk.reading;
+    let test = !types_equal(reading, old, i, new, j);
+    emit_if(walk, old, new, out, t, test, site)
 }
 
 // The mark was gained: by a field, or by a message itself. Lost is silent.
 pub(crate) fn compare_deprecated(
-    mode: Mode,
+    walk: Walk,
     old: &[u8],
     new: &[u8],
     out: &mut [u8],
@@ -60,11 +59,11 @@ pub(crate) fn compare_deprecated(
     is: bool,
     site: Site,
 ) -> Tally
-    requires { ⌜ SiteHere (now old) (now new) site × Ready mode (now out) t (only (not was && is) (changeOf (now old) (now new) site)) ⌝ }
-    ensures { λ r. ⌜ Ran mode (now (out .entry)) t (only (not was && is) (changeOf (now (old .entry)) (now (new .entry)) site)) r (now (out .exit)) ⌝ }
+    requires { ⌜ SiteHere (now old) (now new) site × Ready (walk .mode) (now out) t (only (not was && is) (changeOf (now old) (now new) site)) ⌝ }
+    ensures { λ r. ⌜ Ran (walk .mode) (now (out .entry)) t (only (not was && is) (changeOf (now (old .entry)) (now (new .entry)) site)) r (now (out .exit)) ⌝ }
 {
     if was {
         return t;
     }
-    emit_if(mode, old, new, out, t, is, site)
+    emit_if(walk, old, new, out, t, is, site)
 }

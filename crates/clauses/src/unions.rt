@@ -4,9 +4,10 @@ use details::Scope;
 use items::Items;
 use items::Owner;
 use items::Side;
+use items::Walk;
 use items::sides::found_off;
 use items::sides::next_on;
-use items::walk::unmatched_items;
+use items::unmatched::unmatched_items;
 use members::items::decl_items;
 use members::items::variant_items;
 use parts::Run;
@@ -14,16 +15,13 @@ use survivors::Found;
 use survivors::Next;
 use survivors::Ordinal;
 use tally::Tally;
-use text::Mode;
-ghost use Rattle.rules.specs.Clauses.{compareUnions};
 ghost use Rattle.tally.specs.Reporting.{Ready, Ran};
-ghost use Rattle.items.specs.Pairs.{KindPair, ofPair};
-ghost use Rattle.items.specs.declared.Side.{Side};
-ghost use Rattle.items.specs.Items.{ItemsIn, ItemIn, unionItems, keptItems, keptAt};
+ghost use Rattle.items.specs.Pairs.{KindPair, ofUnions};
+ghost use Rattle.items.specs.Items.{VariantsIn, VariantIn, keptVariants, keptVariant};
 
 // The old variant at a place, under its ordinal: the fields are compared, if a new variant stands under it too.
 fn kept_variant(
-    mode: Mode,
+    walk: Walk,
     old: &[u8],
     new: &[u8],
     out: &mut [u8],
@@ -34,8 +32,8 @@ fn kept_variant(
     ordinal: u32,
     i: usize,
 ) -> Tally
-    requires { ⌜ ItemIn (now old) (now new) (unionItems decl a b) Side.Old i × Ready mode (now out) t (keptAt (now old) (now new) (unionItems decl a b) ordinal i) ⌝ }
-    ensures { λ r. ⌜ Ran mode (now (out .entry)) t (keptAt (now (old .entry)) (now (new .entry)) (unionItems decl a b) ordinal i) r (now (out .exit)) ⌝ }
+    requires { ⌜ VariantIn (now old) (now new) decl a b i × Ready (walk .mode) (now out) t (keptVariant (walk .reading) (now old) (now new) decl a b ordinal i) ⌝ }
+    ensures { λ r. ⌜ Ran (walk .mode) (now (out .entry)) t (keptVariant (walk .reading) (now (old .entry)) (now (new .entry)) decl a b ordinal i) r (now (out .exit)) ⌝ }
 {
     let items = Items {
         of: Owner::Union(decl),
@@ -47,11 +45,11 @@ fn kept_variant(
     };
     let m = variant_items(old, i);
     let n = variant_items(new, j);
-    compare_field_sets(mode, old, new, out, t, Scope::Variant(decl, i), m, n)
+    compare_field_sets(walk, old, new, out, t, Scope::Variant(decl, i), m, n)
 }
 
 fn kept_variants(
-    mode: Mode,
+    walk: Walk,
     old: &[u8],
     new: &[u8],
     out: &mut [u8],
@@ -60,8 +58,8 @@ fn kept_variants(
     a: Run,
     b: Run,
 ) -> Tally
-    requires { ⌜ ItemsIn (now old) (now new) (unionItems decl a b) × Ready mode (now out) t (keptItems (now old) (now new) (unionItems decl a b)) ⌝ }
-    ensures { λ r. ⌜ Ran mode (now (out .entry)) t (keptItems (now (old .entry)) (now (new .entry)) (unionItems decl a b)) r (now (out .exit)) ⌝ }
+    requires { ⌜ VariantsIn (now old) (now new) decl a b × Ready (walk .mode) (now out) t (keptVariants (walk .reading) (now old) (now new) decl a b) ⌝ }
+    ensures { λ r. ⌜ Ran (walk .mode) (now (out .entry)) t (keptVariants (walk .reading) (now (old .entry)) (now (new .entry)) decl a b) r (now (out .exit)) ⌝ }
 {
     let items = Items {
         of: Owner::Union(decl),
@@ -74,13 +72,13 @@ fn kept_variants(
         let Next::Is(ordinal, i) = next_on(Side::Old, old, new, items, after) else {
             return tally;
         };
-        tally = kept_variant(mode, old, new, out, tally, decl, a, b, ordinal, i);
+        tally = kept_variant(walk, old, new, out, tally, decl, a, b, ordinal, i);
         after = Ordinal::Is(ordinal);
     }
 }
 
 pub fn compare_unions(
-    mode: Mode,
+    walk: Walk,
     old: &[u8],
     new: &[u8],
     out: &mut [u8],
@@ -88,8 +86,8 @@ pub fn compare_unions(
     i: usize,
     j: usize,
 ) -> Tally
-    requires { ⌜ KindPair 3 (now old) (now new) i j × Ready mode (now out) t (ofPair compareUnions (now old) (now new) i j) ⌝ }
-    ensures { λ r. ⌜ Ran mode (now (out .entry)) t (ofPair compareUnions (now (old .entry)) (now (new .entry)) i j) r (now (out .exit)) ⌝ }
+    requires { ⌜ KindPair 3 (now old) (now new) i j × Ready (walk .mode) (now out) t (ofUnions (walk .reading) (now old) (now new) i j) ⌝ }
+    ensures { λ r. ⌜ Ran (walk .mode) (now (out .entry)) t (ofUnions (walk .reading) (now (old .entry)) (now (new .entry)) i j) r (now (out .exit)) ⌝ }
 {
     let a = decl_items(old, i);
     let b = decl_items(new, j);
@@ -98,7 +96,7 @@ pub fn compare_unions(
         old: a,
         new: b,
     };
-    let t = unmatched_items(mode, old, new, out, t, Side::Old, items);
-    let t = unmatched_items(mode, old, new, out, t, Side::New, items);
-    kept_variants(mode, old, new, out, t, i, a, b)
+    let t = unmatched_items(walk, old, new, out, t, Side::Old, items);
+    let t = unmatched_items(walk, old, new, out, t, Side::New, items);
+    kept_variants(walk, old, new, out, t, i, a, b)
 }

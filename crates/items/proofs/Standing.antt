@@ -11,6 +11,7 @@ use Rattle.maps.specs.Compare.{unmatched, matched}
 use Rattle.maps.specs.Walk.{isSome}
 use Rattle.maps.proofs.Tests.{no-both}
 use Rattle.parts.specs.Promise.{ItemHere}
+use Rattle.types.specs.declared.Reading.{Reading}
 use Rattle.survivors.specs.Runs.{itemIn, itemOrdinal, itemsOf, Holds}
 use Rattle.survivors.specs.declared.Found.{Found}
 use Rattle.survivors.specs.declared.Found.the-variants.{At, Nothing}
@@ -56,29 +57,29 @@ module _ {old new : List ℕ} {x : Items} (p : ItemsIn old new x) where
 
   -- ---- what stands on one side only
 
-  module _ (s : Side) (k at : ℕ) {t : Bool} (a : t ≡ hasOff old new x s k) where
+  module _ (reading : Reading) (s : Side) (k at : ℕ) {t : Bool} (a : t ≡ hasOff old new x s k) where
     has : t ≡ isSome (lookup (itemOrdinal (shape old new x)) ltb k (standingOff old new x s))
     has = has-stands (shape old new x) (off s old new) (off s (x .old) (x .new)) (off-holds s) k a
 
-    pub unmatched-other : t ≡ true → unmatchedAt old new x s k at ≡ []
+    pub unmatched-other : t ≡ true → unmatchedAt reading old new x s k at ≡ []
     unfolding unmatchedAt
-    unmatched-other e = unmatched-has (lone old new x s) _ _ (sym has ∙ e)
+    unmatched-other e = unmatched-has (lone reading old new x s) _ _ (sym has ∙ e)
 
-    pub unmatched-alone : t ≡ false → unmatchedAt old new x s k at ≡ lone old new x s (itemIn (shape old new x) (on s old new) at)
+    pub unmatched-alone : t ≡ false → unmatchedAt reading old new x s k at ≡ lone reading old new x s (itemIn (shape old new x) (on s old new) at)
     unfolding unmatchedAt
-    unmatched-alone e = unmatched-lacks (lone old new x s) _ _ (sym has ∙ e)
+    unmatched-alone e = unmatched-lacks (lone reading old new x s) _ _ (sym has ∙ e)
 
   -- ---- what stands on both
 
-  module _ (k i : ℕ) {o : Found} (a : FoundOff old new x side.Old k o) where
-    pub kept-none : o ≡ Nothing → keptAt old new x k i ≡ []
+  module _ (reading : Reading) (k i : ℕ) {o : Found} (a : FoundOff old new x side.Old k o) where
+    pub kept-none : o ≡ Nothing → keptAt reading old new x k i ≡ []
     unfolding keptAt
-    kept-none e = matched-none (rules old new x .kept) _ (found-none (shape old new x) new (x .new) (on-holds side.New) k a e)
+    kept-none e = matched-none (rules reading old new x .kept) _ (found-none (shape old new x) new (x .new) (on-holds side.New) k a e)
 
     module _ {j : ℕ} (e : o ≡ At j) where
-      pub kept-item : keptAt old new x k i ≡ rules old new x .kept (itemIn (shape old new x) old i) (itemIn (shape old new x) new j)
+      pub kept-item : keptAt reading old new x k i ≡ rules reading old new x .kept (itemIn (shape old new x) old i) (itemIn (shape old new x) new j)
       unfolding keptAt
-      kept-item = matched-some (rules old new x .kept) _ (found-item (shape old new x) new (x .new) (on-holds side.New) k a e)
+      kept-item = matched-some (rules reading old new x .kept) _ (found-item (shape old new x) new (x .new) (on-holds side.New) k a e)
 
       pub new-here : ItemHere (shape old new x) new j
       new-here = found-here (shape old new x) new (x .new) (on-holds side.New) k a e

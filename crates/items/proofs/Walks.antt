@@ -11,6 +11,7 @@ use Rattle.text.specs.declared.Mode.{Mode}
 use Rattle.text.proofs.Pieces.{together}
 use Rattle.parts.specs.Promise.{ItemOf}
 use Rattle.rules.specs.Changes.{Change}
+use Rattle.types.specs.declared.Reading.{Reading}
 use Rattle.survivors.specs.Runs.{itemIn, itemOrdinal, itemsOf}
 use Rattle.survivors.specs.declared.Ordinal.{Ordinal}
 use Rattle.survivors.specs.declared.Ordinal.the-variants as ordinal
@@ -52,21 +53,22 @@ module _ (old new : List ℕ) (x : Items) where
   unfoldable pub walkLeft : Side → Ordinal → ℕ
   walkLeft s after = itemsLeft (shape old new x) (itemsOf (shape old new x) (on s old new) (on s (x .old) (x .new))) after
 
-  -- ---- the walks that there are
+-- ---- the walks that there are
 
-  pub unmatched-all : (s : Side) → unmatchedItems old new x s ≡ walkAll (unmatched (lone old new x s)) s
+module _ (reading : Reading) (old new : List ℕ) (x : Items) where
+  pub unmatched-all : (s : Side) → unmatchedItems reading old new x s ≡ walkAll old new x (unmatched (lone reading old new x s)) s
   unfolding unmatchedItems walkAll
   unmatched-all s = refl
 
-  pub unmatched-at : (s : Side) (k at : ℕ) → unmatchedAt old new x s k at ≡ walkAt (unmatched (lone old new x s)) s k at
+  pub unmatched-at : (s : Side) (k at : ℕ) → unmatchedAt reading old new x s k at ≡ walkAt old new x (unmatched (lone reading old new x s)) s k at
   unfolding unmatchedAt walkAt
   unmatched-at s k at = refl
 
-  pub kept-all : keptItems old new x ≡ walkAll (matched (rules old new x .kept)) side.Old
+  pub kept-all : keptItems reading old new x ≡ walkAll old new x (matched (rules reading old new x .kept)) side.Old
   unfolding keptItems walkAll
   kept-all = refl
 
-  pub kept-at : (k at : ℕ) → keptAt old new x k at ≡ walkAt (matched (rules old new x .kept)) side.Old k at
+  pub kept-at : (k at : ℕ) → keptAt reading old new x k at ≡ walkAt old new x (matched (rules reading old new x .kept)) side.Old k at
   unfolding keptAt walkAt
   kept-at k at = refl
 

@@ -17,11 +17,12 @@ use Rattle.survivors.specs.Runs.{itemIn, itemOrdinal, itemMap, itemsOf}
 use Rattle.survivors.specs.declared.Found.{Found}
 use Rattle.survivors.specs.declared.Ordinal.{Ordinal}
 use Rattle.survivors.specs.declared.Next.{Next}
+use Rattle.types.specs.declared.Reading.{Reading}
 use Rattle.details.specs.Details.{declarationOf, ScopeHere}
 use Rattle.lines.specs.Clauses.{fieldRemoved, fieldAdded, variantRemoved, variantAdded, bitRemoved, bitAdded}
 use Rattle.details.specs.declared.Scope.{Scope}
 use Rattle.lines.specs.declared.Site.{Site}
-use Rattle.items.specs.Pairs.{reading, BothAccepted}
+use Rattle.items.specs.Pairs.{contextOf, BothAccepted}
 use Rattle.items.specs.Sides.{on, off}
 use Rattle.items.specs.declared.Side.{Side}
 use Rattle.items.specs.declared.Side.the-variants as side
@@ -37,11 +38,11 @@ shapeOf (owner.Enum i j) = Shape.Bare
 shapeOf (owner.Flags i) = Shape.Bare
 shapeOf (owner.Union i) = Shape.Variant
 
-abbrev pub rulesOf : List ℕ → List ℕ → (o : Owner) → Rules (ItemOf (shapeOf o)) Change
-rulesOf old new (owner.Fields c) = fieldRules (reading old new) (declarationOf old new c)
-rulesOf old new (owner.Enum i j) = enumRules (declIn old i .name) (declIn new j .marks)
-rulesOf old new (owner.Flags i) = flagsRules (declIn old i .name)
-rulesOf old new (owner.Union i) = unionRules (reading old new) (declIn old i .name)
+abbrev pub rulesOf : Reading → List ℕ → List ℕ → (o : Owner) → Rules (ItemOf (shapeOf o)) Change
+rulesOf reading old new (owner.Fields c) = fieldRules (contextOf reading old new) (declarationOf old new c)
+rulesOf reading old new (owner.Enum i j) = enumRules (declIn old i .name) (declIn new j .marks)
+rulesOf reading old new (owner.Flags i) = flagsRules (declIn old i .name)
+rulesOf reading old new (owner.Union i) = unionRules (contextOf reading old new) (declIn old i .name)
 
 unfoldable pub OwnerHere : List ℕ → List ℕ → Owner → Type 0
 OwnerHere old new (owner.Fields c) = ScopeHere old new c
@@ -66,9 +67,6 @@ module _ (old new : List ℕ) (x : Items) where
   abbrev pub shape : Shape
   shape = shapeOf (x .of)
 
-  abbrev pub rules : Rules (ItemOf shape) Change
-  rules = rulesOf old new (x .of)
-
   -- the items that stand on a side, and on the other
   abbrev pub standing : Side → List (ItemOf shape)
   standing s = itemMap shape (itemsOf shape (on s old new) (on s (x .old) (x .new)))
@@ -87,37 +85,70 @@ module _ (old new : List ℕ) (x : Items) where
   abbrev pub FoundOff : Side → ℕ → Found → Type 0
   FoundOff s k r = ItemSurvives shape (off s old new) (off s (x .old) (x .new)) k r
 
+module _ (reading : Reading) (old new : List ℕ) (x : Items) where
+  abbrev pub rules : Rules (ItemOf (shape old new x)) Change
+  rules = rulesOf reading old new (x .of)
+
   -- ---- what stands on one side only is gone or came
 
-  abbrev pub lone : Side → ItemOf shape → List Change
+  abbrev pub lone : Side → ItemOf (shape old new x) → List Change
   lone side.Old = rules .gone
   lone side.New = rules .came
 
   unfoldable pub unmatchedItems : Side → List Change
-  unmatchedItems s = between (itemOrdinal shape) ltb (unmatched (lone s)) (standing s) (standingOff s)
+  unmatchedItems s = between (itemOrdinal (shape old new x)) ltb (unmatched (lone s)) (standing old new x s) (standingOff old new x s)
 
   -- of one ordinal, under which the item at a place stands
   unfoldable pub unmatchedAt : Side → ℕ → ℕ → List Change
-  unmatchedAt s k at = unmatched (lone s) (some (itemIn shape (on s old new) at)) (lookup (itemOrdinal shape) ltb k (standingOff s))
+  unmatchedAt s k at = unmatched (lone s) (some (itemIn (shape old new x) (on s old new) at)) (lookup (itemOrdinal (shape old new x)) ltb k (standingOff old new x s))
 
   -- ---- what stands on both was kept
 
   unfoldable pub keptItems : List Change
-  keptItems = between (itemOrdinal shape) ltb (matched (rules .kept)) (standing side.Old) (standing side.New)
+  keptItems = between (itemOrdinal (shape old new x)) ltb (matched (rules .kept)) (standing old new x side.Old) (standing old new x side.New)
 
   -- of one ordinal, under which the old item at a place stands
   unfoldable pub keptAt : ℕ → ℕ → List Change
-  keptAt k at = matched (rules .kept) (some (itemIn shape old at)) (lookup (itemOrdinal shape) ltb k (standing side.New))
+  keptAt k at = matched (rules .kept) (some (itemIn (shape old new x) old at)) (lookup (itemOrdinal (shape old new x)) ltb k (standing old new x side.New))
 
   -- ---- all of them
 
   unfoldable pub itemChanges : List Change
-  itemChanges = compare (itemOrdinal shape) ltb rules (standing side.Old) (standing side.New)
+  itemChanges = compare (itemOrdinal (shape old new x)) ltb rules (standing old new x side.Old) (standing old new x side.New)
 
 -- both runs are well formed, and at a place stands an item of a side
 pub record ItemIn (old new : List ℕ) (x : Items) (s : Side) (at : ℕ) : Type 0 where
   pub items : ItemsIn old new x
   pub here : ItemHere (shape old new x) (on s old new) at
+
+-- ---- the same of the fields of what a scope names, and of the variants of a union
+
+abbrev pub FieldsIn : List ℕ → List ℕ → Scope → Run → Run → Type 0
+FieldsIn old new c a b = ItemsIn old new (fieldItems c a b)
+
+abbrev pub FieldIn : List ℕ → List ℕ → Scope → Run → Run → ℕ → Type 0
+FieldIn old new c a b i = ItemIn old new (fieldItems c a b) side.Old i
+
+abbrev pub keptFields : Reading → List ℕ → List ℕ → Scope → Run → Run → List Change
+keptFields reading old new c a b = keptItems reading old new (fieldItems c a b)
+
+abbrev pub keptField : Reading → List ℕ → List ℕ → Scope → Run → Run → ℕ → ℕ → List Change
+keptField reading old new c a b k i = keptAt reading old new (fieldItems c a b) k i
+
+abbrev pub fieldChanges : Reading → List ℕ → List ℕ → Scope → Run → Run → List Change
+fieldChanges reading old new c a b = itemChanges reading old new (fieldItems c a b)
+
+abbrev pub VariantsIn : List ℕ → List ℕ → ℕ → Run → Run → Type 0
+VariantsIn old new d a b = ItemsIn old new (unionItems d a b)
+
+abbrev pub VariantIn : List ℕ → List ℕ → ℕ → Run → Run → ℕ → Type 0
+VariantIn old new d a b i = ItemIn old new (unionItems d a b) side.Old i
+
+abbrev pub keptVariants : Reading → List ℕ → List ℕ → ℕ → Run → Run → List Change
+keptVariants reading old new d a b = keptItems reading old new (unionItems d a b)
+
+abbrev pub keptVariant : Reading → List ℕ → List ℕ → ℕ → Run → Run → ℕ → ℕ → List Change
+keptVariant reading old new d a b k i = keptAt reading old new (unionItems d a b) k i
 
 -- ---- the sites of an item at a place
 

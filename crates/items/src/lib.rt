@@ -2,10 +2,18 @@
 // added.
 pub mod sides;
 mod sites;
-pub mod walk;
+pub mod unmatched;
 
 use details::Scope;
 use parts::Run;
+use text::Mode;
+use types::Reading;
+
+// How a walk goes: whether its lines are written or only measured, and how types are read.
+pub struct Walk {
+    pub mode: Mode,
+    pub reading: Reading,
+}
 
 pub enum Side {
     Old,

@@ -1,10 +1,18 @@
 // Whether two types are equal, each at its place in its own image.
+use crate::Reading;
 use crate::names::same_name;
 use crate::names::same_names;
 use crate::nodes::inner_types;
 use parts::Entry;
 use parts::decls::decl_name;
 use parts::entries::entry;
+use parts::tags::BITS;
+use parts::tags::FIXED_ARRAY;
+use parts::tags::NAMED;
+use parts::tags::PRIMITIVE;
+use parts::tags::SEMANTIC;
+use parts::tags::SUB_BYTE;
+use parts::tags::VEC2;
 use parts::types::bit_names;
 use parts::types::label_end;
 use parts::types::type_bits;
@@ -13,13 +21,13 @@ use parts::types::type_id;
 use parts::types::type_size;
 use parts::types::type_tag;
 ghost use mathlib.Core.Path.{_≡_};
-ghost use mathlib.Core.Bool.{_&&_};
-ghost use lib.Dec.{eqb};
+ghost use Rattle.parts.specs.Codes.{number, subByteTag};
 ghost use Rattle.parts.specs.Promise.{Accepted, LabelHere, labelIn, TypeHere};
 ghost use Rattle.rules.specs.Equal.{sameNames};
 ghost use Rattle.rules.specs.Types.{equalLabel, sameType};
 ghost use Rattle.types.specs.Resolved.{namedBy, nodeIn, typeIn};
-ghost use Rattle.types.specs.Equality.{Compared};
+ghost use Rattle.types.specs.Readings.{readingOf};
+ghost use Rattle.types.specs.Equality.{sameCodes, Compared};
 
 // Two types are equal, and these are the places after them; or they are different.
 enum Equality {
@@ -46,8 +54,8 @@ fn named_equal(a: &[u8], old: u32, b: &[u8], new: u32) -> bool
 
 // Whether two sub-bytes are both signed or both not, and have as many bits.
 fn sub_bytes_equal(a: &[u8], i: usize, b: &[u8], j: usize) -> bool
-    requires { ⌜ LabelHere (now a) i × LabelHere (now b) j × (labelIn (now a) i .tag ≡ 1) × (labelIn (now b) j .tag ≡ 1) ⌝ }
-    ensures { λ r. ⌜ r ≡ (eqb (labelIn (now (a .entry)) i .first) (labelIn (now (b .entry)) j .first) && eqb (labelIn (now (a .entry)) i .second) (labelIn (now (b .entry)) j .second)) ⌝ }
+    requires { ⌜ LabelHere (now a) i × LabelHere (now b) j × (labelIn (now a) i .tag ≡ number subByteTag) × (labelIn (now b) j .tag ≡ number subByteTag) ⌝ }
+    ensures { λ r. ⌜ r ≡ sameCodes (labelIn (now (a .entry)) i) (labelIn (now (b .entry)) j) ⌝ }
 {
     if type_code(a, i) != type_code(b, j) {
         return false;
@@ -65,13 +73,13 @@ fn labels_equal(a: &[u8], i: usize, b: &[u8], j: usize) -> bool
         return false;
     }
     match tag {
-        0 | 2 => type_code(a, i) == type_code(b, j),
-        1 => sub_bytes_equal(a, i, b, j),
-        3 => named_equal(a, type_id(a, i), b, type_id(b, j)),
-        6 => type_size(a, i) == type_size(b, j),
-        16 => same_names(a, bit_names(a, i), b, bit_names(b, j)),
+        PRIMITIVE | SEMANTIC => type_code(a, i) == type_code(b, j),
+        SUB_BYTE => sub_bytes_equal(a, i, b, j),
+        NAMED => named_equal(a, type_id(a, i), b, type_id(b, j)),
+        FIXED_ARRAY => type_size(a, i) == type_size(b, j),
+        BITS => same_names(a, bit_names(a, i), b, bit_names(b, j)),
         // 10 to 15, the vectors, quat and the matrices, are never equal.
-        _ => tag < 10,
+        _ => tag < VEC2,
     }
 }
 
@@ -100,13 +108,23 @@ fn nodes_equal(a: &[u8], i: usize, b: &[u8], j: usize, left: usize) -> Equality
     nodes_equal(a, k, b, m, left - 1)
 }
 
-// Whether two types are equal: named types by their names, each from its own registry.
-pub fn types_equal(a: &[u8], i: usize, b: &[u8], j: usize) -> bool
+// Whether two types are equal as document 01 reads them: named types by their names, each from its own registry.
+fn plain_equal(a: &[u8], i: usize, b: &[u8], j: usize) -> bool
     requires { ⌜ Accepted (now a) × Accepted (now b) × TypeHere 32 (now a) i × TypeHere 32 (now b) j ⌝ }
     ensures { λ r. ⌜ r ≡ sameType (typeIn (now (a .entry)) i) (typeIn (now (b .entry)) j) ⌝ }
 {
     match nodes_equal(a, i, b, j, 32) {
         Equality::Equal(_, _) => true,
         Equality::Different => false,
+    }
+}
+
+// Whether two types are equal, as they are read. A reading more is a case more.
+pub fn types_equal(reading: Reading, a: &[u8], i: usize, b: &[u8], j: usize) -> bool
+    requires { ⌜ Accepted (now a) × Accepted (now b) × TypeHere 32 (now a) i × TypeHere 32 (now b) j ⌝ }
+    ensures { λ r. ⌜ r ≡ readingOf reading .same (typeIn (now (a .entry)) i) (typeIn (now (b .entry)) j) ⌝ }
+{
+    match reading {
+        Reading::Plain => plain_equal(a, i, b, j),
     }
 }

@@ -3,3 +3,8 @@ pub mod equal;
 pub mod names;
 pub mod namespaces;
 pub mod nodes;
+
+// How the types of two images are read.
+pub enum Reading {
+    Plain,
+}

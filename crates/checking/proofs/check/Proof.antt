@@ -16,7 +16,7 @@ abbrev Left : (k : ℕ) (s : tie.Start) (t : Tally) (d : List ℕ) → Type 0
 Left k s t d =
     let old = s .args .old .now in
     let new = s .args .new .now in
-    Owed (s .args .mode) (s .args .out .now) noChange (allChanges old new) t d (drop k (parts old new))
+    Owed (s .args .walk .mode) (s .args .out .now) noChange (allChanges (s .args .walk .reading) old new) t d (drop k (parts (s .args .walk .reading) old new))
 
 -- the start, from each part
 abbrev s₀ : tie.After-empty → tie.Start
@@ -32,7 +32,7 @@ abbrev s₃ : tie.After-unmatched-decls2 → tie.Start
 s₃ c = s₂ (c .before .before .before .before)
 
 o₀ : (c : tie.After-empty) → Left 0 (s₀ c) (c .empty .result) (s₀ c .args .out .now)
-o₀ c = parts-start _ _ (c .empty .ensures) (s₀ c .pre .1)
+o₀ c = parts-start _ _ _ (c .empty .ensures) (s₀ c .pre .1)
 
 o₁ : (c : tie.After-compare-namespaces) → Left 1 (s₁ c) (c .compare-namespaces .result) (c .compare-namespaces .last .1 .1 .1 .0)
 o₁ c = owed-next (o₀ (c .before)) (c .compare-namespaces .ensures)

@@ -22,7 +22,7 @@ kind-changed-requires c κs = search needs
 emit-requires : tie.Need-emit-requires
 emit-requires c κs =
     let k = c .before .before .before in
-    emit-asks (kinds-differ (st k .pre .0) (k .before .decl-kind .ensures) (k .decl-kind2 .ensures) (c .before .before .if1 .taken)) refl
+    emit-asks (kinds-differ _ (st k .pre .0) (k .before .decl-kind .ensures) (k .decl-kind2 .ensures) (c .before .before .if1 .taken)) refl
     (c .kind-changed .ensures) (st k .pre .1)
 
 same-length : tie.Need-same-length
@@ -31,13 +31,13 @@ same-length c = search needs
 returns : tie.Need-returns
 returns c =
     let k = c .before .before .before .before .before .before in
-    emit-ran (kinds-differ (st k .pre .0) (k .before .decl-kind .ensures) (k .decl-kind2 .ensures) (c .before .before .before .before .before .if1 .taken)) refl
+    emit-ran (kinds-differ _ (st k .pre .0) (k .before .decl-kind .ensures) (k .decl-kind2 .ensures) (c .before .before .before .before .before .if1 .taken)) refl
     (c .before .before .before .kind-changed .ensures) (c .before .before .emit .ensures)
 
 compare-kind-requires : tie.Need-compare-kind-requires
 compare-kind-requires c κs =
     let k = c .before .before in
-    agree-asks (st k .pre .0) (k .before .decl-kind .ensures) (k .decl-kind2 .ensures) (c .before .if1 .left)
+    agree-asks _ (st k .pre .0) (k .before .decl-kind .ensures) (k .decl-kind2 .ensures) (c .before .if1 .left)
     (st k .pre .1)
 
 same-length-2 : tie.Need-same-length-2
@@ -46,7 +46,7 @@ same-length-2 c = search needs
 returns-2 : tie.Need-returns-2
 returns-2 c =
     let k = c .before .before .before .before .before in
-    agree-ran (st k .pre .0) (k .before .decl-kind .ensures) (k .decl-kind2 .ensures)
+    agree-ran _ (st k .pre .0) (k .before .decl-kind .ensures) (k .decl-kind2 .ensures)
     (c .before .before .before .before .if1 .left)
     (c .before .before .compare-kind .ensures)
 

@@ -11,31 +11,31 @@ compare-messages-requires : tie.Need-compare-messages-requires
 unfolding compareKind kindOf
 compare-messages-requires c κs =
     let s = c .before .before .before .before .before in
-    kind-asks (s .pre .0) (c .before .match .keys1) (s .pre .1)
+    kind-asks _ (s .pre .0) (c .before .match .keys1) (s .pre .1)
 
 compare-enums-requires : tie.Need-compare-enums-requires
 unfolding compareKind kindOf
 compare-enums-requires c κs =
     let s = c .before .before .before .before .before in
-    kind-asks (s .pre .0) (c .before .match .keys2) (s .pre .1)
+    kind-asks _ (s .pre .0) (c .before .match .keys2) (s .pre .1)
 
 compare-flags-requires : tie.Need-compare-flags-requires
 unfolding compareKind kindOf
 compare-flags-requires c κs =
     let s = c .before .before .before .before .before in
-    kind-asks (s .pre .0) (c .before .match .keys3) (s .pre .1)
+    kind-asks _ (s .pre .0) (c .before .match .keys3) (s .pre .1)
 
 compare-unions-requires : tie.Need-compare-unions-requires
 unfolding compareKind kindOf
 compare-unions-requires c κs =
     let s = c .before .before .before .before .before in
-    kind-asks (s .pre .0) (c .before .match .keys4) (s .pre .1)
+    kind-asks _ (s .pre .0) (c .before .match .keys4) (s .pre .1)
 
 compare-newtypes-requires : tie.Need-compare-newtypes-requires
 unfolding compareKind kindOf
 compare-newtypes-requires c κs =
     let s = c .before .before .before .before .before in
-    kind-asks (s .pre .0) (c .before .match .keys5) (s .pre .1)
+    kind-asks _ (s .pre .0) (c .before .match .keys5) (s .pre .1)
 
 same-length : tie.Need-same-length
 same-length c = search needs
@@ -44,7 +44,7 @@ returns : tie.Need-returns
 unfolding compareKind kindOf
 returns c =
     let m = c .before .before .before .before in
-    kind-ran (m .before .before .before .before .pre .0) (m .match .keys1) (c .before .before .compare-messages .ensures)
+    kind-ran _ (m .before .before .before .before .pre .0) (m .match .keys1) (c .before .before .compare-messages .ensures)
 
 same-length-2 : tie.Need-same-length-2
 same-length-2 c = search needs
@@ -53,7 +53,7 @@ returns-2 : tie.Need-returns-2
 unfolding compareKind kindOf
 returns-2 c =
     let m = c .before .before .before .before in
-    kind-ran (m .before .before .before .before .pre .0) (m .match .keys2) (c .before .before .compare-enums .ensures)
+    kind-ran _ (m .before .before .before .before .pre .0) (m .match .keys2) (c .before .before .compare-enums .ensures)
 
 same-length-3 : tie.Need-same-length-3
 same-length-3 c = search needs
@@ -62,7 +62,7 @@ returns-3 : tie.Need-returns-3
 unfolding compareKind kindOf
 returns-3 c =
     let m = c .before .before .before .before in
-    kind-ran (m .before .before .before .before .pre .0) (m .match .keys3) (c .before .before .compare-flags .ensures)
+    kind-ran _ (m .before .before .before .before .pre .0) (m .match .keys3) (c .before .before .compare-flags .ensures)
 
 same-length-4 : tie.Need-same-length-4
 same-length-4 c = search needs
@@ -71,7 +71,7 @@ returns-4 : tie.Need-returns-4
 unfolding compareKind kindOf
 returns-4 c =
     let m = c .before .before .before .before in
-    kind-ran (m .before .before .before .before .pre .0) (m .match .keys4) (c .before .before .compare-unions .ensures)
+    kind-ran _ (m .before .before .before .before .pre .0) (m .match .keys4) (c .before .before .compare-unions .ensures)
 
 same-length-5 : tie.Need-same-length-5
 same-length-5 c = search needs
@@ -80,7 +80,7 @@ returns-5 : tie.Need-returns-5
 unfolding compareKind kindOf
 returns-5 c =
     let m = c .before .before .before .before in
-    kind-ran (m .before .before .before .before .pre .0) (m .match .keys5) (c .before .before .compare-newtypes .ensures)
+    kind-ran _ (m .before .before .before .before .pre .0) (m .match .keys5) (c .before .before .compare-newtypes .ensures)
 
 returns-6 : tie.Need-returns-6
 returns-6 c =

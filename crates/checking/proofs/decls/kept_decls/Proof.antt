@@ -5,18 +5,18 @@ use Rattle.tally.proofs.Running.{ran-length}
 use Rattle.survivors.proofs.Declarations.{declarations-rising, follows-here}
 use Rattle.survivors.proofs.Walks.{declsLeft, decls-less}
 use Rattle.checking.proofs.Turns.{Walked, walk-start, walk-done, walk-room, walk-turn}
-use Rattle.items.specs.Pairs.{reading}
+use Rattle.items.specs.Pairs.{contextOf}
 use Rattle.items.specs.declared.Side.{Side}
 use Rattle.checking.specs.Decls.{standing, keptDecls, keptIn}
 use Rattle.checking.proofs.decls.kept_decls.Statement.{statement}
 use Rattle.checking.proofs.decls.kept_decls.Tie as tie
 
 abbrev Inv-loop : tie.InvT-loop
-Inv-loop mode old new out₀ tally₀ after₀ out tally after =
-    Walked (matched (declRules (reading old new) .kept)) (standing old new Side.Old) old (standing old new Side.New) mode out₀ tally₀ after tally out
+Inv-loop walk old new out₀ tally₀ after₀ out tally after =
+    Walked (matched (declRules (contextOf (walk .reading) old new) .kept)) (standing old new Side.Old) old (standing old new Side.New) (walk .mode) out₀ tally₀ after tally out
 
 abbrev μ-loop : tie.MeasureT-loop
-μ-loop mode old new out₀ tally₀ after₀ out tally after = declsLeft (standing old new Side.Old) old after
+μ-loop walk old new out₀ tally₀ after₀ out tally after = declsLeft (standing old new Side.Old) old after
 
 loop-holds : tie.Need-loop-holds Inv-loop μ-loop
 unfolding keptDecls

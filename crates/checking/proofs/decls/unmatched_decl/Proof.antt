@@ -16,7 +16,7 @@ use Rattle.checking.proofs.decls.unmatched_decl.Tie as tie
 
 -- what is to be reported
 abbrev said : tie.Start → List Change
-said s = unmatchedDecl (s .args .old .now) (s .args .new .now) (s .args .side) (s .args .at)
+said s = unmatchedDecl (s .args .walk .reading) (s .args .old .now) (s .args .new .now) (s .args .side) (s .args .at)
 
 -- where none stands on the other side, that at the place is reported by the side
 abbrev st : tie.After-enum-told → tie.Start
@@ -24,11 +24,11 @@ st c = c .before .before .before .before .before .before
 
 removed-here : (c : tie.After-enum-told) → st c .args .side ≡ Side.Old
     → Reports (st c .args .old .now) (st c .args .new .now) (declRemoved (st c .args .at)) true (said (st c))
-removed-here c = removed (st c .pre .0) (c .before .before .namesake-off .ensures) (c .enum-told .given .1)
+removed-here c = removed _ (st c .pre .0) (c .before .before .namesake-off .ensures) (c .enum-told .given .1)
 
 added-here : (c : tie.After-enum-told) → st c .args .side ≡ Side.New
     → Reports (st c .args .old .now) (st c .args .new .now) (declAdded (st c .args .at)) true (said (st c))
-added-here c = added (st c .pre .0) (c .before .before .namesake-off .ensures) (c .enum-told .given .1)
+added-here c = added _ (st c .pre .0) (c .before .before .namesake-off .ensures) (c .enum-told .given .1)
 
 namesake-off-requires : tie.Need-namesake-off-requires
 namesake-off-requires c κs = search needs
@@ -42,7 +42,7 @@ enum-told-2 c = search needs
 returns : tie.Need-returns
 returns c =
     let s = c .before .before .before .before .before .before in
-    ran-none (stands-off (s .pre .0) (c .before .before .namesake-off .ensures) (c .enum-told2 .given .1)) (s .pre .1)
+    ran-none (stands-off _ (s .pre .0) (c .before .before .namesake-off .ensures) (c .enum-told2 .given .1)) (s .pre .1)
 
 enum-told-3 : tie.Need-enum-told-3
 enum-told-3 c = search needs

@@ -10,11 +10,11 @@ use Rattle.checking.proofs.decls.unmatched_decls.Statement.{statement}
 use Rattle.checking.proofs.decls.unmatched_decls.Tie as tie
 
 abbrev Inv-loop : tie.InvT-loop
-Inv-loop mode old new out₀ side tally₀ after₀ out tally after =
-    Walked (unmatched (lone old new side)) (standing old new side) (on side old new) (standingOff old new side) mode out₀ tally₀ after tally out
+Inv-loop walk old new out₀ side tally₀ after₀ out tally after =
+    Walked (unmatched (lone (walk .reading) old new side)) (standing old new side) (on side old new) (standingOff old new side) (walk .mode) out₀ tally₀ after tally out
 
 abbrev μ-loop : tie.MeasureT-loop
-μ-loop mode old new out₀ side tally₀ after₀ out tally after = declsLeft (standing old new side) (on side old new) after
+μ-loop walk old new out₀ side tally₀ after₀ out tally after = declsLeft (standing old new side) (on side old new) after
 
 loop-holds : tie.Need-loop-holds Inv-loop μ-loop
 unfolding unmatchedDecls

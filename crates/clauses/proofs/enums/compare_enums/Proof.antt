@@ -19,8 +19,8 @@ use Rattle.clauses.proofs.enums.compare_enums.Tie as tie
 
 abbrev Left : (s : tie.Start) (r : Tally) (d : List ℕ) (ps : List (List Change)) → Type 0
 Left s r d ps =
-    Owed (s .args .mode) (s .args .out .now) (s .args .t)
-    (ofPair (λ r. compareEnums) (s .args .old .now) (s .args .new .now) (s .args .i) (s .args .j))
+    Owed (s .args .walk .mode) (s .args .out .now) (s .args .t)
+    (ofPair (λ r. compareEnums) (s .args .walk .reading) (s .args .old .now) (s .args .new .now) (s .args .i) (s .args .j))
     r d ps
 
 abbrev variants : tie.Start → List Change
@@ -32,7 +32,7 @@ s₀ c = c .before .before .before .before .before .before .before .before
 told : (c : tie.After-emit-if) → Left (s₀ c) (c .emit-if .result) (c .emit-if .last .1 .1 .1 .0) (variants (s₀ c) ∷ [])
 told c =
     let s = s₀ c in
-    owed-next (owed-start (enum-parts _ _ _ _) (s .pre .1))
+    owed-next (owed-start (enum-parts (s .args .walk .reading) _ _ _ _) (s .pre .1))
     (test-ran (openness-changed (s .pre .0 .pair)) (c .before .non-exhaustive-changed .ensures)
     (marks-differ (c .before .before .before .before .non-exhaustive .ensures) (c .before .before .before .non-exhaustive2 .ensures))
     (c .emit-if .ensures))
@@ -45,15 +45,15 @@ abbrev items : tie.After-decl-items2 → Items
 items c = enumItems (st c .args .i) (st c .args .j) (c .before .decl-items .result) (c .decl-items2 .result)
 
 inside : (c : tie.After-decl-items2) → ItemsIn (st c .args .old .now) (st c .args .new .now) (items c)
-inside c = enum-variants (c .before .decl-items .ensures) (c .decl-items2 .ensures) (st c .pre .0) .inside
+inside c = enum-variants (st c .args .walk .reading) (c .before .decl-items .ensures) (c .decl-items2 .ensures) (st c .pre .0) .inside
 
 -- after the first k parts of what is reported of them
 abbrev Rest : (k : ℕ) (c : tie.After-decl-items2) (r : Tally) (d : List ℕ) → Type 0
-Rest k c r d = Left (st c) r d (drop k (loneParts (st c .args .old .now) (st c .args .new .now) (items c)))
+Rest k c r d = Left (st c) r d (drop k (loneParts (st c .args .walk .reading) (st c .args .old .now) (st c .args .new .now) (items c)))
 
 o₀ : (c : tie.After-decl-items2)
     → Rest 0 c (c .before .before .before .before .emit-if .result) (c .before .before .before .before .emit-if .last .1 .1 .1 .0)
-o₀ c = owed-cut (enum-rest (c .before .decl-items .ensures) (c .decl-items2 .ensures) (st c .pre .0)) (told (c .before .before .before .before))
+o₀ c = owed-cut (enum-rest _ (c .before .decl-items .ensures) (c .decl-items2 .ensures) (st c .pre .0)) (told (c .before .before .before .before))
 
 o₁ : (c : tie.After-unmatched-items) → Rest 1 (c .before .before) (c .unmatched-items .result) (c .unmatched-items .last .1 .1 .1 .0)
 o₁ c = owed-next (o₀ (c .before .before)) (c .unmatched-items .ensures)
@@ -72,7 +72,7 @@ emit-if-requires c κs =
     let s = c .before .before .before .before .before .before .before in
     test-asks (openness-changed (s .pre .0 .pair)) (c .non-exhaustive-changed .ensures)
     (marks-differ (c .before .before .before .non-exhaustive .ensures) (c .before .before .non-exhaustive2 .ensures))
-    (owed-room (owed-start (enum-parts _ _ _ _) (s .pre .1)))
+    (owed-room (owed-start (enum-parts (s .args .walk .reading) _ _ _ _) (s .pre .1)))
 
 decl-items-requires : tie.Need-decl-items-requires
 decl-items-requires c κs =

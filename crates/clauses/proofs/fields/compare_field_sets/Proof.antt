@@ -17,8 +17,8 @@ items s = fieldItems (s .args .scope) (s .args .a) (s .args .b)
 -- after the first k parts
 abbrev Left : (k : ℕ) (s : tie.Start) (r : Tally) (d : List ℕ) → Type 0
 Left k s r d =
-    Owed (s .args .mode) (s .args .out .now) (s .args .t) (itemChanges (s .args .old .now) (s .args .new .now) (items s)) r d
-    (drop k (allParts (s .args .old .now) (s .args .new .now) (items s)))
+    Owed (s .args .walk .mode) (s .args .out .now) (s .args .t) (itemChanges (s .args .walk .reading) (s .args .old .now) (s .args .new .now) (items s)) r d
+    (drop k (allParts (s .args .walk .reading) (s .args .old .now) (s .args .new .now) (items s)))
 
 -- the start, from each part
 abbrev s₁ : tie.After-unmatched-items → tie.Start
@@ -28,7 +28,7 @@ abbrev s₂ : tie.After-unmatched-items2 → tie.Start
 s₂ c = s₁ (c .before .before .before .before)
 
 o₀ : (s : tie.Start) → Left 0 s (s .args .t) (s .args .out .now)
-o₀ s = owed-start (all-parts _ _ (items s)) (s .pre .1)
+o₀ s = owed-start (all-parts _ _ _ (items s)) (s .pre .1)
 
 o₁ : (c : tie.After-unmatched-items) → Left 1 (s₁ c) (c .unmatched-items .result) (c .unmatched-items .last .1 .1 .1 .0)
 o₁ c = owed-next (o₀ (s₁ c)) (c .unmatched-items .ensures)

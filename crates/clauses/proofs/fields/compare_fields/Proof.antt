@@ -11,7 +11,7 @@ use Rattle.tally.specs.declared.Tally.{Tally}
 use Rattle.tally.proofs.Running.{Owed, owed-start, owed-room, owed-next, owed-end, ran-length}
 use Rattle.details.specs.Details.{declarationOf}
 use Rattle.lines.specs.Clauses.{fieldTypeChanged}
-use Rattle.items.specs.Pairs.{reading}
+use Rattle.items.specs.Pairs.{contextOf}
 use Rattle.clauses.proofs.Tests.{test-asks, test-ran, types-ask, types-ran, names-differ, same-marks}
 use Rattle.clauses.proofs.Pairs.{fieldParts, field-parts, field-bare, types-here, renamed, type-changed, encoding-changed, deprecated}
 use borrow.Author.Needs.{needs}
@@ -23,10 +23,10 @@ abbrev Left : (k : ℕ) (s : tie.Start) (r : Tally) (d : List ℕ) → Type 0
 Left k s r d =
     let old = s .args .old .now in
     let new = s .args .new .now in
-    Owed (s .args .mode) (s .args .out .now) (s .args .t)
-    (compareFields (reading old new) (declarationOf old new (s .args .scope)) (fieldIn old (s .args .i)) (fieldIn new (s .args .j)))
+    Owed (s .args .walk .mode) (s .args .out .now) (s .args .t)
+    (compareFields (contextOf (s .args .walk .reading) old new) (declarationOf old new (s .args .scope)) (fieldIn old (s .args .i)) (fieldIn new (s .args .j)))
     r d
-    (drop k (fieldParts old new (s .args .scope) (s .args .i) (s .args .j)))
+    (drop k (fieldParts (s .args .walk .reading) old new (s .args .scope) (s .args .i) (s .args .j)))
 
 -- the start, from the test of the names, and from each part
 abbrev s₀ : tie.After-same-name → tie.Start
@@ -49,7 +49,7 @@ differ : (c : tie.After-same-name)
 differ c = names-differ (c .same-name .ensures) (c .before .before .item-name .ensures) (c .before .item-name2 .ensures)
 
 o₀ : (s : tie.Start) → Left 0 s (s .args .t) (s .args .out .now)
-o₀ s = owed-start (field-parts _ _ _ _ _) (s .pre .1)
+o₀ s = owed-start (field-parts _ _ _ _ _ _) (s .pre .1)
 
 o₁ : (c : tie.After-emit-if) → Left 1 (s₁ c) (c .emit-if .result) (c .emit-if .last .1 .1 .1 .0)
 o₁ c =
@@ -60,7 +60,7 @@ o₂ : (c : tie.After-compare-types) → Left 2 (s₂ c) (c .compare-types .resu
 o₂ c =
     let f = c .before .before in
     owed-next (o₁ (c .before .before .before .before .before .before .before))
-    (types-ran (fieldTypeChanged _ _) (type-changed (s₂ c .pre .0))
+    (types-ran _ (fieldTypeChanged _ _) (type-changed (s₂ c .pre .0) _)
     (f .before .before .field-type .ensures) (f .before .field-type2 .ensures) (f .field-type-changed .ensures)
     (c .compare-types .ensures))
 
@@ -109,7 +109,7 @@ compare-types-requires : tie.Need-compare-types-requires
 compare-types-requires c κs =
     let l = c .before .before .before .before .before .before in
     let p = s₁ l .pre .0 in
-    types-ask (fieldTypeChanged _ _) (type-changed p)
+    types-ask _ (fieldTypeChanged _ _) (type-changed p _)
     (c .before .before .before .field-type .ensures) (c .before .before .field-type2 .ensures) (c .before .field-type-changed .ensures)
     (p .accepted) (types-here p .0) (types-here p .1) (owed-room (o₁ l))
 

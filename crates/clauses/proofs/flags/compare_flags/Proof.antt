@@ -21,18 +21,18 @@ abbrev items : tie.After-decl-items2 → Items
 items c = flagsItems (st c .args .i) (c .before .decl-items .result) (c .decl-items2 .result)
 
 inside : (c : tie.After-decl-items2) → ItemsIn (st c .args .old .now) (st c .args .new .now) (items c)
-inside c = flags-bits (c .before .decl-items .ensures) (c .decl-items2 .ensures) (st c .pre .0) .inside
+inside c = flags-bits (st c .args .walk .reading) (c .before .decl-items .ensures) (c .decl-items2 .ensures) (st c .pre .0) .inside
 
 -- after the first k parts
 abbrev Left : (k : ℕ) (c : tie.After-decl-items2) (r : Tally) (d : List ℕ) → Type 0
 Left k c r d =
-    Owed (st c .args .mode) (st c .args .out .now) (st c .args .t)
-    (ofPair (λ r. compareFlags) (st c .args .old .now) (st c .args .new .now) (st c .args .i) (st c .args .j))
+    Owed (st c .args .walk .mode) (st c .args .out .now) (st c .args .t)
+    (ofPair (λ r. compareFlags) (st c .args .walk .reading) (st c .args .old .now) (st c .args .new .now) (st c .args .i) (st c .args .j))
     r d
-    (drop k (loneParts (st c .args .old .now) (st c .args .new .now) (items c)))
+    (drop k (loneParts (st c .args .walk .reading) (st c .args .old .now) (st c .args .new .now) (items c)))
 
 o₀ : (c : tie.After-decl-items2) → Left 0 c (st c .args .t) (st c .args .out .now)
-o₀ c = owed-start (flags-parts (c .before .decl-items .ensures) (c .decl-items2 .ensures) (st c .pre .0)) (st c .pre .1)
+o₀ c = owed-start (flags-parts _ (c .before .decl-items .ensures) (c .decl-items2 .ensures) (st c .pre .0)) (st c .pre .1)
 
 o₁ : (c : tie.After-unmatched-items) → Left 1 (c .before .before) (c .unmatched-items .result) (c .unmatched-items .last .1 .1 .1 .0)
 o₁ c = owed-next (o₀ (c .before .before)) (c .unmatched-items .ensures)

@@ -27,13 +27,13 @@ s₁ c = st (c .before .before)
 -- after the first k parts
 abbrev Left : (k : ℕ) (c : tie.After-decl-items2) (r : Tally) (d : List ℕ) → Type 0
 Left k c r d =
-    Owed (st c .args .mode) (st c .args .out .now) (st c .args .t)
-    (ofPair compareMessages (st c .args .old .now) (st c .args .new .now) (st c .args .i) (st c .args .j))
+    Owed (st c .args .walk .mode) (st c .args .out .now) (st c .args .t)
+    (ofPair compareMessages (st c .args .walk .reading) (st c .args .old .now) (st c .args .new .now) (st c .args .i) (st c .args .j))
     r d
-    (drop k (messageParts (st c .args .old .now) (st c .args .new .now) (st c .args .i) (st c .args .j) (items c)))
+    (drop k (messageParts (st c .args .walk .reading) (st c .args .old .now) (st c .args .new .now) (st c .args .i) (st c .args .j) (items c)))
 
 o₀ : (c : tie.After-decl-items2) → Left 0 c (st c .args .t) (st c .args .out .now)
-o₀ c = owed-start (message-parts (c .before .decl-items .ensures) (c .decl-items2 .ensures) (st c .pre .0)) (st c .pre .1)
+o₀ c = owed-start (message-parts _ (c .before .decl-items .ensures) (c .decl-items2 .ensures) (st c .pre .0)) (st c .pre .1)
 
 o₁ : (c : tie.After-compare-field-sets) → Left 1 (c .before .before) (c .compare-field-sets .result) (c .compare-field-sets .last .1 .1 .1 .0)
 o₁ c = owed-next (o₀ (c .before .before)) (c .compare-field-sets .ensures)
@@ -47,7 +47,7 @@ decl-items-requires-2 c κs = search needs
 compare-field-sets-requires : tie.Need-compare-field-sets-requires
 compare-field-sets-requires c κs =
     let l = c .before in
-    (message-fields (l .before .decl-items .ensures) (l .decl-items2 .ensures) (st l .pre .0) .inside, owed-room (o₀ l))
+    (message-fields (st l .args .walk .reading) (l .before .decl-items .ensures) (l .decl-items2 .ensures) (st l .pre .0) .inside, owed-room (o₀ l))
 
 deprecated-requires : tie.Need-deprecated-requires
 deprecated-requires c κs = search needs

@@ -19,7 +19,7 @@ compare-types-requires : tie.Need-compare-types-requires
 compare-types-requires c κs =
     let s = c .before .before .before .before .before .before .before in
     let p = s .pre .0 in
-    types-ask (newtypeChanged _) (inner-changed p)
+    types-ask _ (newtypeChanged _) (inner-changed p _)
     (c .before .before .before .inner-type .ensures) (c .before .before .inner-type2 .ensures) (c .newtype-changed .ensures)
     (p .pair .accepted) (inners-here p .0) (inners-here p .1) (s .pre .1)
 
@@ -29,7 +29,7 @@ same-length c = search needs
 returns : tie.Need-returns
 returns c =
     let n = c .before .before .before in
-    types-ran (newtypeChanged _) (inner-changed (n .before .before .before .before .before .before .before .pre .0))
+    types-ran _ (newtypeChanged _) (inner-changed (n .before .before .before .before .before .before .before .pre .0) _)
     (n .before .before .before .inner-type .ensures) (n .before .before .inner-type2 .ensures) (n .newtype-changed .ensures)
     (c .before .before .compare-types .ensures)
 

@@ -12,7 +12,7 @@ types-equal-requires c κs = search needs
 emit-if-requires : tie.Need-emit-if-requires
 emit-if-requires c κs =
     let s = c .before .before .before .before .before in
-    test-asks (alone (s .pre .3) _) refl (ap not (c .before .types-equal .ensures)) (s .pre .4)
+    test-asks (alone (s .pre .0 .site) _) refl (ap not (c .before .types-equal .ensures)) (s .pre .1)
 
 same-length : tie.Need-same-length
 same-length c = search needs
@@ -20,7 +20,7 @@ same-length c = search needs
 returns : tie.Need-returns
 returns c =
     let e = c .before .before .before .before in
-    test-ran (alone (e .before .before .before .before .pre .3) _) refl (ap not (e .types-equal .ensures)) (c .before .before .emit-if .ensures)
+    test-ran (alone (e .before .before .before .before .pre .0 .site) _) refl (ap not (e .types-equal .ensures)) (c .before .before .emit-if .ensures)
 
 pub compare-types-spec : {M : Type 1} → statement M
 compare-types-spec = tie.close (tie.spec types-equal-requires emit-if-requires same-length returns)

@@ -21,20 +21,20 @@ st c = c .before .before .before .before .before
 abbrev items : tie.After-decl-items2 → Items
 items c = unionItems (st c .args .i) (c .before .decl-items .result) (c .decl-items2 .result)
 
-over : (c : tie.After-decl-items2) → Over (st c .args .old .now) (st c .args .new .now) (items c)
-    (ofPair compareUnions (st c .args .old .now) (st c .args .new .now) (st c .args .i) (st c .args .j))
-over c = union-variants (c .before .decl-items .ensures) (c .decl-items2 .ensures) (st c .pre .0)
+over : (c : tie.After-decl-items2) → Over (st c .args .walk .reading) (st c .args .old .now) (st c .args .new .now) (items c)
+    (ofPair compareUnions (st c .args .walk .reading) (st c .args .old .now) (st c .args .new .now) (st c .args .i) (st c .args .j))
+over c = union-variants _ (c .before .decl-items .ensures) (c .decl-items2 .ensures) (st c .pre .0)
 
 -- after the first k parts
 abbrev Left : (k : ℕ) (c : tie.After-decl-items2) (r : Tally) (d : List ℕ) → Type 0
 Left k c r d =
-    Owed (st c .args .mode) (st c .args .out .now) (st c .args .t)
-    (ofPair compareUnions (st c .args .old .now) (st c .args .new .now) (st c .args .i) (st c .args .j))
+    Owed (st c .args .walk .mode) (st c .args .out .now) (st c .args .t)
+    (ofPair compareUnions (st c .args .walk .reading) (st c .args .old .now) (st c .args .new .now) (st c .args .i) (st c .args .j))
     r d
-    (drop k (allParts (st c .args .old .now) (st c .args .new .now) (items c)))
+    (drop k (allParts (st c .args .walk .reading) (st c .args .old .now) (st c .args .new .now) (items c)))
 
 o₀ : (c : tie.After-decl-items2) → Left 0 c (st c .args .t) (st c .args .out .now)
-o₀ c = owed-start (over c .are ∙ all-parts _ _ (items c)) (st c .pre .1)
+o₀ c = owed-start (over c .are ∙ all-parts _ _ _ (items c)) (st c .pre .1)
 
 o₁ : (c : tie.After-unmatched-items) → Left 1 (c .before .before) (c .unmatched-items .result) (c .unmatched-items .last .1 .1 .1 .0)
 o₁ c = owed-next (o₀ (c .before .before)) (c .unmatched-items .ensures)

@@ -11,7 +11,7 @@ use Rattle.clauses.proofs.unions.kept_variant.Tie as tie
 abbrev st : tie.After-j → tie.Start
 st c = c .before .before .before .before .before .before
 
-kept : (c : tie.After-j) → Kept (st c .args .old .now) (st c .args .new .now) (unionItems (st c .args .decl) (st c .args .a) (st c .args .b))
+kept : (c : tie.After-j) → Kept (st c .args .walk .reading) (st c .args .old .now) (st c .args .new .now) (unionItems (st c .args .decl) (st c .args .a) (st c .args .b))
     (st c .args .ordinal) (st c .args .i) (c .j .given .0 .0)
 kept c = both-stand (st c .pre .0) (c .before .before .found-off .ensures) (c .j .given .1)
 
@@ -27,7 +27,7 @@ enum-told c = search needs
 returns : tie.Need-returns
 returns c =
     let s = c .before .before .before .before .before .before in
-    ran-none (kept-none (s .pre .0 .items) _ _ (c .before .before .found-off .ensures) (c .enum-told .given .1)) (s .pre .1)
+    ran-none (kept-none (s .pre .0 .items) _ _ _ (c .before .before .found-off .ensures) (c .enum-told .given .1)) (s .pre .1)
 
 variant-items-requires : tie.Need-variant-items-requires
 variant-items-requires c κs = kept (c .before) .here .0

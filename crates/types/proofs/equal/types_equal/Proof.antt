@@ -1,27 +1,24 @@
--- `types::equal::types_equal` meets its contract. Assumes nothing.
+-- `types::equal::types_equal` meets its contract: by how types are read. Assumes nothing.
+use mathlib.Core.Path.{_≡_}
+use mathlib.Core.Bool.{Bool}
+use Rattle.image.specs.Schema.{Ty}
+use Rattle.rules.specs.Types.{sameType}
+use Rattle.types.specs.Readings.{readingOf}
+use Rattle.types.specs.declared.Reading.{Reading}
+use Rattle.types.specs.declared.Reading.the-variants.{Plain}
 use borrow.Author.Needs.{needs}
-use mathlib.Core.Path.{sym, ap, _∙_}
-use Rattle.types.specs.Equality.{isEqual}
 use Rattle.types.proofs.equal.types_equal.Statement.{statement}
 use Rattle.types.proofs.equal.types_equal.Tie as tie
 
-nodes-equal-requires : tie.Need-nodes-equal-requires
-nodes-equal-requires c κs = search needs
+plainly : (reading : Reading) (a b : Ty) {r : Bool} → r ≡ sameType a b → r ≡ readingOf reading .same a b
+unfolding readingOf
+plainly Plain a b e = e
 
-enum-told : tie.Need-enum-told
-enum-told c = search needs
-
-enum-told-2 : tie.Need-enum-told-2
-enum-told-2 c = search needs
+plain-equal-requires : tie.Need-plain-equal-requires
+plain-equal-requires c κs = search needs
 
 returns : tie.Need-returns
-unfolding isEqual
-returns c = sym (ap isEqual (c .enum-told .given .1)) ∙ c .before .before .nodes-equal .ensures .same
-
-returns-2 : tie.Need-returns-2
-unfolding isEqual
-returns-2 c = sym (ap isEqual (c .enum-told2 .given .1)) ∙ c .before .before .nodes-equal .ensures .same
+returns c = plainly _ _ _ (c .plain-equal .ensures)
 
 pub types-equal-spec : {M : Type 1} → statement M
-types-equal-spec =
-    tie.close (tie.spec nodes-equal-requires enum-told enum-told-2 returns returns-2)
+types-equal-spec = tie.close (tie.spec plain-equal-requires returns)
