@@ -1,5 +1,5 @@
--- Policies: what is asked of every policy. Passes: one pass over changes. Outcomes: two images by stages, and the report call by their
+-- Kept: what every policy keeps to. Passes: one pass over changes. Outcomes: two images by stages, and the report call by their
 -- verdict.
-pub mod Policies
+pub mod Kept
 mod Passes
 mod Outcomes

@@ -10,25 +10,28 @@ use lib.ListN.{length}
 use Rattle.image.specs.Schema.{Schema}
 use Rattle.parts.specs.Codes.{number, oldSide, newSide, bothSides}
 use Rattle.text.specs.Text.{put, putIn, Space}
+use Rattle.text.specs.declared.Mode.{Mode}
 use Rattle.text.specs.declared.Mode.the-variants.{Measure, Write}
 use Rattle.text.proofs.Writing.{space-measure, space-write}
 use Rattle.parts.specs.Promise.{schemaOf}
 use Rattle.parts.proofs.Promise.{accepted-read, read-accepted}
 use Rattle.rules.specs.Report.{report}
 use Rattle.rules.specs.Outcome.{Outcome, refused, answered, fit, written}
-use Rattle.rules.specs.Answer.{Fault, Policy as Definition, compared, judged, faultIn, comparePair, outcome, reportBy}
+use Rattle.rules.specs.Answer.{Fault, compared, firstFault, judged, faultIn, comparePair, outcome, reportBy}
 use Rattle.rules.specs.Refusals.{Passes, Decided, oldRefused, oldAlone, newRefused, newAlone, pairRefused, verdict}
 use Rattle.rules.proofs.Answer.{no-fault, old-fault, new-fault, both-pass, decided}
 use Rattle.rules.proofs.Bound.{report-bound}
 use Rattle.items.specs.Pairs.{BothAccepted}
+use Rattle.items.specs.declared.Walk.{Walk}
+use Rattle.checking.specs.Decls.{allChanges}
 use Rattle.verdicts.specs.Verdicts.{refusedBy, verdictIs}
 use Rattle.verdicts.specs.declared.Verdict.{Verdict}
-use Rattle.compat.specs.Policies.{policyOf, changesBy, faultOf, Passing}
-use Rattle.compat.specs.Passes.{Passed, Reported}
+use Rattle.compat.specs.Policies.{policyOf, walkOf, changesBy, faultOf, Passing}
+use Rattle.compat.specs.Passes.{ReportSpace, Passed, Reported}
 use Rattle.compat.specs.declared.policies.Policy.{Policy}
 use Rattle.compat.specs.declared.policies.Judged.{Judged}
 use Rattle.compat.specs.declared.policies.Judged.the-variants as judging
-use Rattle.compat.proofs.Policies.{policy-numbered, policy-bounded}
+use Rattle.compat.proofs.Kept.{policy-numbered, policy-bounded, policy-changes}
 
 -- ---- what a check says
 
@@ -79,6 +82,32 @@ module _ (p : Policy) (old new : List ℕ) where
   pub passing : (side : ℕ) (s : List ℕ) {j : Judged} → faultOf j ≡ faultIn (policyOf p) side s → j ≡ judging.Passes → Passing p side s
   unfolding Passing
   passing side s e q = says-none e q
+
+  -- ---- two accepted images
+
+  module _ {j : Judged} (e : faultOf j ≡ firstFault (policyOf p .pair) (schemaOf old) (schemaOf new)) where
+    pub pair-passes : j ≡ judging.Passes
+        → compared (changesBy p old new) ≡ comparePair (policyOf p) (schemaOf old) (schemaOf new)
+    unfolding comparePair changesBy
+    pair-passes q = passes-on e q _
+
+    pub pair-refused : {n s : ℕ} → j ≡ judging.Fault n s
+        → refusedBy n s ≡ verdictIs (comparePair (policyOf p) (schemaOf old) (schemaOf new))
+    unfolding comparePair
+    pair-refused q = fault-told e q _
+
+  -- ---- a pass, by the walk of the policy
+
+  module _ {w : Walk} {m : Mode} (e : w ≡ walkOf p m) where
+    pub walk-asks : {d : List ℕ} → BothAccepted old new × ReportSpace m d (changesBy p old new)
+        → BothAccepted old new × ReportSpace (w .mode) d (allChanges (w .reading) old new)
+    unfolding walkOf
+    walk-asks h = rw (e, policy-changes p old new) h
+
+    pub walk-passed : {d d′ : List ℕ} {r : Verdict} → Passed (w .mode) d (allChanges (w .reading) old new) r d′
+        → Passed m d (changesBy p old new) r d′
+    unfolding walkOf
+    walk-passed h = rw (e, policy-changes p old new) at h
 
   -- ---- the report's room
 

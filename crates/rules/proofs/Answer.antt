@@ -168,6 +168,10 @@ pub alias-fault : (x y : Schema) → aliasPair (viewOf x) (viewOf y) ≡ true �
 unfolding firstFault aliasCheck orElse
 alias-fault x y e = rw e
 
+pub no-alias-fault : (x y : Schema) → aliasPair (viewOf x) (viewOf y) ≡ false → firstFault (plain .pair) x y ≡ none
+unfolding firstFault aliasCheck orElse
+no-alias-fault x y e = rw e
+
 pub plain-numbered : Numbered plain
 plain-numbered = record {
   alone = λ x k e. absurd (Option·none-ne-some k e);

@@ -1,25 +1,28 @@
--- `compat::verdict_new` meets its contract: the new image's refusal, or the comparison. Assumes nothing.
+-- `compat::verdict_new` meets its contract: the new image's fault, or the comparison. Assumes nothing.
 use mathlib.Core.Path.{ap, _∙_}
-use Rattle.items.specs.Pairs.{BothAccepted}
-use Rattle.rules.specs.Answer.{acceptNew, acceptOld, outcome, checked}
-use Rattle.compat.specs.Verdicts.{verdictIs}
-use Rattle.parts.proofs.Promise.{accepted, accepted-read, rejected-read}
-use Rattle.compat.proofs.Outcomes.{checked-pair}
+use Rattle.parts.specs.Codes.{number, newSide}
+use Rattle.verdicts.specs.Verdicts.{verdictIs}
+use Rattle.compat.specs.Policies.{Passing}
+use Rattle.compat.proofs.Outcomes.{passing, new-refused, both-accepted, pair-outcome}
 use borrow.Author.Needs.{needs}
 use Rattle.compat.proofs.verdict_new.Statement.{statement}
 use Rattle.compat.proofs.verdict_new.Tie as tie
 
-both : (c : tie.After-enum-told) → BothAccepted (c .before .before .before .before .before .args .old .now) (c .before .before .before .before .before .args .new .now)
-both c = (c .before .before .before .before .before .pre, accepted _ (c .before .before .read-image .ensures) (c .enum-told .given .1))
+passes : (c : tie.After-enum-told) → let s = c .before .before .before .before .before in Passing (s .args .policy) (number newSide) (s .args .new .now)
+passes c =
+    let s = c .before .before .before .before .before in
+    passing (s .args .policy) (s .args .old .now) (s .args .new .now) (number newSide) (s .args .new .now) (c .before .before .accept .ensures) (c .enum-told .given .1)
 
-read-image-requires : tie.Need-read-image-requires
-read-image-requires c κs = search needs
+accept-requires : tie.Need-accept-requires
+accept-requires c κs = search needs
 
 enum-told : tie.Need-enum-told
 enum-told c = search needs
 
 compare-requires : tie.Need-compare-requires
-compare-requires c κs = both c
+compare-requires c κs =
+    let s = c .before .before .before .before .before in
+    both-accepted (s .args .policy) (s .args .old .now) (s .args .new .now) (s .pre) (passes c)
 
 enum-known-number : tie.Need-enum-known-number
 enum-known-number c = search needs
@@ -28,23 +31,22 @@ refused-requires : tie.Need-refused-requires
 refused-requires c κs = search needs
 
 returns : tie.Need-returns
-returns c = c .compare .ensures ∙ ap verdictIs (checked-pair _ _ (both (c .before)))
+returns c =
+    let s = c .before .before .before .before .before .before in
+    c .compare .ensures ∙ ap verdictIs (pair-outcome (s .args .policy) (s .args .old .now) (s .args .new .now) (s .pre) (passes (c .before)))
 
 returns-2 : tie.Need-returns-2
-unfolding checked outcome acceptOld acceptNew verdictIs
 returns-2 c =
     let s = c .before .before .before .before .before .before .before in
     c .refused .ensures
-    ∙ rw (
-      accepted-read (s .args .old .now) (s .pre) .1,
-      rejected-read (s .args .new .now) (c .before .before .before .before .read-image .ensures) (c .before .before .number .given .1),
-    )
+    ∙ new-refused (s .args .policy) (s .args .old .now) (s .args .new .now) (s .pre) (c .before .before .before .before .accept .ensures)
+    (c .before .before .number .given .1)
 
 pub verdict-new-spec : {M : Type 1} → statement M
 verdict-new-spec =
     tie.close
     (tie.spec
-    read-image-requires
+    accept-requires
     enum-told
     compare-requires
     enum-known-number

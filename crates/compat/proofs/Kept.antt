@@ -5,6 +5,7 @@ use Prim.Native.Nat.{ℕ}
 use Rattle.rules.specs.Refusals.{Numbered}
 use Rattle.rules.proofs.Answer.{plain-numbered}
 use Rattle.rules.proofs.Bound.{Bounded, plain-bounded}
+use Rattle.types.specs.Readings.{readingOf}
 use Rattle.checking.specs.Decls.{allChanges}
 use Rattle.compat.specs.Policies.{policyOf, readingIn, changesBy}
 use Rattle.compat.specs.declared.policies.Policy.{Policy}
@@ -22,5 +23,5 @@ policy-bounded policy.Plain = plain-bounded
 
 -- what its walk reports are the changes of its views
 pub policy-changes : (p : Policy) (old new : List ℕ) → allChanges (readingIn p) old new ≡ changesBy p old new
-unfolding policyOf readingIn changesBy allChanges
+unfolding policyOf readingIn changesBy allChanges readingOf
 policy-changes policy.Plain old new = refl
