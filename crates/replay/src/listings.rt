@@ -15,11 +15,12 @@ fn replay_value(image: &[u8], room: u64, selector: u64, wanted: u64, t: Tally) -
 
 // The listing's verdict: number, side and length; a refusal is Major and Breaking; and selectors that give 0.
 fn replay_verdict(image: &[u8], room: u64, number: usize, length: usize, t: Tally) -> Tally {
-    let one = if number == 0 { 0 } else { 1 };
+    let side = if number == 0 { 0 } else { 1 };
+    let bump = if number == 0 { 0 } else { 2 };
     let next = replay_value(image, room, 0, number as u64, t);
-    let next = replay_value(image, room, 1, one, next);
-    let next = replay_value(image, room, 2, one + one, next);
-    let next = replay_value(image, room, 3, one, next);
+    let next = replay_value(image, room, 1, side, next);
+    let next = replay_value(image, room, 2, bump, next);
+    let next = replay_value(image, room, 3, side, next);
     let next = replay_value(image, room, 4, length as u64, next);
     let next = replay_value(image, room, 5, 0, next);
     replay_value(image, room, 18446744073709551615, 0, next)

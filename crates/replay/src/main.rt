@@ -3,9 +3,9 @@
 mod counting;
 mod file;
 mod listings;
+mod selectors;
 mod texts;
 mod values;
-mod verdicts;
 
 use counting::Step;
 use counting::Tally;
@@ -51,11 +51,11 @@ fn replay_text(fd: i32, old: &[u8], new: &[u8], length: usize, t: Tally) -> Step
 // The answer of a pair: number, side, bump, result, length, counts and report.
 fn replay_answer(fd: i32, counts: usize, old: &[u8], new: &[u8], t: Tally) -> Step {
     let mut recorded = values::none();
-    let step = verdicts::replay_bytes(fd, old, new, &mut recorded, t);
+    let step = selectors::replay_bytes(fd, old, new, &mut recorded, t);
     let Step::Next(after) = step else {
         return step;
     };
-    let step = verdicts::replay_numbers(fd, old, new, counts, &mut recorded, after);
+    let step = selectors::replay_numbers(fd, old, new, counts, &mut recorded, after);
     let Step::Next(after) = step else {
         return step;
     };

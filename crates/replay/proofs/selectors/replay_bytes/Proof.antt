@@ -1,11 +1,11 @@
--- `replay::verdicts::replay_bytes` is safe and ends: the selector rises to 4; the buffer keeps its length. Assumes nothing.
+-- `replay::selectors::replay_bytes` is safe and ends: the selector rises to 4; the buffer keeps its length. Assumes nothing.
 use mathlib.Core.Path.{_≡_, refl}
 use borrow.Author.Needs.{needs}
 use Prim.Native.Nat.{_-_}
 use native.Mathlib.Omega.{arith}
 use lib.ListN.{length}
-use Rattle.replay.proofs.verdicts.replay_bytes.Statement.{statement}
-use Rattle.replay.proofs.verdicts.replay_bytes.Tie as tie
+use Rattle.replay.proofs.selectors.replay_bytes.Statement.{statement}
+use Rattle.replay.proofs.selectors.replay_bytes.Tie as tie
 
 abbrev Inv-loop : tie.InvT-loop
 Inv-loop fd old new values₀ next₀ selector₀ values next selector = length values ≡ length values₀

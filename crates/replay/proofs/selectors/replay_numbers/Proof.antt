@@ -1,10 +1,10 @@
--- `replay::verdicts::replay_numbers` is safe and ends: fewer numbers are left with each turn; the buffer keeps its length. Assumes nothing.
+-- `replay::selectors::replay_numbers` is safe and ends: fewer numbers are left with each turn; the buffer keeps its length. Assumes nothing.
 use mathlib.Core.Path.{_≡_, refl}
 use borrow.Author.Needs.{needs}
 use native.Mathlib.Omega.{arith}
 use lib.ListN.{length}
-use Rattle.replay.proofs.verdicts.replay_numbers.Statement.{statement}
-use Rattle.replay.proofs.verdicts.replay_numbers.Tie as tie
+use Rattle.replay.proofs.selectors.replay_numbers.Statement.{statement}
+use Rattle.replay.proofs.selectors.replay_numbers.Tie as tie
 
 abbrev Inv-loop : tie.InvT-loop
 Inv-loop fd old new counts values₀ next₀ selector₀ left₀ values next selector left = length values ≡ length values₀
