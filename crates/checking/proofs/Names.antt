@@ -1,26 +1,29 @@
 -- One declaration: what is reported of it, from what stands under its name on the other side. Assumes nothing.
-use mathlib.Core.Path.{_≡_}
-use mathlib.Core.Bool.{true}
+use mathlib.Core.Path.{_≡_, sym, _∙_}
+use mathlib.Core.Bool.{Bool, true}
 use mathlib.Core.List.{List, []}
 use Prim.Native.Nat.{ℕ}
+use Rattle.maps.specs.Orders.{before}
 use Rattle.maps.specs.Compare.{unmatched, matched}
+use Rattle.maps.proofs.Walking.{covered-none}
 use Rattle.image.specs.Schema.{Name, Decl}
 use Rattle.text.specs.declared.Mode.{Mode}
 use Rattle.parts.specs.Promise.{declIn}
 use Rattle.parts.specs.declared.Entry.{Entry}
 use Rattle.parts.specs.declared.Entry.the-variants.{Body, Unresolvable}
+use Rattle.rules.specs.Survivors.{nameOf, declarations}
 use Rattle.rules.specs.Clauses.{compareDecls, declRules}
 use Rattle.tally.specs.Reporting.{Ready, Ran}
 use Rattle.tally.specs.declared.Tally.{Tally}
 use Rattle.types.specs.declared.Reading.{Reading}
-use Rattle.survivors.specs.Answers.{Survives}
+use Rattle.survivors.specs.Answers.{Survives, namesCovered}
 use Rattle.survivors.proofs.Declarations.{survives-none, survives-body, survives-here}
 use Rattle.lines.specs.Clauses.{declRemoved, declAdded}
 use Rattle.lines.proofs.Clauses.{Reports, decl-removed, decl-added}
 use Rattle.items.specs.Pairs.{contextOf, DeclPair}
 use Rattle.items.specs.Sides.{on, off}
 use Rattle.items.specs.declared.Side.{Side}
-use Rattle.checking.specs.Decls.{lone, unmatchedIn, keptIn, DeclOn}
+use Rattle.checking.specs.Decls.{standingOff, allOff, lone, unmatchedDecls, unmatchedIn, keptIn, DeclOn}
 
 -- what stands under a name stands under one that equals it
 pub under : {m : List Decl} {s : List ℕ} {name key : Name} {r : Entry} → name ≡ key → Survives m s name r → Survives m s key r
@@ -44,6 +47,12 @@ module _ (reading : Reading) {old new : List ℕ} {side : Side} {at : ℕ} (p : 
 
     pub added : side ≡ Side.New → Reports old new (declAdded at) true (unmatchedIn reading old new n side at)
     added o = rw (alone, o) (decl-added old new (p .accepted .0) (p .accepted .1) (contextOf reading old new) at (rw o at (p .here)))
+
+-- each name that a side lists stands on the other
+pub none-unmatched : (reading : Reading) (old new : List ℕ) (side : Side) {t : Bool} → t ≡ allOff old new side → t ≡ true
+    → unmatchedDecls reading old new side ≡ []
+unfolding unmatchedDecls declarations namesCovered
+none-unmatched reading old new side e q = covered-none nameOf before (lone reading old new side) (standingOff old new side) _ (sym e ∙ q)
 
 -- ---- on both, where n stand in the new image
 

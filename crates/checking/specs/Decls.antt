@@ -16,7 +16,7 @@ use Rattle.rules.specs.Clauses.{compareNamespaces, compareKind, compareDecls, d
 use Rattle.rules.specs.Verdict.{alias, isAlias, aliasPair}
 use Rattle.types.specs.Readings.{readingOf}
 use Rattle.types.specs.declared.Reading.{Reading}
-use Rattle.survivors.specs.Answers.{Survives, Follows}
+use Rattle.survivors.specs.Answers.{Survives, Follows, namesCovered}
 use Rattle.items.specs.Pairs.{contextOf, BothAccepted}
 use Rattle.items.specs.Sides.{on, off}
 use Rattle.items.specs.declared.Side.{Side}
@@ -37,6 +37,10 @@ module _ (old new : List ℕ) where
 
   abbrev pub NamesakeOff : Side → ℕ → Entry → Type 0
   NamesakeOff s at r = Survives (standingOff s) (off s old new) (declIn (on s old new) at .name) r
+
+  -- whether each name that a side lists stands on the other
+  abbrev pub allOff : Side → Bool
+  allOff s = namesCovered (standingOff s) (on s old new)
 
   -- ---- 11
 

@@ -1,4 +1,5 @@
 // 2. and 3. Declarations, by rising name: removed, added, kept.
+use crate::sides::all_off;
 use crate::sides::namesake_off;
 use crate::sides::next_on;
 use clauses::enums::compare_enums;
@@ -94,7 +95,7 @@ fn unmatched_decl(
     }
 }
 
-// The declarations of a side that do not stand on the other.
+// The declarations of a side that do not stand on the other. Most often each name does, which is told without a walk.
 pub fn unmatched_decls(
     walk: Walk,
     old: &[u8],
@@ -106,6 +107,9 @@ pub fn unmatched_decls(
     requires { ⌜ BothAccepted (now old) (now new) × Ready (walk .mode) (now out) t (unmatchedDecls (walk .reading) (now old) (now new) side) ⌝ }
     ensures { λ r. ⌜ Ran (walk .mode) (now (out .entry)) t (unmatchedDecls (walk .reading) (now (old .entry)) (now (new .entry)) side) r (now (out .exit)) ⌝ }
 {
+    if all_off(side, old, new) {
+        return t;
+    }
     let mut tally = t;
     let mut after = Entry::Unresolvable;
     loop {

@@ -2,12 +2,14 @@
 use items::Side;
 use parts::Entry;
 use parts::decls::decl_name;
+use survivors::decls::all_named;
 use survivors::decls::next_decl;
 use survivors::decls::survivor;
+ghost use mathlib.Core.Path.{_≡_};
 ghost use Rattle.parts.specs.Promise.{EntryHere};
 ghost use Rattle.items.specs.Pairs.{BothAccepted};
 ghost use Rattle.items.specs.Sides.{on};
-ghost use Rattle.checking.specs.Decls.{DeclOn, NextOn, NamesakeOff};
+ghost use Rattle.checking.specs.Decls.{DeclOn, NextOn, NamesakeOff, allOff};
 
 // The next declaration on a side.
 pub fn next_on(side: Side, old: &[u8], new: &[u8], after: Entry) -> Entry
@@ -28,5 +30,16 @@ pub fn namesake_off(side: Side, old: &[u8], new: &[u8], at: usize) -> Entry
     match side {
         Side::Old => survivor(new, decl_name(old, at)),
         Side::New => survivor(old, decl_name(new, at)),
+    }
+}
+
+// Whether each name that a side lists stands on the other.
+pub fn all_off(side: Side, old: &[u8], new: &[u8]) -> bool
+    requires { ⌜ BothAccepted (now old) (now new) ⌝ }
+    ensures { λ r. ⌜ r ≡ allOff (now (old .entry)) (now (new .entry)) side ⌝ }
+{
+    match side {
+        Side::Old => all_named(old, new),
+        Side::New => all_named(new, old),
     }
 }

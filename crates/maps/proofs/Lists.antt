@@ -1,12 +1,13 @@
 -- Laws of specs/Lists.
 -- Assumes nothing.
 use mathlib.Core.Path.{_≡_, refl, sym, ap, _∙_}
-use mathlib.Core.Bool.{Bool, cond}
+use mathlib.Core.Bool.{Bool, true, false, cond, _&&_}
 use mathlib.Core.List.{List, [], _∷_, _++_, flatMap, append-assoc}
 use Prim.Native.Nat.{ℕ, _+_, _≤_, max}
 use native.Mathlib.Omega.{arith}
 use lib.ListN.{length, length-append}
-use Rattle.maps.specs.Lists.{pass, largest, total, count, All}
+use Rattle.maps.specs.Lists.{pass, largest, total, count, every, All}
+use Rattle.maps.proofs.Tests.{no-both}
 
 -- ---- all elements
 
@@ -19,6 +20,15 @@ pub all-map : {A : Type 0} {P Q : A → Type 0} → ((a : A) → P a → Q a) �
 unfolding All
 all-map f [] h = tt
 all-map f (a ∷ l) h = (f a (h .0), all-map f l (h .1))
+
+pub every-all : {A : Type 0} (p : A → Bool) (l : List A) → every p l ≡ true → All (λ a. p a ≡ true) l
+unfolding every All
+every-all p [] e = tt
+every-all p (a ∷ l) e = go (p a) refl e (every-all p l)
+  where
+    go : (u : Bool) → p a ≡ u → (u && every p l) ≡ true → (every p l ≡ true → All (λ b. p b ≡ true) l) → (p a ≡ true) × All (λ b. p b ≡ true) l
+    go true q f ih = (q, ih f)
+    go false q f ih = no-both f refl
 
 -- ---- passes
 

@@ -11,12 +11,12 @@ use lib.ListN.{length}
 use Rattle.maps.specs.Lists.{All}
 use Rattle.maps.specs.Orders.{Strict}
 use Rattle.maps.specs.Keyed.{insert, survivors, lookup}
-use Rattle.maps.specs.Compare.{between}
-use Rattle.maps.specs.Walk.{past, Rising, above, following, rest, nearer, better, least}
-use Rattle.maps.proofs.Lists.{pass-view}
+use Rattle.maps.specs.Compare.{unmatched, between}
+use Rattle.maps.specs.Walk.{isSome, past, Rising, above, following, rest, nearer, better, least, covers}
+use Rattle.maps.proofs.Lists.{pass-view, every-all}
 use Rattle.maps.proofs.Tests.{no-both}
 use Rattle.maps.proofs.Orders.{asym, same-self, after-other}
-use Rattle.maps.proofs.Survivors.{After, insert-cases}
+use Rattle.maps.proofs.Survivors.{After, insert-cases, all-survivors}
 
 module _ {K E : Type 0} {lt : K → K → Bool} (key : E → K) (S : Strict K lt) where
   -- ---- the entry that follows
@@ -147,3 +147,23 @@ module _ {K E : Type 0} {lt : K → K → Bool} (key : E → K) (S : Strict K lt
   pub left-less : (m : List E) (b : Option K) (e : E) → Rising key lt m → following key lt b m ≡ some e
       → length (above key lt (some (key e)) m) < length (above key lt b m)
   left-less m b e R p = omega (arith, ap length (turn b e m R p .split))
+
+-- ---- a walk that has nothing to report
+
+module _ {K E C : Type 0} (key : E → K) (lt : K → K → Bool) (c : E → List C) (n : List E) where
+  unmatched-has : (e : E) (o : Option E) → isSome o ≡ true → unmatched c (some e) o ≡ []
+  unfolding unmatched isSome
+  unmatched-has e none p = no-both p refl
+  unmatched-has e (some f) p = refl
+
+  matched-all : (m : List E) → All (λ e. isSome (lookup key lt (key e) n) ≡ true) m → between key lt (unmatched c) m n ≡ []
+  unfolding between flatMap All
+  matched-all [] h = refl
+  matched-all (e ∷ m) h = rw (unmatched-has e (lookup key lt (key e) n) (h .0)) (matched-all m (h .1))
+
+  -- each key that is listed stands on the other side
+  pub covered-none : (l : List E) → covers key lt n l ≡ true → between key lt (unmatched c) (survivors key lt l) n ≡ []
+  unfolding covers
+  covered-none l p =
+      matched-all (survivors key lt l)
+      (all-survivors key lt (λ e. isSome (lookup key lt (key e) n) ≡ true) l (every-all (λ e. isSome (lookup key lt (key e) n)) l p))

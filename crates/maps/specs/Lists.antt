@@ -1,6 +1,6 @@
--- A pass over a list from the front; the largest, the sum and the number over a list; what all its elements have.
+-- A pass over a list from the front; the largest, the sum and the number over a list; what all its elements pass or have.
 -- Assumes nothing.
-use mathlib.Core.Bool.{Bool, cond}
+use mathlib.Core.Bool.{Bool, true, cond, _&&_}
 use mathlib.Core.List.{List, [], _∷_}
 use Prim.Native.Nat.{ℕ, _+_, max}
 
@@ -22,6 +22,11 @@ total w (a ∷ l) = w a + total w l
 -- how many pass a test
 unfoldable pub count : {A : Type 0} → (A → Bool) → List A → ℕ
 count p l = total (λ a. cond (p a) 1 0) l
+
+-- whether every element passes a test
+unfoldable pub every : {A : Type 0} → (A → Bool) → List A → Bool
+every p [] = true
+every p (a ∷ l) = p a && every p l
 
 -- every element has P
 unfoldable pub All : {A : Type 0} → (A → Type 0) → List A → Type 0

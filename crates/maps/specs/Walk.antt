@@ -5,8 +5,9 @@ use mathlib.Core.Path.{_≡_}
 use mathlib.Core.Bool.{Bool, true, false, cond, not, _&&_, _||_}
 use mathlib.Core.List.{List, [], _∷_}
 use mathlib.Core.Option.{Option, none, some, orElse}
-use Rattle.maps.specs.Lists.{pass, All}
+use Rattle.maps.specs.Lists.{pass, every, All}
 use Rattle.maps.specs.Orders.{same}
+use Rattle.maps.specs.Keyed.{lookup}
 use Rattle.maps.specs.Compare.{between}
 
 -- whether there is something
@@ -56,6 +57,10 @@ module _ {K E : Type 0} (key : E → K) (lt : K → K → Bool) where
   unfoldable pub has : K → List E → Bool
   has k [] = false
   has k (e ∷ l) = same lt k (key e) || has k l
+
+  -- whether a map has each key of a list
+  unfoldable pub covers : List E → List E → Bool
+  covers n l = every (λ e. isSome (lookup key lt (key e) n)) l
 
   -- what was found last under k, after one entry more
   unfoldable pub seen : K → Option E → E → Option E

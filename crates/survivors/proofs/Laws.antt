@@ -1,4 +1,4 @@
--- Better: the best key so far and one more. Nearest: the same of two entries. Listed: the searches over the declaration ids.
+-- Better: the best entry so far and one more. Nearest: the same of declarations. Listed: the searches over the declaration ids.
 -- Passed: a pass over the items of a run.
 pub mod Better
 pub mod Nearest

@@ -1,19 +1,19 @@
 -- What the searches answer. Assumes nothing.
 use mathlib.Core.Path.{_≡_}
-use mathlib.Core.Bool.{Bool, false}
+use mathlib.Core.Bool.{Bool, true, false}
 use mathlib.Core.Option.{Option, none, some, Option·map}
 use mathlib.Core.List.{List}
 use Prim.Native.Nat.{ℕ}
 use lib.Dec.{ltb}
 use Rattle.maps.specs.Keyed.{survivors, lookup}
 use Rattle.maps.specs.Orders.{before}
-use Rattle.maps.specs.Walk.{following, nearer}
+use Rattle.maps.specs.Walk.{isSome, following, nearer, covers}
 use Rattle.image.specs.Schema.{Name, Decl}
-use Rattle.parts.specs.Promise.{entryDecl, EntryHere, ItemHere, placesFrom, ordinalIn}
+use Rattle.parts.specs.Promise.{schemaOf, entryDecl, EntryHere, ItemHere, placesFrom, ordinalIn}
 use Rattle.parts.specs.declared.Entry.{Entry}
 use Rattle.parts.specs.declared.Shape.{Shape}
 use Rattle.parts.specs.declared.Run.{Run}
-use Rattle.rules.specs.Survivors.{nameOf}
+use Rattle.rules.specs.Survivors.{listed, nameOf}
 use Rattle.survivors.specs.declared.Found.{Found}
 use Rattle.survivors.specs.declared.Found.the-variants as found
 use Rattle.survivors.specs.declared.Ordinal.{Ordinal}
@@ -41,6 +41,15 @@ pub record Follows (standing : List Decl) (s : List ℕ) (after r : Entry) : Typ
 unfoldable pub nearerDecl : Option Name → Option Decl → Option Decl → Bool
 nearerDecl b best none = false
 nearerDecl b best (some d) = nearer nameOf before b best d
+
+-- whether n has one under the name of a declaration, if there is one
+unfoldable pub namesakeIn : List Decl → Option Decl → Bool
+namesakeIn n none = true
+namesakeIn n (some d) = isSome (lookup nameOf before (d .name) n)
+
+-- whether n has each name that an image lists
+unfoldable pub namesCovered : List Decl → List ℕ → Bool
+namesCovered n s = covers nameOf before n (listed (schemaOf s .registry) (schemaOf s .ids))
 
 -- ---- items
 

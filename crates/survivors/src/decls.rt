@@ -11,7 +11,7 @@ ghost use Rattle.maps.specs.Orders.{before};
 ghost use Rattle.maps.specs.Walk.{past};
 ghost use Rattle.parts.specs.Promise.{Accepted, schemaOf, DeclHere, declIn, entryDecl, EntryHere};
 ghost use Rattle.rules.specs.Survivors.{declarations};
-ghost use Rattle.survivors.specs.Answers.{named, Survives, Follows, nearerDecl};
+ghost use Rattle.survivors.specs.Answers.{named, Survives, Follows, nearerDecl, namesakeIn, namesCovered};
 
 // The declaration that stands under a name: "The search goes from the end and stops at the first match."
 pub fn survivor(image: &[u8], name: &[u8]) -> Entry
@@ -101,4 +101,34 @@ pub fn next_decl(image: &[u8], after: Entry) -> Entry
         i += 1;
     }
     best
+}
+
+// Whether another image has a declaration under the name of an entry, if that is resolvable.
+fn has_namesake(image: &[u8], at: Entry, other: &[u8]) -> bool
+    requires { ⌜ EntryHere (now image) at × Accepted (now other) ⌝ }
+    ensures { λ r. ⌜ r ≡ namesakeIn (declarations (schemaOf (now (other .entry)))) (entryDecl (now (image .entry)) at) ⌝ }
+{
+    let Entry::Body(body) = at else {
+        return true;
+    };
+    let Entry::Unresolvable = survivor(other, decl_name(image, body)) else {
+        return true;
+    };
+    false
+}
+
+// Whether another image has a declaration under each name that an image lists: far less than a walk by rising name.
+pub fn all_named(image: &[u8], other: &[u8]) -> bool
+    requires { ⌜ Accepted (now image) × Accepted (now other) ⌝ }
+    ensures { λ r. ⌜ r ≡ namesCovered (declarations (schemaOf (now (other .entry)))) (now (image .entry)) ⌝ }
+{
+    let n = id_count(image);
+    let mut i = 0;
+    while i < n {
+        if !has_namesake(image, entry(image, id_at(image, i)), other) {
+            return false;
+        }
+        i += 1;
+    }
+    true
 }

@@ -1,15 +1,16 @@
 -- The searches over the declaration ids: a turn, the ways out. Assumes nothing.
 use mathlib.Core.Path.{_≡_, refl, sym, ap, _∙_}
-use mathlib.Core.Bool.{Bool, true, false, cond}
+use mathlib.Core.Bool.{Bool, true, false, cond, _&&_}
 use mathlib.Core.Option.{Option, none, some}
 use mathlib.Core.List.{List, [], _∷_, _++_, flatMap}
 use Prim.Native.Nat.{ℕ, suc, _+_, _-_, _≤_, _<_}
 use native.Mathlib.Numerals.{add-one}
 use lib.ListN.{length, getD, take, drop, drop-of-length-le}
 use lib.Seq.{drop-cons}
+use Rattle.maps.specs.Lists.{every}
 use Rattle.maps.specs.Orders.{same, before}
 use Rattle.maps.specs.Keyed.{lookup}
-use Rattle.maps.specs.Walk.{latest, following, better, least}
+use Rattle.maps.specs.Walk.{isSome, latest, following, better, least, covers}
 use Rattle.maps.proofs.Names.{byName}
 use Rattle.maps.proofs.Searches.{latest-start, latest-nothing, latest-skips, latest-other, latest-found, lookup-latest, least-cons, least-nil}
 use Rattle.maps.proofs.Walking.{following-least}
@@ -20,7 +21,8 @@ use Rattle.parts.specs.declared.Entry.the-variants.{Body, Unresolvable}
 use Rattle.parts.proofs.Promise.{resolved-here}
 use Rattle.rules.specs.Survivors.{Registry, resolved, listed, nameOf, declarations}
 use Rattle.rules.specs.Survivors.{standsFor as entryOf}
-use Rattle.survivors.specs.Answers.{Survives, nearerDecl}
+use Rattle.survivors.specs.Answers.{Survives, nearerDecl, namesakeIn, namesCovered}
+use Rattle.survivors.proofs.Laws.Nearest.{decl-none, decl-body}
 
 -- what one id lists
 unfoldable pub declared : Registry → ℕ → List Decl
@@ -124,3 +126,56 @@ module _ (s : List ℕ) (b : Option Name) where
 
     pub ahead-left : t ≡ false → EntryHere s best → {best′ : Entry} → best′ ≡ best → EntryHere s best′ × (ahead (entryDecl s best′) (i + 1) ≡ o)
     ahead-left w g f = rw f (g, rw w at turn)
+
+-- ---- whether n has each name, from the front
+
+module _ (n : List Decl) (s : List ℕ) where
+  unfoldable pub namedFrom : ℕ → Bool
+  namedFrom i = covers nameOf before n (listed (schemaOf s .registry) (drop i (schemaOf s .ids)))
+
+  pub named-start : namedFrom 0 ≡ namesCovered n s
+  unfolding namedFrom namesCovered
+  named-start = refl
+
+  pub named-end : (i : ℕ) {x : Bool} → length (schemaOf s .ids) ≤ i → namedFrom i ≡ x → true ≡ x
+  unfolding namedFrom listed covers every
+  named-end i h p = rw (drop-of-length-le (schemaOf s .ids) h) at p
+
+  covers-resolved : (o : Option Decl) (ds : List Decl) → covers nameOf before n (resolved o ds) ≡ (namesakeIn n o && covers nameOf before n ds)
+  unfolding covers every resolved namesakeIn
+  covers-resolved none ds = refl
+  covers-resolved (some d) ds = refl
+
+  module _ (i : ℕ) {x : Bool} (p : namedFrom i ≡ x) (h : i < length (schemaOf s .ids)) {id : ℕ} (e : id ≡ getD (schemaOf s .ids) i 0)
+      {r : Entry} (v : Resolved s id r) {t : Bool} (q : t ≡ namesakeIn n (entryDecl s r)) where
+    step : (t && namedFrom (i + 1)) ≡ x
+    unfolding namedFrom listed entryOf
+    step =
+        let R = schemaOf s .registry in
+        let ids = schemaOf s .ids in
+        let u : getD R (getD ids i 0) none ≡ entryDecl s r = rw (← e) (sym (v .value)) in
+        rw (add-one, q) (sym (rw (drop-cons ids i 0 h, u) (covers-resolved (entryDecl s r) (listed R (drop (suc i) ids)))) ∙ p)
+
+    pub named-not : t ≡ false → false ≡ x
+    named-not w = rw w at step
+
+    pub named-turn : t ≡ true → namedFrom (i + 1) ≡ x
+    named-turn w = rw w at step
+
+-- of one entry, by what stands under its name
+module _ (n : List Decl) (s : List ℕ) {at : Entry} where
+  pub namesake-skips : at ≡ Unresolvable → true ≡ namesakeIn n (entryDecl s at)
+  unfolding namesakeIn
+  namesake-skips e = rw (decl-none s e)
+
+  module _ {body : ℕ} (e : at ≡ Body body) {own : Name} (w : own ≡ declIn s body .name) (o : List ℕ) {r : Entry} (h : Survives n o own r) where
+    stands : lookup nameOf before (declIn s body .name) n ≡ entryDecl o r
+    stands = rw (← w) (sym (h .value))
+
+    pub namesake-found : {j : ℕ} → r ≡ Body j → true ≡ namesakeIn n (entryDecl s at)
+    unfolding namesakeIn isSome
+    namesake-found f = rw (decl-body s e, stands, decl-body o f)
+
+    pub namesake-none : r ≡ Unresolvable → false ≡ namesakeIn n (entryDecl s at)
+    unfolding namesakeIn isSome
+    namesake-none f = rw (decl-body s e, stands, decl-none o f)
