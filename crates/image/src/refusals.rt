@@ -1,6 +1,4 @@
 // The numbers of refusals: document 01, "Turned back".
-pub const NOT_REFUSED: u8 = 0;
-
 pub const LONG: u8 = 1;
 
 pub const SHORT_HEAD: u8 = 2;

@@ -1,6 +1,4 @@
 // The sides of a refusal: which image it is of.
-pub const NONE: u8 = 0;
-
 pub const OLD: u8 = 1;
 
 pub const NEW: u8 = 2;
