@@ -132,6 +132,7 @@ fn kept_decl(walk: Walk, old: &[u8], new: &[u8], out: &mut [u8], t: Tally, i: us
     compare_decls(walk, old, new, out, t, i, j)
 }
 
+// The declarations of the old image that stand in the new one too.
 pub fn kept_decls(walk: Walk, old: &[u8], new: &[u8], out: &mut [u8], t: Tally) -> Tally
     requires { ⌜ BothAccepted (now old) (now new) × Ready (walk .mode) (now out) t (keptDecls (walk .reading) (now old) (now new)) ⌝ }
     ensures { λ r. ⌜ Ran (walk .mode) (now (out .entry)) t (keptDecls (walk .reading) (now (old .entry)) (now (new .entry))) r (now (out .exit)) ⌝ }

@@ -25,6 +25,7 @@ fn compare_namespaces(walk: Walk, old: &[u8], new: &[u8], out: &mut [u8], t: Tal
     emit_if(walk, old, new, out, t, test, namespace_changed())
 }
 
+// All clauses, in the order of the report.
 pub fn check(walk: Walk, old: &[u8], new: &[u8], out: &mut [u8]) -> Tally
     requires { ⌜ BothAccepted (now old) (now new) × Ready (walk .mode) (now out) noChange (allChanges (walk .reading) (now old) (now new)) ⌝ }
     ensures { λ r. ⌜ Ran (walk .mode) (now (out .entry)) noChange (allChanges (walk .reading) (now (old .entry)) (now (new .entry))) r (now (out .exit)) ⌝ }

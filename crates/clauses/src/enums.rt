@@ -12,6 +12,7 @@ use tally::Tally;
 ghost use Rattle.tally.specs.Reporting.{Ready, Ran};
 ghost use Rattle.items.specs.Pairs.{KindPair, ofEnums};
 
+// Two enums: openness, variants removed, variants added.
 pub fn compare_enums(
     walk: Walk,
     old: &[u8],

@@ -27,15 +27,13 @@ use survivors::Ordinal;
 use tally::Tally;
 use types::names::same_name;
 ghost use mathlib.Core.Path.{_≡_};
-ghost use mathlib.Core.Bool.{_&&_};
 ghost use lib.Dec.{eqb};
 ghost use Rattle.parts.specs.Promise.{ItemHere, fieldIn, limitOf};
 ghost use Rattle.parts.specs.declared.Shape.{Shape};
 ghost use Rattle.rules.specs.Equal.{sameOption};
-ghost use Rattle.rules.specs.Clauses.{sameEncoding};
 ghost use Rattle.tally.specs.Reporting.{Ready, Ran};
-ghost use Rattle.items.specs.Pairs.{FieldPair, ofFields};
-ghost use Rattle.items.specs.Items.{FieldsIn, FieldIn, keptFields, keptField, fieldChanges};
+ghost use Rattle.items.specs.Pairs.{sameCoding, FieldPair, ofFields};
+ghost use Rattle.items.specs.Items.{FieldsIn, keptFields, fieldChanges, FieldAsked, FieldTold, FieldsTold};
 
 fn limits_equal(a: Limit, b: Limit) -> bool
     ensures { λ r. ⌜ r ≡ sameOption eqb (limitOf a) (limitOf b) ⌝ }
@@ -55,7 +53,7 @@ fn limits_equal(a: Limit, b: Limit) -> bool
 // Whether two fields have the same encoding and the same limit.
 fn encodings_equal(old: &[u8], i: usize, new: &[u8], j: usize) -> bool
     requires { ⌜ ItemHere Shape.Field (now old) i × ItemHere Shape.Field (now new) j ⌝ }
-    ensures { λ r. ⌜ r ≡ (sameEncoding (fieldIn (now (old .entry)) i .encoding) (fieldIn (now (new .entry)) j .encoding) && sameOption eqb (fieldIn (now (old .entry)) i .limit) (fieldIn (now (new .entry)) j .limit)) ⌝ }
+    ensures { λ r. ⌜ r ≡ sameCoding (fieldIn (now (old .entry)) i) (fieldIn (now (new .entry)) j) ⌝ }
 {
     let a = field_encoding(old, i);
     let b = field_encoding(new, j);
@@ -109,8 +107,8 @@ fn kept_field(
     ordinal: u32,
     i: usize,
 ) -> Tally
-    requires { ⌜ FieldIn (now old) (now new) scope a b i × Ready (walk .mode) (now out) t (keptField (walk .reading) (now old) (now new) scope a b ordinal i) ⌝ }
-    ensures { λ r. ⌜ Ran (walk .mode) (now (out .entry)) t (keptField (walk .reading) (now (old .entry)) (now (new .entry)) scope a b ordinal i) r (now (out .exit)) ⌝ }
+    requires { ⌜ FieldAsked walk (now old) (now new) (now out) t scope a b ordinal i ⌝ }
+    ensures { λ r. ⌜ FieldTold walk (now (old .entry)) (now (new .entry)) (now (out .entry)) t r (now (out .exit)) scope a b ordinal i ⌝ }
 {
     let items = Items {
         of: Owner::Fields(scope),
@@ -164,7 +162,7 @@ pub fn compare_field_sets(
     b: Run,
 ) -> Tally
     requires { ⌜ FieldsIn (now old) (now new) scope a b × Ready (walk .mode) (now out) t (fieldChanges (walk .reading) (now old) (now new) scope a b) ⌝ }
-    ensures { λ r. ⌜ Ran (walk .mode) (now (out .entry)) t (fieldChanges (walk .reading) (now (old .entry)) (now (new .entry)) scope a b) r (now (out .exit)) ⌝ }
+    ensures { λ r. ⌜ FieldsTold walk (now (old .entry)) (now (new .entry)) (now (out .entry)) t r (now (out .exit)) scope a b ⌝ }
 {
     let items = Items {
         of: Owner::Fields(scope),

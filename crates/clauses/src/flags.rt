@@ -9,6 +9,7 @@ use tally::Tally;
 ghost use Rattle.tally.specs.Reporting.{Ready, Ran};
 ghost use Rattle.items.specs.Pairs.{KindPair, ofFlags};
 
+// Two flags: bits removed, bits added.
 pub fn compare_flags(
     walk: Walk,
     old: &[u8],

@@ -10,6 +10,7 @@ use tally::Tally;
 ghost use Rattle.tally.specs.Reporting.{Ready, Ran};
 ghost use Rattle.items.specs.Pairs.{KindPair, ofMessages};
 
+// Two messages.
 pub fn compare_messages(
     walk: Walk,
     old: &[u8],

@@ -7,6 +7,7 @@ use tally::Tally;
 ghost use Rattle.tally.specs.Reporting.{Ready, Ran};
 ghost use Rattle.items.specs.Pairs.{KindPair, ofNewtypes};
 
+// Two newtypes: their inner types.
 pub fn compare_newtypes(
     walk: Walk,
     old: &[u8],

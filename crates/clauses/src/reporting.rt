@@ -10,6 +10,7 @@ ghost use Rattle.tally.specs.Reporting.{Ready, Ran};
 ghost use Rattle.lines.specs.Sites.{changeOf, SiteHere};
 ghost use Rattle.items.specs.Pairs.{TypePair, ofTypes};
 
+// The change of a site, if a test passes.
 pub fn emit_if(
     walk: Walk,
     old: &[u8],

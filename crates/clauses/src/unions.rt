@@ -17,7 +17,7 @@ use survivors::Ordinal;
 use tally::Tally;
 ghost use Rattle.tally.specs.Reporting.{Ready, Ran};
 ghost use Rattle.items.specs.Pairs.{KindPair, ofUnions};
-ghost use Rattle.items.specs.Items.{VariantsIn, VariantIn, keptVariants, keptVariant};
+ghost use Rattle.items.specs.Items.{VariantsIn, keptVariants, VariantAsked, VariantTold};
 
 // The old variant at a place, under its ordinal: the fields are compared, if a new variant stands under it too.
 fn kept_variant(
@@ -32,8 +32,8 @@ fn kept_variant(
     ordinal: u32,
     i: usize,
 ) -> Tally
-    requires { ⌜ VariantIn (now old) (now new) decl a b i × Ready (walk .mode) (now out) t (keptVariant (walk .reading) (now old) (now new) decl a b ordinal i) ⌝ }
-    ensures { λ r. ⌜ Ran (walk .mode) (now (out .entry)) t (keptVariant (walk .reading) (now (old .entry)) (now (new .entry)) decl a b ordinal i) r (now (out .exit)) ⌝ }
+    requires { ⌜ VariantAsked walk (now old) (now new) (now out) t decl a b ordinal i ⌝ }
+    ensures { λ r. ⌜ VariantTold walk (now (old .entry)) (now (new .entry)) (now (out .entry)) t r (now (out .exit)) decl a b ordinal i ⌝ }
 {
     let items = Items {
         of: Owner::Union(decl),
@@ -77,6 +77,7 @@ fn kept_variants(
     }
 }
 
+// Two unions: variants removed, added, kept.
 pub fn compare_unions(
     walk: Walk,
     old: &[u8],

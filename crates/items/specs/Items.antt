@@ -18,6 +18,8 @@ use Rattle.survivors.specs.declared.Found.{Found}
 use Rattle.survivors.specs.declared.Ordinal.{Ordinal}
 use Rattle.survivors.specs.declared.Next.{Next}
 use Rattle.types.specs.declared.Reading.{Reading}
+use Rattle.tally.specs.Reporting.{Ready, Ran}
+use Rattle.tally.specs.declared.Tally.{Tally}
 use Rattle.details.specs.Details.{declarationOf, ScopeHere}
 use Rattle.lines.specs.Clauses.{fieldRemoved, fieldAdded, variantRemoved, variantAdded, bitRemoved, bitAdded}
 use Rattle.details.specs.declared.Scope.{Scope}
@@ -29,6 +31,7 @@ use Rattle.items.specs.declared.Side.the-variants as side
 use Rattle.items.specs.declared.Owner.{Owner}
 use Rattle.items.specs.declared.Owner.the-variants as owner
 use Rattle.items.specs.declared.Items.{Items}
+use Rattle.items.specs.declared.Walk.{Walk}
 
 -- ---- whose items they are
 
@@ -163,3 +166,31 @@ cameSite new (owner.Fields c) at = fieldAdded c at
 cameSite new (owner.Enum i j) at = variantAdded (level (enumBump (declIn new j .marks))) i at
 cameSite new (owner.Flags i) at = bitAdded i at
 cameSite new (owner.Union i) at = variantAdded 1 i at
+
+-- ---- what reporting one of them asks, and what reporting gives: with the buffer d and the tally t, and after it d′ and r
+
+module _ (w : Walk) (old new d : List ℕ) (t : Tally) where
+  abbrev pub UnmatchedAsked : Items → Side → ℕ → ℕ → Type 0
+  UnmatchedAsked x s k at = ItemIn old new x s at × Ready (w .mode) d t (unmatchedAt (w .reading) old new x s k at)
+
+  abbrev pub FieldAsked : Scope → Run → Run → ℕ → ℕ → Type 0
+  FieldAsked c a b k i = FieldIn old new c a b i × Ready (w .mode) d t (keptField (w .reading) old new c a b k i)
+
+  abbrev pub VariantAsked : ℕ → Run → Run → ℕ → ℕ → Type 0
+  VariantAsked u a b k i = VariantIn old new u a b i × Ready (w .mode) d t (keptVariant (w .reading) old new u a b k i)
+
+  module _ (r : Tally) (d′ : List ℕ) where
+    abbrev pub UnmatchedTold : Items → Side → ℕ → ℕ → Type 0
+    UnmatchedTold x s k at = Ran (w .mode) d t (unmatchedAt (w .reading) old new x s k at) r d′
+
+    abbrev pub ItemsTold : Items → Side → Type 0
+    ItemsTold x s = Ran (w .mode) d t (unmatchedItems (w .reading) old new x s) r d′
+
+    abbrev pub FieldTold : Scope → Run → Run → ℕ → ℕ → Type 0
+    FieldTold c a b k i = Ran (w .mode) d t (keptField (w .reading) old new c a b k i) r d′
+
+    abbrev pub FieldsTold : Scope → Run → Run → Type 0
+    FieldsTold c a b = Ran (w .mode) d t (fieldChanges (w .reading) old new c a b) r d′
+
+    abbrev pub VariantTold : ℕ → Run → Run → ℕ → ℕ → Type 0
+    VariantTold u a b k i = Ran (w .mode) d t (keptVariant (w .reading) old new u a b k i) r d′

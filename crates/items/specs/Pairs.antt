@@ -1,13 +1,15 @@
 -- Two accepted images, and two declarations or two fields that stand in them under one key. Assumes nothing.
 use mathlib.Core.Path.{_≡_}
-use mathlib.Core.Bool.{Bool, not}
+use mathlib.Core.Bool.{Bool, not, _&&_}
 use mathlib.Core.List.{List}
 use Prim.Native.Nat.{ℕ}
-use Rattle.image.specs.Schema.{Name, Decl}
+use lib.Dec.{eqb}
+use Rattle.image.specs.Schema.{Name, Field, Decl}
 use Rattle.parts.specs.Promise.{Accepted, schemaOf, TypeHere, DeclHere, declIn, ItemHere, fieldIn}
 use Rattle.parts.specs.declared.Shape.{Shape}
 use Rattle.rules.specs.Changes.{Change, only}
-use Rattle.rules.specs.Clauses.{Context, context, compareFields, compareMessages, compareEnums, compareFlags, compareUnions, compareNewtypes}
+use Rattle.rules.specs.Equal.{sameOption}
+use Rattle.rules.specs.Clauses.{Context, context, sameEncoding, compareFields, compareMessages, compareEnums, compareFlags, compareUnions, compareNewtypes}
 use Rattle.types.specs.Resolved.{typeIn}
 use Rattle.types.specs.Readings.{readingOf}
 use Rattle.types.specs.declared.Reading.{Reading}
@@ -63,6 +65,10 @@ typesDiffer reading old new i j = not (readingOf reading .same (typeIn old i) (t
 
 abbrev pub ofTypes : Reading → List ℕ → List ℕ → ℕ → ℕ → Site → List Change
 ofTypes reading old new i j site = only (typesDiffer reading old new i j) (changeOf old new site)
+
+-- two fields have the same encoding and the same limit
+abbrev pub sameCoding : Field → Field → Bool
+sameCoding f g = sameEncoding (f .encoding) (g .encoding) && sameOption eqb (f .limit) (g .limit)
 
 -- two fields, of what a scope names
 pub record FieldPair (old new : List ℕ) (c : Scope) (i j : ℕ) : Type 0 where

@@ -26,6 +26,7 @@ fn enum_bump(new: &[u8], at: usize) -> Bump
     Bump::MAJOR
 }
 
+// Of an item that only the old image has.
 pub fn gone_site(of: Owner, at: usize) -> Site
     ensures { λ r. ⌜ r ≡ goneSite of at ⌝ }
 {
@@ -37,6 +38,7 @@ pub fn gone_site(of: Owner, at: usize) -> Site
     }
 }
 
+// Of one that only the new image has.
 pub fn came_site(old: &[u8], new: &[u8], of: Owner, at: usize) -> Site
     requires { ⌜ OwnerHere (now old) (now new) of ⌝ }
     ensures { λ r. ⌜ r ≡ cameSite (now (new .entry)) of at ⌝ }

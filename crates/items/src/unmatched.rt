@@ -10,8 +10,8 @@ use lines::reporting::emit;
 use survivors::Next;
 use survivors::Ordinal;
 use tally::Tally;
-ghost use Rattle.tally.specs.Reporting.{Ready, Ran};
-ghost use Rattle.items.specs.Items.{ItemsIn, ItemIn, unmatchedItems, unmatchedAt};
+ghost use Rattle.tally.specs.Reporting.{Ready};
+ghost use Rattle.items.specs.Items.{ItemsIn, unmatchedItems, UnmatchedAsked, UnmatchedTold, ItemsTold};
 
 // The item at a place, under its ordinal: a change, if none stands under it on the other side.
 fn unmatched_item(
@@ -25,8 +25,8 @@ fn unmatched_item(
     ordinal: u32,
     at: usize,
 ) -> Tally
-    requires { ⌜ ItemIn (now old) (now new) items side at × Ready (walk .mode) (now out) t (unmatchedAt (walk .reading) (now old) (now new) items side ordinal at) ⌝ }
-    ensures { λ r. ⌜ Ran (walk .mode) (now (out .entry)) t (unmatchedAt (walk .reading) (now (old .entry)) (now (new .entry)) items side ordinal at) r (now (out .exit)) ⌝ }
+    requires { ⌜ UnmatchedAsked walk (now old) (now new) (now out) t items side ordinal at ⌝ }
+    ensures { λ r. ⌜ UnmatchedTold walk (now (old .entry)) (now (new .entry)) (now (out .entry)) t r (now (out .exit)) items side ordinal at ⌝ }
 {
     if has_off(side, old, new, items, ordinal) {
         return t;
@@ -50,7 +50,7 @@ pub fn unmatched_items(
     items: Items,
 ) -> Tally
     requires { ⌜ ItemsIn (now old) (now new) items × Ready (walk .mode) (now out) t (unmatchedItems (walk .reading) (now old) (now new) items side) ⌝ }
-    ensures { λ r. ⌜ Ran (walk .mode) (now (out .entry)) t (unmatchedItems (walk .reading) (now (old .entry)) (now (new .entry)) items side) r (now (out .exit)) ⌝ }
+    ensures { λ r. ⌜ ItemsTold walk (now (old .entry)) (now (new .entry)) (now (out .entry)) t r (now (out .exit)) items side ⌝ }
 {
     let mut tally = t;
     let mut after = Ordinal::Nothing;
