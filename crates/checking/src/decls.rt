@@ -107,10 +107,10 @@ pub fn unmatched_decls(
     requires { ⌜ BothAccepted (now old) (now new) × Ready (walk .mode) (now out) t (unmatchedDecls (walk .reading) (now old) (now new) side) ⌝ }
     ensures { λ r. ⌜ Ran (walk .mode) (now (out .entry)) t (unmatchedDecls (walk .reading) (now (old .entry)) (now (new .entry)) side) r (now (out .exit)) ⌝ }
 {
-    let mut tally = t;
     if all_off(side, old, new) {
-        return tally;
+        return t;
     }
+    let mut tally = t;
     let mut after = Entry::Unresolvable;
     loop {
         let Entry::Body(at) = next_on(side, old, new, after) else {
