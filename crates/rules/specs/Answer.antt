@@ -109,17 +109,21 @@ module _ (p : Policy) where
 
 -- ---- the verdict of document 01
 
--- 11: "survivors of one name are generic aliases in both images"
+-- 11: "survivors of one name are generic aliases in both images", of what stands in a view
 unfoldable pub aliasCheck : (Schema → View) → Check
 aliasCheck view x y = cond (aliasPair (view x) (view y)) (some (fault (number aliasPairRefusal) (number bothSides))) none
+
+-- no check of one image alone; 11 of the pair
+abbrev pub usual : (Schema → View) → Reading → Policy
+usual view reading = record { alone = λ s. none; pair = aliasCheck view ∷ []; view = view; reading = reading }
 
 -- types are read as document 01 says
 abbrev pub plainReading : Reading
 plainReading = clausesBy sameType
 
--- no check of one image alone; 11 of the pair; survivors are compared, by the clauses and nothing else
+-- survivors are compared, by the clauses and nothing else
 abbrev pub plain : Policy
-plain = record { alone = λ s. none; pair = aliasCheck viewOf ∷ []; view = viewOf; reading = plainReading }
+plain = usual viewOf plainReading
 
 abbrev pub checked : List ℕ → List ℕ → Outcome
 checked = outcome plain

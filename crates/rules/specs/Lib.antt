@@ -1,5 +1,6 @@
 -- What is right, in the order of document 01: Survivors, Types, Text (how types are shown), Changes, Clauses (the eight clauses),
--- Verdict, Report; Outcome, Answer: the calls over byte lists. Equal: tests of equality.
+-- Verdict, Report; Outcome, Answer: the calls over byte lists. Equal: tests of equality. Reached, Imports: R-2, what is reached through
+-- named nodes, and the verdict over it.
 -- Statements that are proved of them: Refusals (when each number is given), Distance (demand 3), Edges (document 01's edges), Pinned (what
 -- the Rust answered).
 pub mod Equal
@@ -12,6 +13,8 @@ pub mod Verdict
 pub mod Report
 pub mod Outcome
 pub mod Answer
+pub mod Reached
+pub mod Imports
 pub mod Refusals
 pub mod Distance
 pub mod Edges
