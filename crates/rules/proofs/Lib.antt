@@ -2,6 +2,7 @@
 -- reading of types. Answer: the four cases of two images. Distance: the distance rule. Refusals: when each number is given.
 -- Calls: what both calls say together.
 -- Ordinals: the counts that are always 0. Sizes, Texts, Weights, Held, Bound: how long a report can be.
+-- ReachedSets, Reached: what is computed is what is reached through named nodes.
 -- Computed: what is unfolded to compute. Edges, Pinned: what is computed from the definitions alone.
 pub mod Equal
 pub mod Types
@@ -21,6 +22,8 @@ pub mod Texts
 pub mod Weights
 pub mod Held
 pub mod Bound
+pub mod ReachedSets
+pub mod Reached
 pub mod Computed
 pub mod Edges
 pub mod Pinned
