@@ -4,18 +4,32 @@ use mathlib.Core.Path.{_≡_, refl, sym, ap, _∙_, subst}
 use mathlib.Core.Bool.{Bool, true, false, cond}
 use mathlib.Core.Logic.{_⊎_, inl, inr, ⊎-elim}
 use mathlib.Core.Option.{Option, none, some}
+use mathlib.Core.List.{List, flatMap}
 use Prim.Native.Nat.{ℕ, zero, suc, _+_, _≤_, _<_}
 use native.Mathlib.Omega.{arith}
-use borrow.Author.Tests.{ltb-true, ltb-false}
-use lib.Dec.{ltb}
+use borrow.Author.Tests.{ltb-true, ltb-false, leb-true}
+use lib.Dec.{ltb, leb}
 use lib.ListN.{length, replicate, length-replicate, List·getD-eq-default}
+use Rattle.maps.specs.Keyed.{lookup}
+use Rattle.maps.specs.Orders.{before}
 use Rattle.maps.specs.Walk.{isSome}
 use Rattle.maps.proofs.Lists.{all, pass-keeps}
-use Rattle.maps.proofs.Tests.{no-both}
-use Rattle.image.specs.Schema.{Decl, Schema}
-use Rattle.rules.specs.Survivors.{Registry, standsFor, viewOf}
-use Rattle.rules.specs.Reached.{namedFrom, member, resolvable, Reached, by-survivor, by-reached, IdSet, has, markAll, namedBy, follow, upFrom, round, rounds, firstSet, reachedSet, ReachedIs}
-use Rattle.rules.proofs.ReachedSets.{member-none, member-up, Below, below-refl, below-trans, below-has, below-length, below-in, size, below-same, size-full, no-marks, pass-below, pass-has, markAll-below, markAll-has, markAll-only}
+use Rattle.maps.proofs.Survivors.{all-lookup}
+use Rattle.maps.proofs.Tests.{no-both, both}
+use Rattle.image.specs.Schema.{Name, Decl, Schema}
+use Rattle.image.specs.Kinds.{kindOf}
+use Rattle.image.specs.Parse.{Parsed, ok, no}
+use Rattle.image.specs.Image.{entryCount, tablesOf, entryOf, entriesOf, readImage}
+use Rattle.image.proofs.Laws.Sure.{Sure, sure-ok, sure-no, sure-bind, sure-need, head-sure}
+use Rattle.rules.specs.Survivors.{Registry, standsFor, nameOf, declarations, View, viewOf}
+use Rattle.rules.specs.Clauses.{typesOf, comparedTypes}
+use Rattle.rules.specs.Reached.{namedIn, namedOf, namedFrom, member, resolvable, Reached, by-survivor, by-reached, IdSet, has, markAll, namedBy, follow, upFrom, round, rounds, firstSet, reachedSet, ReachedIs}
+use Rattle.rules.proofs.ReachedSets.{member-none, member-flatMap, flatMap-flatMap, member-up, Below, below-refl, below-trans, below-has, below-length, below-in, size, below-same, size-full, no-marks, pass-below, pass-has, markAll-below, markAll-has, markAll-only}
+
+-- what is named, declaration by declaration
+pub named-from : (v : View) → namedFrom v ≡ flatMap namedOf (v .standing)
+unfolding namedFrom comparedTypes namedOf
+named-from v = flatMap-flatMap (λ d. typesOf (kindOf (d .kind)) d) namedIn (v .standing)
 
 module _ (R : Registry) where
   -- resolvable ids are of the registry
@@ -65,15 +79,13 @@ module _ (R : Registry) where
       (member-up (length R) 0 via (omega arith) (omega (arith, resolvable-in via (names-in via id e)))) (h, l)
 
   -- what each id of the set names is in it
-  unfoldable pub Closed : IdSet → Type 0
+  abbrev pub Closed : IdSet → Type 0
   Closed m = (via id : ℕ) → has m via ≡ true → member id (namedBy (standsFor R via)) ≡ true → resolvable R id ≡ true → has m id ≡ true
 
   closed-still : (m : IdSet) → length m ≡ length R → round R m ≡ m → Closed m
-  unfolding Closed
   closed-still m l e via id h n r = subst (λ x. has x id ≡ true) e (round-has m via id h n r (omega (arith, resolvable-in id r)))
 
   closed-full : (m : IdSet) → length m ≡ length R → length R ≤ size m → Closed m
-  unfolding Closed
   closed-full m l f via id h n r = size-full m (omega arith) id (omega (arith, resolvable-in id r))
 
   still : (n : ℕ) (m : IdSet) → round R m ≡ m → rounds R n m ≡ m
@@ -103,11 +115,40 @@ module _ (R : Registry) where
   closed-rounds m l =
       ⊎-elim (λ p. p) (λ p. closed-full (rounds R (length R) m) (length-rounds m l) (omega arith)) (grows (length R) 0 m l (omega arith))
 
+-- ---- an accepted image has few entries
+
+-- of any answer
+anything : {A : Type 0} (p : Parsed A) → Sure (λ a n. Unit {0}) p
+anything (ok a n) = sure-ok tt
+anything (no k) = sure-no
+
+entries-length : (s : List ℕ) (count i : ℕ) → Sure (λ es n. length es ≡ count) (entriesOf count s i)
+unfolding entriesOf
+entries-length s zero i = sure-ok refl
+entries-length s (suc count) i =
+    sure-bind _ (anything (entryOf s i)) (λ e n p. sure-bind _ (entries-length s count (i + 1)) (λ es m q. sure-ok (ap suc q)))
+
+image-few : (s : List ℕ) → Sure (λ x n. length (x .registry) ≤ 512) (readImage s)
+unfolding readImage
+image-few s =
+    sure-bind _ (head-sure s) (λ h n₁ q.
+    sure-bind _ (anything (tablesOf s)) (λ ids n₂ _.
+    sure-bind _ (anything _) (λ names n₃ _.
+    sure-need _ _ (λ l. sure-bind _ (entries-length s (entryCount s) 0) (λ es n₄ e.
+    sure-ok (omega (arith, e, leb-true (entryCount s) 512 (both (leb (entryCount s) 512) _ (q .counts) .0))))))))
+
+pub entries-few : (s : List ℕ) {x : Schema} {n : ℕ} → readImage s ≡ ok x n → length (x .registry) ≤ 512
+entries-few s e = few (image-few s) e
+  where
+    few : {p : Parsed Schema} {x : Schema} {n : ℕ} → Sure (λ y m. length (y .registry) ≤ 512) p → p ≡ ok x n → length (x .registry) ≤ 512
+    few {x = x} (sure-ok {a = y} h) e = let p : y ≡ x = cc in rw p at h
+    few sure-no e = absurd (let z : _≡_ {A = ℕ} 0 1 = cc in omega arith)
+
 -- ---- what is computed is what is reached
 
 module _ (s : Schema) where
   -- every id of the set is reached
-  unfoldable pub Within : IdSet → Type 0
+  abbrev pub Within : IdSet → Type 0
   Within m = (id : ℕ) → has m id ≡ true → Reached s id
 
   -- what the entry of a reached id names is reached
@@ -121,12 +162,11 @@ module _ (s : Schema) where
       go (some d) p e r = by-reached q p e r
 
   pub within-marks : (m : IdSet) (via : ℕ) → Within m → Reached s via → Within (markAll (s .registry) m (namedBy (standsFor (s .registry) via)))
-  unfolding Within
   within-marks m via w q id h =
       ⊎-elim (λ p. w id p) (λ p. reached-on via id q (p .0) (p .1)) (markAll-only (s .registry) m (namedBy (standsFor (s .registry) via)) id h)
 
   within-follow : (m : IdSet) (via : ℕ) → Within m → Within (follow (s .registry) m via)
-  unfolding follow Within
+  unfolding follow
   within-follow m via w = go (has m via) refl
     where
       go : (b : Bool) → has m via ≡ b → Within (cond b (markAll (s .registry) m (namedBy (standsFor (s .registry) via))) m)
@@ -145,13 +185,20 @@ module _ (s : Schema) where
 
   -- the ids that the survivors name, marked in a set without marks
   pub within-first : (n : ℕ) → Within (markAll (s .registry) (replicate n false) (namedFrom (viewOf s)))
-  unfolding Within
   within-first n id h =
       ⊎-elim (λ p. no-both p (no-marks n id)) (λ p. by-survivor (p .0) (p .1)) (markAll-only (s .registry) (replicate n false) (namedFrom (viewOf s)) id h)
 
   -- what the survivors name is in the set
-  unfoldable pub First : IdSet → Type 0
+  abbrev pub First : IdSet → Type 0
   First m = (id : ℕ) → member id (namedFrom (viewOf s)) ≡ true → resolvable (s .registry) id ≡ true → has m id ≡ true
+
+  -- what a survivor names
+  pub survivor-named : (name : Name) (d : Decl) → lookup nameOf before name (declarations s) ≡ some d → (id : ℕ) → member id (namedOf d) ≡ true
+      → member id (namedFrom (viewOf s)) ≡ true
+  unfolding viewOf
+  survivor-named name d e id =
+      all-lookup nameOf before (λ b. member id (namedOf b) ≡ true → member id (namedFrom (viewOf s)) ≡ true) name (declarations s) d
+      (rw (named-from (viewOf s)) (member-flatMap namedOf id (declarations s))) e
 
   -- A set is the least one: what is in it is reached, what the survivors name is in it, and what is named by what is in it.
   pub record Least (m : IdSet) : Type 0 where
@@ -160,14 +207,13 @@ module _ (s : Schema) where
     pub closed : Closed (s .registry) m
 
   least-has : (m : IdSet) → Least m → {id : ℕ} → Reached s id → has m id ≡ true
-  unfolding First Closed namedBy
+  unfolding namedBy
   least-has m l (by-survivor e r) = l .first _ e r
   least-has m l (by-reached {via = via} {id = id} {d = d} q p e r) =
       l .closed via id (least-has m l q) (subst (λ o. member id (namedBy o) ≡ true) (sym p) e) r
 
   -- what is marked of the survivors' names, in any set with a mark for each entry
   pub first-marks : (m : IdSet) → length (s .registry) ≤ length m → First (markAll (s .registry) m (namedFrom (viewOf s)))
-  unfolding First
   first-marks m l id e r = markAll-has (s .registry) m (namedFrom (viewOf s)) id e r (omega (arith, resolvable-in (s .registry) id r))
 
   length-first : length (firstSet s) ≡ length (s .registry)
@@ -177,7 +223,7 @@ module _ (s : Schema) where
       ∙ length-replicate (length (s .registry)) false
 
   least-computed : Least (reachedSet s)
-  unfolding reachedSet firstSet First
+  unfolding reachedSet firstSet
   least-computed = record {
     within = within-rounds (length (s .registry)) (firstSet s) (within-first (length (s .registry)));
     first = λ id e r.
@@ -187,7 +233,7 @@ module _ (s : Schema) where
   }
 
   pub reached-is : ReachedIs s
-  unfolding Within reachedSet
+  unfolding reachedSet
   reached-is = record {
     exactly = λ id. (least-computed .within id, least-has (reachedSet s) least-computed);
     length = length-rounds (s .registry) (firstSet s) length-first;
@@ -195,7 +241,6 @@ module _ (s : Schema) where
 
   -- a least set is the computed one
   pub least-is : (m : IdSet) → Least m → (id : ℕ) → has m id ≡ has (reachedSet s) id
-  unfolding Within
   least-is m l id = go (has m id) (has (reachedSet s) id) refl refl
     where
       go : (a b : Bool) → has m id ≡ a → has (reachedSet s) id ≡ b → a ≡ b

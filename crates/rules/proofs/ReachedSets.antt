@@ -1,15 +1,17 @@
--- Laws of sets of ids (specs/Reached): members of a list, sets that grow, how many ids a set has, passes that mark. Assumes nothing.
-use mathlib.Core.Path.{_≡_, refl, ap, subst}
+-- Laws of lists and sets of ids (specs/Reached): members of a list, sets that grow, how many ids a set has, passes that mark.
+-- Assumes nothing.
+use mathlib.Core.Path.{_≡_, refl, sym, ap, _∙_, subst}
 use mathlib.Core.Bool.{Bool, true, false, cond, _||_, or-true}
 use mathlib.Core.Logic.{_⊎_, inl, inr, ⊎-elim}
-use mathlib.Core.List.{List, [], _∷_}
+use mathlib.Core.List.{List, [], _∷_, _++_, flatMap}
 use Prim.Native.Nat.{ℕ, zero, suc, _+_, _≤_, _<_}
 use native.Mathlib.Omega.{arith}
 use borrow.Author.Tests.{eqb-true, eq-eqb, eqb-false}
 use lib.Dec.{eqb}
 use lib.ListN.{length, getD, set, replicate}
-use lib.Seq.{getD-set-same, getD-set-other}
-use Rattle.maps.specs.Lists.{pass, total, count}
+use lib.Seq.{getD-set-same, getD-set-other, set-getD}
+use Rattle.maps.specs.Lists.{pass, total, count, All}
+use Rattle.maps.proofs.Lists.{all-map, flatMap-append}
 use Rattle.maps.proofs.Tests.{no-both}
 use Rattle.rules.specs.Survivors.{Registry}
 use Rattle.rules.specs.Verdict.{any}
@@ -36,6 +38,26 @@ member-more id a ids e = rw e (or-true (eqb id a))
 pub member-none : {A : Type 0} (id : ℕ) → member id [] ≡ true → A
 unfolding member any
 member-none id e = no-both e refl
+
+pub member-left : (id : ℕ) (xs ys : List ℕ) → member id xs ≡ true → member id (xs ++ ys) ≡ true
+member-left id [] ys e = member-none id e
+member-left id (a ∷ xs) ys e =
+    ⊎-elim (λ p. rw p (member-here a (xs ++ ys))) (λ p. member-more id a (xs ++ ys) (member-left id xs ys p)) (member-cons id a xs e)
+
+pub member-right : (id : ℕ) (xs ys : List ℕ) → member id ys ≡ true → member id (xs ++ ys) ≡ true
+member-right id [] ys e = e
+member-right id (a ∷ xs) ys e = member-more id a (xs ++ ys) (member-right id xs ys e)
+
+pub member-flatMap : {A : Type 0} (f : A → List ℕ) (id : ℕ) (l : List A) → All (λ a. member id (f a) ≡ true → member id (flatMap f l) ≡ true) l
+unfolding All flatMap
+member-flatMap f id [] = tt
+member-flatMap f id (a ∷ l) =
+    (λ e. member-left id (f a) (flatMap f l) e, all-map (λ b h e. member-right id (f a) (flatMap f l) (h e)) l (member-flatMap f id l))
+
+pub flatMap-flatMap : {A B : Type 0} (f : A → List B) (g : B → List ℕ) (l : List A) → flatMap g (flatMap f l) ≡ flatMap (λ a. flatMap g (f a)) l
+unfolding flatMap
+flatMap-flatMap f g [] = refl
+flatMap-flatMap f g (a ∷ l) = flatMap-append g (f a) (flatMap f l) ∙ ap (λ x. flatMap g (f a) ++ x) (flatMap-flatMap f g l)
 
 pub member-up : (n from id : ℕ) → from ≤ id → id < from + n → member id (upFrom from n) ≡ true
 unfolding upFrom
@@ -184,6 +206,17 @@ module _ (R : Registry) where
       → has (markAll R m ids) id ≡ true
   unfolding markAll
   markAll-has m ids id e r l = pass-has (mark R) mark-below (λ n. id < length n) (λ n k p. below-in p) id id (mark-has id r) m ids e l
+
+  -- ids that are in the set
+  pub markAll-kept : (m : IdSet) (ids : List ℕ) → ((id : ℕ) → member id ids ≡ true → resolvable R id ≡ true → has m id ≡ true) → markAll R m ids ≡ m
+  unfolding markAll pass mark has
+  markAll-kept m [] h = refl
+  markAll-kept m (a ∷ ids) h =
+      ap (λ x. pass (mark R) x ids) (go (resolvable R a) refl) ∙ markAll-kept m ids (λ id e. h id (member-more id a ids e))
+    where
+      go : (b : Bool) → resolvable R a ≡ b → cond b (set m a true) m ≡ m
+      go true r = ap (set m a) (sym (h a (member-here a ids) r)) ∙ set-getD m a false
+      go false r = refl
 
   pub markAll-only : (m : IdSet) (ids : List ℕ) (j : ℕ) → has (markAll R m ids) j ≡ true
       → (has m j ≡ true) ⊎ ((member j ids ≡ true) × (resolvable R j ≡ true))
