@@ -18,19 +18,18 @@ use Rattle.parts.specs.declared.Entry.{Entry}
 use Rattle.parts.specs.declared.Run.{Run}
 use Rattle.parts.specs.declared.Shape.{Shape}
 use Rattle.parts.proofs.Promise.{message-listed, union-listed, inner-here, inner-tree, resolved-body, resolved-none}
-use Rattle.rules.specs.Survivors.{standsFor, nameOf, fieldMap, variantMap, declarations, viewOf}
+use Rattle.rules.specs.Survivors.{standsFor, nameOf, declarations, viewOf}
 use Rattle.rules.specs.Clauses.{typesOf}
 use Rattle.rules.specs.Reached.{namedIn, namedOf, namedBy, namedFrom, IdSet}
 use Rattle.rules.proofs.ReachedSets.{markAll-kept}
 use Rattle.rules.proofs.Reached.{named-from, survivor-named}
 use Rattle.survivors.specs.Answers.{Survives, Follows}
-use Rattle.survivors.specs.Runs.{itemsOf}
 use Rattle.survivors.proofs.Declarations.{declarations-rising, survives-body, follows-here}
 use Rattle.survivors.proofs.Walks.{restDecls, declsLeft, decls-start, decls-done, decls-turn, decls-less}
 use Rattle.reached.specs.Marks.{Started, Marked, StandsAt}
-use Rattle.reached.specs.Named.{itemNames, namedItems}
+use Rattle.reached.specs.Named.{namedItems}
 use Rattle.reached.proofs.Marking.{marked-none, marked-as, Owing, owing-start, owing-turn, owing-done}
-use Rattle.reached.proofs.Walks.{fields-named, variants-named, each}
+use Rattle.reached.proofs.Walks.{fields-named, variants-named, each, listed-here, listed-marked}
 
 -- ---- a declaration by its kind
 
@@ -57,29 +56,21 @@ module _ (s : List ℕ) (at : ℕ) (g : DeclHere s at) {k : ℕ} (e : k ≡ decl
 
   module _ (z : k ≡ number messageKind) {r : Run} (f : r ≡ itemsIn s at) where
     pub message-fields : ItemsHere Shape.Field s (r .count) (r .start)
-    message-fields = rw f (message-listed s at g (sym e ∙ z) .here)
+    message-fields = listed-here Shape.Field s (message-listed s at g (sym e ∙ z)) f
 
     pub message-marked : {m n : IdSet} → Marked s m (namedItems Shape.Field s r) n → Marked s m (namedOf (declIn s at)) n
-    unfolding namedItems itemsOf typesOf kindOf
+    unfolding typesOf kindOf
     message-marked d =
-        marked-as d (
-        ap (namedItems Shape.Field s) f
-        ∙ (ap (λ fs. flatMap (itemNames Shape.Field) (fieldMap fs)) (sym (message-listed s at g (sym e ∙ z) .are))
-        ∙ (sym (fields-named (declIn s at .fields)) ∙ named-kind z))
-        )
+        marked-as (listed-marked Shape.Field s (message-listed s at g (sym e ∙ z)) f d) (sym (fields-named (declIn s at .fields)) ∙ named-kind z)
 
   module _ (z : k ≡ number unionKind) {r : Run} (f : r ≡ itemsIn s at) where
     pub union-variants : ItemsHere Shape.Variant s (r .count) (r .start)
-    union-variants = rw f (union-listed s at g (sym e ∙ z) .here)
+    union-variants = listed-here Shape.Variant s (union-listed s at g (sym e ∙ z)) f
 
     pub union-marked : {m n : IdSet} → Marked s m (namedItems Shape.Variant s r) n → Marked s m (namedOf (declIn s at)) n
-    unfolding namedItems itemsOf typesOf kindOf
+    unfolding typesOf kindOf
     union-marked d =
-        marked-as d (
-        ap (namedItems Shape.Variant s) f
-        ∙ (ap (λ vs. flatMap (itemNames Shape.Variant) (variantMap vs)) (sym (union-listed s at g (sym e ∙ z) .are))
-        ∙ (sym (variants-named (declIn s at .variants)) ∙ named-kind z))
-        )
+        marked-as (listed-marked Shape.Variant s (union-listed s at g (sym e ∙ z)) f d) (sym (variants-named (declIn s at .variants)) ∙ named-kind z)
 
   module _ (z : k ≡ number newtypeKind) {p : ℕ} (f : p ≡ innerPlace s at) where
     pub newtype-inner : TypeHere 32 s p

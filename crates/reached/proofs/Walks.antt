@@ -7,7 +7,7 @@ use Prim.Native.Nat.{ℕ, _<_}
 use Rattle.maps.specs.Compare.{between}
 use Rattle.maps.proofs.Lists.{all, flatMap-same}
 use Rattle.image.specs.Schema.{Field, Variant}
-use Rattle.parts.specs.Promise.{ItemHere, ItemsHere, typePlace, TypeHere, treeIn, variantItems}
+use Rattle.parts.specs.Promise.{ItemOf, ItemHere, ItemsHere, typePlace, TypeHere, treeIn, variantItems}
 use Rattle.parts.specs.declared.Run.{Run}
 use Rattle.parts.specs.declared.Shape.{Shape}
 use Rattle.parts.proofs.Promise.{field-type, field-type-here, variant-listed}
@@ -16,7 +16,7 @@ use Rattle.rules.specs.Clauses.{fieldTypes, variantTypes}
 use Rattle.rules.specs.Reached.{namedIn, IdSet}
 use Rattle.rules.proofs.ReachedSets.{flatMap-flatMap}
 use Rattle.survivors.specs.Answers.{ItemFollows}
-use Rattle.survivors.specs.Runs.{itemIn, itemsOf}
+use Rattle.survivors.specs.Runs.{itemIn, itemMap, itemsOf, Holds}
 use Rattle.survivors.specs.declared.Next.{Next}
 use Rattle.survivors.specs.declared.Ordinal.{Ordinal}
 use Rattle.survivors.proofs.Runs.{run-holds, next-here}
@@ -76,6 +76,16 @@ module _ (h : Shape) (s : List ℕ) (n : Run) where
       unfolding leftIn
       items-fewer = items-less h (itemsOf h s n) s n (run-holds h s n g) after a e
 
+-- ---- the items of a declaration or of a variant: r is their run
+
+module _ (h : Shape) (s : List ℕ) {n r : Run} {xs : List (ItemOf h)} (l : Holds h s n xs) (f : r ≡ n) where
+  pub listed-here : ItemsHere h s (r .count) (r .start)
+  listed-here = rw f (l .here)
+
+  pub listed-marked : {m m′ : IdSet} → Marked s m (namedItems h s r) m′ → Marked s m (flatMap (itemNames h) (itemMap h xs)) m′
+  unfolding namedItems itemsOf
+  listed-marked d = marked-as d (ap (namedItems h s) f ∙ ap (λ ys. flatMap (itemNames h) (itemMap h ys)) (sym (l .are)))
+
 -- ---- the item at a place
 
 module _ (s : List ℕ) (p : ℕ) where
@@ -89,9 +99,8 @@ module _ (s : List ℕ) (p : ℕ) where
 
   module _ (g : ItemHere Shape.Variant s p) {q : Run} (f : q ≡ variantItems s p) where
     pub variant-fields : ItemsHere Shape.Field s (q .count) (q .start)
-    variant-fields = rw f (variant-listed s p g .here)
+    variant-fields = listed-here Shape.Field s (variant-listed s p g) f
 
     pub variant-marked : {m m′ : IdSet} → Marked s m (namedItems Shape.Field s q) m′ → Marked s m (itemNames Shape.Variant (itemIn Shape.Variant s p)) m′
-    unfolding itemNames namedItems itemsOf
-    variant-marked d =
-        marked-as d (ap (namedItems Shape.Field s) f ∙ ap (λ fs. flatMap (itemNames Shape.Field) (fieldMap fs)) (sym (variant-listed s p g .are)))
+    unfolding itemNames
+    variant-marked d = listed-marked Shape.Field s (variant-listed s p g) f d
