@@ -19,8 +19,8 @@ use Rattle.parts.specs.declared.Shape.{Shape}
 use Rattle.parts.specs.declared.Entry.{Entry}
 use Rattle.parts.proofs.Laws.Places.{places-none as by-none, places-more as by-more}
 use Rattle.parts.proofs.Laws.Decls.{decl-head}
--- the image: its length, how many entries it has, and its namespace by the names at their places
-pub use Rattle.parts.proofs.Laws.Contents.{accepted-most, entries-most, segments-listed}
+-- the image: its length, how many entries and ids it has, and its namespace by the names at their places
+pub use Rattle.parts.proofs.Laws.Contents.{accepted-most, entries-most, ids-most, segments-listed}
 -- the name of an entry's declaration
 pub use Rattle.parts.proofs.Laws.Bodies.{entry-short}
 -- so many names, or items: the first, and the rest

@@ -2,7 +2,7 @@
 use mathlib.Core.Path.{_≡_}
 use mathlib.Core.Bool.{Bool, true, false}
 use mathlib.Core.Option.{Option, none, some, Option·map}
-use mathlib.Core.List.{List}
+use mathlib.Core.List.{List, _++_}
 use Prim.Native.Nat.{ℕ}
 use lib.Dec.{ltb}
 use Rattle.maps.specs.Keyed.{survivors, lookup}
@@ -14,6 +14,8 @@ use Rattle.parts.specs.declared.Entry.{Entry}
 use Rattle.parts.specs.declared.Shape.{Shape}
 use Rattle.parts.specs.declared.Run.{Run}
 use Rattle.rules.specs.Survivors.{listed, nameOf}
+use Rattle.rules.specs.Reached.{IdSet}
+use Rattle.rules.specs.Imports.{idsFrom}
 use Rattle.survivors.specs.declared.Found.{Found}
 use Rattle.survivors.specs.declared.Found.the-variants as found
 use Rattle.survivors.specs.declared.Ordinal.{Ordinal}
@@ -47,9 +49,9 @@ unfoldable pub namesakeIn : List Decl → Option Decl → Bool
 namesakeIn n none = true
 namesakeIn n (some d) = isSome (lookup nameOf before (d .name) n)
 
--- whether n has each name that an image lists
-unfoldable pub namesCovered : List Decl → List ℕ → Bool
-namesCovered n s = covers nameOf before n (listed (schemaOf s .registry) (schemaOf s .ids))
+-- whether n has each name of what may stand in an image, with a set of its ids
+unfoldable pub namesCovered : List Decl → List ℕ → IdSet → Bool
+namesCovered n s m = covers nameOf before n (listed (schemaOf s .registry) (idsFrom 0 m ++ schemaOf s .ids))
 
 -- ---- items
 

@@ -1,30 +1,30 @@
-// Declarations by their names: "Of declarations with one name the last listed stands."
+// Declarations by their names: "Of declarations with one name the last listed stands." Reached ids stand before the listed ones.
+use crate::candidates::candidate;
+use crate::candidates::candidate_count;
 use maps::Order;
 use maps::compared;
 use parts::Entry;
 use parts::decls::decl_name;
-use parts::entries::entry;
-use parts::entries::id_at;
-use parts::entries::id_count;
 ghost use mathlib.Core.Path.{_≡_};
 ghost use Rattle.maps.specs.Orders.{before};
 ghost use Rattle.maps.specs.Walk.{past};
-ghost use Rattle.parts.specs.Promise.{Accepted, schemaOf, DeclHere, declIn, entryDecl, EntryHere};
-ghost use Rattle.rules.specs.Survivors.{declarations};
+ghost use Rattle.parts.specs.Promise.{schemaOf, DeclHere, declIn, entryDecl, EntryHere};
+ghost use Rattle.rules.specs.Imports.{standingWith};
 ghost use Rattle.survivors.specs.Answers.{named, Survives, Follows, nearerDecl, namesakeIn, namesCovered};
+ghost use Rattle.survivors.specs.Candidates.{Searchable};
 
 // The declaration that stands under a name: "The search goes from the end and stops at the first match."
-pub fn survivor(image: &[u8], name: &[u8]) -> Entry
-    requires { ⌜ Accepted (now image) ⌝ }
-    ensures { λ r. ⌜ Survives (declarations (schemaOf (now (image .entry)))) (now (image .entry)) (now (name .entry)) r ⌝ }
+pub fn survivor(image: &[u8], reached: &[bool], name: &[u8]) -> Entry
+    requires { ⌜ Searchable (now image) (now reached) ⌝ }
+    ensures { λ r. ⌜ Survives (standingWith (now (reached .entry)) (schemaOf (now (image .entry)))) (now (image .entry)) (now (name .entry)) r ⌝ }
 {
-    let mut i = id_count(image);
+    let mut i = candidate_count(image, reached);
     'search: loop {
         if i == 0 {
             break Entry::Unresolvable;
         }
         i -= 1;
-        let Entry::Body(at) = entry(image, id_at(image, i)) else {
+        let Entry::Body(at) = candidate(image, reached, i) else {
             continue;
         };
         let own = decl_name(image, at);
@@ -86,15 +86,15 @@ fn is_nearer(image: &[u8], after: Entry, best: Entry, found: Entry) -> bool
 
 // The declaration that stands under the least name past that of `after`, from the start if that is unresolvable: in a pass from the front
 // that goes over to a later one of the same name.
-pub fn next_decl(image: &[u8], after: Entry) -> Entry
-    requires { ⌜ Accepted (now image) × EntryHere (now image) after ⌝ }
-    ensures { λ r. ⌜ Follows (declarations (schemaOf (now (image .entry)))) (now (image .entry)) after r ⌝ }
+pub fn next_decl(image: &[u8], reached: &[bool], after: Entry) -> Entry
+    requires { ⌜ Searchable (now image) (now reached) × EntryHere (now image) after ⌝ }
+    ensures { λ r. ⌜ Follows (standingWith (now (reached .entry)) (schemaOf (now (image .entry)))) (now (image .entry)) after r ⌝ }
 {
-    let n = id_count(image);
+    let n = candidate_count(image, reached);
     let mut best = Entry::Unresolvable;
     let mut i = 0;
     while i < n {
-        let found = entry(image, id_at(image, i));
+        let found = candidate(image, reached, i);
         if is_nearer(image, after, best, found) {
             best = found;
         }
@@ -104,28 +104,28 @@ pub fn next_decl(image: &[u8], after: Entry) -> Entry
 }
 
 // Whether another image has a declaration under the name of an entry, if that is resolvable.
-fn has_namesake(image: &[u8], at: Entry, other: &[u8]) -> bool
-    requires { ⌜ EntryHere (now image) at × Accepted (now other) ⌝ }
-    ensures { λ r. ⌜ r ≡ namesakeIn (declarations (schemaOf (now (other .entry)))) (entryDecl (now (image .entry)) at) ⌝ }
+fn has_namesake(image: &[u8], at: Entry, other: &[u8], other_reached: &[bool]) -> bool
+    requires { ⌜ EntryHere (now image) at × Searchable (now other) (now «other_reached») ⌝ }
+    ensures { λ r. ⌜ r ≡ namesakeIn (standingWith (now («other_reached» .entry)) (schemaOf (now (other .entry)))) (entryDecl (now (image .entry)) at) ⌝ }
 {
     let Entry::Body(body) = at else {
         return true;
     };
-    let Entry::Unresolvable = survivor(other, decl_name(image, body)) else {
+    let Entry::Unresolvable = survivor(other, other_reached, decl_name(image, body)) else {
         return true;
     };
     false
 }
 
-// Whether another image has a declaration under each name that an image lists: far less than a walk by rising name.
-pub fn all_named(image: &[u8], other: &[u8]) -> bool
-    requires { ⌜ Accepted (now image) × Accepted (now other) ⌝ }
-    ensures { λ r. ⌜ r ≡ namesCovered (declarations (schemaOf (now (other .entry)))) (now (image .entry)) ⌝ }
+// Whether another image has a declaration under each name of what may stand in an image: far less than a walk by rising name.
+pub fn all_named(image: &[u8], reached: &[bool], other: &[u8], other_reached: &[bool]) -> bool
+    requires { ⌜ Searchable (now image) (now reached) × Searchable (now other) (now «other_reached») ⌝ }
+    ensures { λ r. ⌜ r ≡ namesCovered (standingWith (now («other_reached» .entry)) (schemaOf (now (other .entry)))) (now (image .entry)) (now (reached .entry)) ⌝ }
 {
-    let n = id_count(image);
+    let n = candidate_count(image, reached);
     let mut i = 0;
     while i < n {
-        if !has_namesake(image, entry(image, id_at(image, i)), other) {
+        if !has_namesake(image, candidate(image, reached, i), other, other_reached) {
             return false;
         }
         i += 1;

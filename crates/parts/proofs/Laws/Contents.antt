@@ -162,6 +162,10 @@ module _ (s : List ℕ) (g : Accepted s) where
   pub entries-most : length (schemaOf s .registry) ≤ length s
   entries-most = omega (arith, entry-count-is, tables-there)
 
+  -- and each listed id a place after them
+  pub ids-most : length (schemaOf s .ids) ≤ length s
+  ids-most = omega (arith, id-count-is, tables-there)
+
   pub entry-past : (id : ℕ) → entryCount s ≤ id → getD (schemaOf s .registry) id none ≡ none
   entry-past id l = List·getD-eq-default (schemaOf s .registry) none (let e = entry-count-is in omega arith)
 

@@ -15,7 +15,7 @@ returns : tie.Need-returns
 returns c = namesake-skips _ _ (c .enum-told .given .1)
 
 decl-name-requires : tie.Need-decl-name-requires
-decl-name-requires c κs = entry-here _ (c .before .at .given .1) (c .before .before .before .before .before .pre .0)
+decl-name-requires c κs = entry-here _ (c .before .at .given .1) (c .before .before .before .before .before .before .pre .0)
 
 survivor-requires : tie.Need-survivor-requires
 survivor-requires c κs = search needs

@@ -10,65 +10,64 @@ use Rattle.maps.specs.Keyed.{lookup}
 use Rattle.maps.proofs.Names.{same-told, ends-same, finds-other, other-length}
 use Rattle.maps.proofs.Names.{goes-on as agrees}
 use Rattle.parts.specs.Promise.{schemaOf}
-use Rattle.parts.proofs.Promise.{resolved-here}
-use Rattle.rules.specs.Survivors.{nameOf, declarations}
+use Rattle.rules.specs.Survivors.{nameOf}
+use Rattle.rules.specs.Imports.{standingWith}
+use Rattle.survivors.specs.Candidates.{candidates}
 use Rattle.survivors.proofs.Laws.Listed.{back, back-start, back-end, back-skips, back-other, back-found}
+use Rattle.survivors.proofs.Laws.Nearest.{entry-here}
 use borrow.Author.Needs.{needs}
 use Rattle.survivors.proofs.decls.survivor.Statement.{statement}
 use Rattle.survivors.proofs.decls.survivor.Tie as tie
 
 abbrev Inv-loop : tie.InvT-loop
-Inv-loop image name i at own j₀ j = (j ≤ length name) × (orderOf name own ≡ orderOf (drop j name) (drop j own))
+Inv-loop image reached name i at own j₀ j = (j ≤ length name) × (orderOf name own ≡ orderOf (drop j name) (drop j own))
 
 abbrev μ-loop : tie.MeasureT-loop
-μ-loop image name i at own j₀ j = length name - j
+μ-loop image reached name i at own j₀ j = length name - j
 
 abbrev Inv-search : tie.InvT-search
-Inv-search image name i₀ i =
-    (i ≤ length (schemaOf image .ids)) × (back image name i ≡ lookup nameOf before name (declarations (schemaOf image)))
+Inv-search image reached name i₀ i =
+    (i ≤ length (candidates image reached)) × (back image reached name i ≡ lookup nameOf before name (standingWith reached (schemaOf image)))
 
 abbrev μ-search : tie.MeasureT-search
-μ-search image name i₀ i = i
+μ-search image reached name i₀ i = i
 
 -- from where the name of an entry is read: the entry, its turn of the search, the start
-abbrev entry : tie.After-decl-name Inv-loop μ-loop Inv-search μ-search → tie.After-entry Inv-loop μ-loop Inv-search μ-search
+abbrev entry : tie.After-decl-name Inv-loop μ-loop Inv-search μ-search → tie.After-candidate Inv-loop μ-loop Inv-search μ-search
 entry c = c .before .before .before .before
 
-abbrev turn : tie.After-entry Inv-loop μ-loop Inv-search μ-search → tie.At-search Inv-loop μ-loop Inv-search μ-search
-turn t = t .before .before .before
+abbrev turn : tie.After-candidate Inv-loop μ-loop Inv-search μ-search → tie.At-search Inv-loop μ-loop Inv-search μ-search
+turn t = t .before .before
 
 abbrev start : tie.At-search Inv-loop μ-loop Inv-search μ-search → tie.Start Inv-loop μ-loop Inv-search μ-search
-start l = l .before .before .before .before
+start l = l .before .before .before .before .before
 
 -- the name of the entry is another one
 goes-on : (c : tie.After-decl-name Inv-loop μ-loop Inv-search μ-search)
     → (let s = start (turn (entry c)) in same before (s .args .name .now) (c .decl-name .result .now) ≡ false)
-    → (let l = turn (entry c) in Inv-search (start l .args .image .now) (start l .args .name .now) (l .search .i) (l .search .i - 1))
+    → (let l = turn (entry c) in Inv-search (start l .args .image .now) (start l .args .reached .now) (start l .args .name .now) (l .search .i) (l .search .i - 1))
 goes-on c n =
     let t = entry c in
     let v = turn t .search .inv in (
       omega (arith, v .0),
-      back-other _ _ _ (omega (arith, t .before .before .if1 .left)) (v .0) (t .before .id-at .ensures) (t .entry .ensures)
+      back-other _ _ _ _ (omega (arith, t .before .if1 .left)) (v .0) (t .candidate .ensures)
           (c .before .before .at .given .1)
           (c .decl-name .ensures)
           n
           ∙ v .1,
     )
 
-id-count-requires : tie.Need-id-count-requires Inv-loop μ-loop Inv-search μ-search
-id-count-requires c κs = c .before .before .pre
+candidate-count-requires : tie.Need-candidate-count-requires Inv-loop μ-loop Inv-search μ-search
+candidate-count-requires c κs = c .before .before .before .pre
 
 search-holds : tie.Need-search-holds Inv-loop μ-loop Inv-search μ-search
-search-holds c = (omega (arith, c .id-count .ensures), back-start _ _ _ (c .id-count .ensures))
+search-holds c = (omega (arith, c .candidate-count .ensures), back-start _ _ _ _ (c .candidate-count .ensures))
 
 sub-i : tie.Need-sub-i Inv-loop μ-loop Inv-search μ-search
 sub-i c = omega arith
 
-id-at-requires : tie.Need-id-at-requires Inv-loop μ-loop Inv-search μ-search
-id-at-requires c κs = (start (c .before) .pre, omega (arith, c .before .search .inv .0))
-
-entry-requires : tie.Need-entry-requires Inv-loop μ-loop Inv-search μ-search
-entry-requires c κs = start (c .before .before) .pre
+candidate-requires : tie.Need-candidate-requires Inv-loop μ-loop Inv-search μ-search
+candidate-requires c κs = (start (c .before) .pre, omega (arith, c .before .search .inv .0))
 
 enum-known-at : tie.Need-enum-known-at Inv-loop μ-loop Inv-search μ-search
 enum-known-at c = search needs
@@ -77,19 +76,19 @@ enum-told : tie.Need-enum-told Inv-loop μ-loop Inv-search μ-search
 enum-told c = search needs
 
 search-less : tie.Need-search-less Inv-loop μ-loop Inv-search μ-search
-search-less c = omega (arith, c .before .before .before .before .if1 .left)
+search-less c = omega (arith, c .before .before .before .if1 .left)
 
 search-again : tie.Need-search-again Inv-loop μ-loop Inv-search μ-search
 search-again c =
     let t = c .before .before in
     let v = turn t .search .inv in (
       omega (arith, v .0),
-      back-skips _ _ _ (omega (arith, t .before .before .if1 .left)) (v .0) (t .before .id-at .ensures) (t .entry .ensures) (c .enum-told .given .1)
+      back-skips _ _ _ _ (omega (arith, t .before .if1 .left)) (v .0) (t .candidate .ensures) (c .enum-told .given .1)
           ∙ v .1,
     )
 
 decl-name-requires : tie.Need-decl-name-requires Inv-loop μ-loop Inv-search μ-search
-decl-name-requires c κs = resolved-here _ _ (c .before .before .before .entry .ensures) (c .before .at .given .1)
+decl-name-requires c κs = entry-here _ (c .before .at .given .1) (c .before .before .before .candidate .ensures .here)
 
 loop-holds : tie.Need-loop-holds Inv-loop μ-loop Inv-search μ-search
 loop-holds c = (omega arith, refl)
@@ -101,7 +100,7 @@ shared-slice-read-if4-2 : tie.Need-shared-slice-read-if4-2 Inv-loop μ-loop Inv-
 shared-slice-read-if4-2 c = omega (arith, c .before .before .before .loop .inv .0, c .before .before .before .before .if2 .taken)
 
 search-less-2 : tie.Need-search-less-2 Inv-loop μ-loop Inv-search μ-search
-search-less-2 c = omega (arith, entry (c .before .before .before .before .before .before) .before .before .if1 .left)
+search-less-2 c = omega (arith, entry (c .before .before .before .before .before .before) .before .if1 .left)
 
 search-again-2 : tie.Need-search-again-2 Inv-loop μ-loop Inv-search μ-search
 search-again-2 c =
@@ -127,13 +126,13 @@ loop-again c =
     )
 
 search-less-3 : tie.Need-search-less-3 Inv-loop μ-loop Inv-search μ-search
-search-less-3 c = omega (arith, entry (c .before) .before .before .if1 .left)
+search-less-3 c = omega (arith, entry (c .before) .before .if1 .left)
 
 search-again-3 : tie.Need-search-again-3 Inv-loop μ-loop Inv-search μ-search
 search-again-3 c = goes-on (c .before) (other-length _ _ (c .if2 .left))
 
 returns : tie.Need-returns Inv-loop μ-loop Inv-search μ-search
-returns c = back-end _ _ _ (c .if1 .taken) (c .before .search .inv .1)
+returns c = back-end _ _ _ _ (c .if1 .taken) (c .before .search .inv .1)
 
 returns-2 : tie.Need-returns-2 Inv-loop μ-loop Inv-search μ-search
 returns-2 c =
@@ -142,7 +141,7 @@ returns-2 c =
     let v = turn t .search .inv in
     let l = c .before .loop in
     let p = c .if3 .taken in
-    back-found _ _ _ (omega (arith, t .before .before .if1 .left)) (v .0) (t .before .id-at .ensures) (t .entry .ensures)
+    back-found _ _ _ _ (omega (arith, t .before .if1 .left)) (v .0) (t .candidate .ensures)
     (n .before .before .at .given .1)
     (n .decl-name .ensures)
     (same-told _ _
@@ -160,11 +159,10 @@ survivor-spec =
     μ-loop
     Inv-search
     μ-search
-    id-count-requires
+    candidate-count-requires
     search-holds
     sub-i
-    id-at-requires
-    entry-requires
+    candidate-requires
     enum-known-at
     enum-told
     search-less
