@@ -11,7 +11,9 @@ use Rattle.text.specs.declared.Mode.{Mode}
 use Rattle.parts.specs.Promise.{declIn}
 use Rattle.parts.specs.declared.Entry.{Entry}
 use Rattle.parts.specs.declared.Entry.the-variants.{Body, Unresolvable}
-use Rattle.rules.specs.Survivors.{nameOf, declarations}
+use Rattle.rules.specs.Survivors.{nameOf}
+use Rattle.rules.specs.Reached.{IdSet}
+use Rattle.rules.specs.Imports.{standingWith}
 use Rattle.rules.specs.Clauses.{compareDecls, declRules}
 use Rattle.tally.specs.Reporting.{Ready, Ran}
 use Rattle.tally.specs.declared.Tally.{Tally}
@@ -31,7 +33,7 @@ under e h = rw (← e) h
 
 -- ---- on one side only, where n stand on the other
 
-module _ (reading : Reading) {old new : List ℕ} {side : Side} {at : ℕ} (p : DeclOn old new side at) {n : List Decl} {q : Entry}
+module _ (reading : Reading) {old new : List ℕ} {a b : IdSet} {side : Side} {at : ℕ} (p : DeclOn old new a b side at) {n : List Decl} {q : Entry}
     (k : Survives n (off side old new) (declIn (on side old new) at .name) q) where
   pub stands-off : {j : ℕ} → q ≡ Body j → unmatchedIn reading old new n side at ≡ []
   unfolding unmatchedIn unmatched
@@ -43,20 +45,20 @@ module _ (reading : Reading) {old new : List ℕ} {side : Side} {at : ℕ} (p : 
     alone = rw (survives-none _ _ k e)
 
     pub removed : side ≡ Side.Old → Reports old new (declRemoved at) true (unmatchedIn reading old new n side at)
-    removed o = rw (alone, o) (decl-removed old new (p .accepted .0) (p .accepted .1) (contextOf reading old new) at (rw o at (p .here)))
+    removed o = rw (alone, o) (decl-removed old new (p .searchable .0 .accepted) (p .searchable .1 .accepted) (contextOf reading old new) at (rw o at (p .here)))
 
     pub added : side ≡ Side.New → Reports old new (declAdded at) true (unmatchedIn reading old new n side at)
-    added o = rw (alone, o) (decl-added old new (p .accepted .0) (p .accepted .1) (contextOf reading old new) at (rw o at (p .here)))
+    added o = rw (alone, o) (decl-added old new (p .searchable .0 .accepted) (p .searchable .1 .accepted) (contextOf reading old new) at (rw o at (p .here)))
 
--- each name that a side lists stands on the other
-pub none-unmatched : (reading : Reading) (old new : List ℕ) (side : Side) {t : Bool} → t ≡ allOff old new side → t ≡ true
-    → unmatchedDecls reading old new side ≡ []
-unfolding unmatchedDecls declarations namesCovered
-none-unmatched reading old new side e q = covered-none nameOf before (lone reading old new side) (standingOff old new side) _ (sym e ∙ q)
+-- each name of what may stand on a side stands on the other
+pub none-unmatched : (reading : Reading) (old new : List ℕ) (a b : IdSet) (side : Side) {t : Bool} → t ≡ allOff old new a b side → t ≡ true
+    → unmatchedDecls reading old new a b side ≡ []
+unfolding unmatchedDecls standingWith namesCovered
+none-unmatched reading old new a b side e q = covered-none nameOf before (lone reading old new side) (standingOff old new a b side) _ (sym e ∙ q)
 
 -- ---- on both, where n stand in the new image
 
-module _ (reading : Reading) {old new : List ℕ} {i : ℕ} (p : DeclOn old new Side.Old i) {n : List Decl} {q : Entry} (k : Survives n new (declIn old i .name) q) where
+module _ (reading : Reading) {old new : List ℕ} {a b : IdSet} {i : ℕ} (p : DeclOn old new a b Side.Old i) {n : List Decl} {q : Entry} (k : Survives n new (declIn old i .name) q) where
   pub new-none : q ≡ Unresolvable → keptIn reading old new n i ≡ []
   unfolding keptIn matched
   new-none e = rw (survives-none new _ k e)
@@ -70,7 +72,7 @@ module _ (reading : Reading) {old new : List ℕ} {i : ℕ} (p : DeclOn old new 
       -- what comparing them asks, and gives
       pub both-asks : Ready m d t (keptIn reading old new n i)
           → DeclPair old new i j × Ready m d t (compareDecls (contextOf reading old new) (declIn old i) (declIn new j))
-      both-asks w = rw (← both-kept) (record { accepted = p .accepted; here = (p .here, survives-here new _ k e) }, w)
+      both-asks w = rw (← both-kept) (record { accepted = (p .searchable .0 .accepted, p .searchable .1 .accepted); here = (p .here, survives-here new _ k e) }, w)
 
       pub both-ran : {u : Tally} {d′ : List ℕ}
           → Ran m d t (compareDecls (contextOf reading old new) (declIn old i) (declIn new j)) u d′

@@ -3,12 +3,12 @@
 use mathlib.Core.Path.{_≡_, refl, sym, ap, _∙_}
 use mathlib.Core.Bool.{Bool, true, false, _&&_, _||_}
 use mathlib.Core.Option.{Option, none, some}
-use mathlib.Core.List.{List, [], _∷_}
+use mathlib.Core.List.{List, [], _∷_, _++_}
 use Prim.Native.Nat.{ℕ, suc, _+_, _≤_, _<_}
 use native.Mathlib.Numerals.{add-one}
 use borrow.Author.Tests.{eq-eqb, ne-eqb}
 use lib.Dec.{eqb}
-use lib.ListN.{length, getD, drop, drop-of-length-le}
+use lib.ListN.{length, drop, drop-of-length-le}
 use lib.Seq.{drop-cons}
 use Rattle.maps.specs.Lists.{All}
 use Rattle.maps.specs.Orders.{before}
@@ -18,13 +18,16 @@ use Rattle.maps.proofs.Lists.{all}
 use Rattle.maps.proofs.Names.{byName}
 use Rattle.maps.proofs.Survivors.{rising, all-survivors, all-lookup, lookup-key, lookup-own}
 use Rattle.image.specs.Schema.{Name, Decl}
-use Rattle.parts.specs.Promise.{schemaOf, declIn, entryDecl, Resolved}
+use Rattle.parts.specs.Promise.{schemaOf, declIn, entryDecl}
 use Rattle.parts.specs.declared.Entry.{Entry}
 use Rattle.parts.specs.declared.Entry.the-variants.{Body, Unresolvable}
-use Rattle.rules.specs.Survivors.{resolved, listed, nameOf, declarations, viewOf}
-use Rattle.rules.specs.Survivors.{standsFor as entryOf}
+use Rattle.rules.specs.Survivors.{resolved, listed, nameOf}
+use Rattle.rules.specs.Reached.{IdSet}
+use Rattle.rules.specs.Imports.{idsFrom, standingWith, viewWith}
 use Rattle.rules.specs.Verdict.{alias, isAlias, any, aliasPair}
 use Rattle.survivors.specs.Answers.{Survives}
+use Rattle.survivors.specs.Candidates.{candidates, Candidate, present}
+use Rattle.survivors.proofs.Laws.Candidates.{present-candidates}
 use Rattle.survivors.proofs.Declarations.{decl-none, decl-body}
 use Rattle.items.specs.declared.Side.{Side}
 use Rattle.checking.specs.Decls.{standing, bothAliases, aliasesAt, aliasesOf}
@@ -42,32 +45,32 @@ module _ (s : List ℕ) {r : Entry} where
 
 -- ---- one name
 
-module _ (old new : List ℕ) {name : Name} {r : Entry} (h : Survives (standing old new Side.Old) old name r) {a : Bool} (p : a ≡ isAlias (entryDecl old r)) where
-  first : a ≡ isAlias (lookup nameOf before name (standing old new Side.Old))
+module _ (old new : List ℕ) (a b : IdSet) {name : Name} {r : Entry} (h : Survives (standing old new a b Side.Old) old name r) {t : Bool} (p : t ≡ isAlias (entryDecl old r)) where
+  first : t ≡ isAlias (lookup nameOf before name (standing old new a b Side.Old))
   first = p ∙ ap isAlias (h .value)
 
-  pub old-other : a ≡ false → false ≡ aliasesAt old new name
+  pub old-other : t ≡ false → false ≡ aliasesAt old new a b name
   unfolding aliasesAt
   old-other e = rw (sym first ∙ e)
 
-  pub new-decides : a ≡ true → {q : Entry} → Survives (standing old new Side.New) new name q → {b : Bool} → b ≡ isAlias (entryDecl new q)
-      → b ≡ aliasesAt old new name
+  pub new-decides : t ≡ true → {q : Entry} → Survives (standing old new a b Side.New) new name q → {u : Bool} → u ≡ isAlias (entryDecl new q)
+      → u ≡ aliasesAt old new a b name
   unfolding aliasesAt
   new-decides e k f = rw (sym first ∙ e) (f ∙ ap isAlias (k .value))
 
 -- ---- one entry of the old image
 
-module _ (old new : List ℕ) {r : Entry} where
-  pub entry-none : r ≡ Unresolvable → false ≡ aliasesOf old new (entryDecl old r)
+module _ (old new : List ℕ) (a b : IdSet) {r : Entry} where
+  pub entry-none : r ≡ Unresolvable → false ≡ aliasesOf old new a b (entryDecl old r)
   unfolding aliasesOf
   entry-none e = rw (decl-none old e)
 
   module _ {at : ℕ} (e : r ≡ Body at) {kind : ℕ} (k : kind ≡ declIn old at .kind) where
-    pub entry-other : (kind ≡ 6 → ⊥) → false ≡ aliasesOf old new (entryDecl old r)
+    pub entry-other : (kind ≡ 6 → ⊥) → false ≡ aliasesOf old new a b (entryDecl old r)
     unfolding aliasesOf alias
     entry-other n = rw (decl-body old e, ← k, ne-eqb kind 6 n)
 
-    pub entry-alias : kind ≡ 6 → {b : Bool} → b ≡ aliasesAt old new (declIn old at .name) → b ≡ aliasesOf old new (entryDecl old r)
+    pub entry-alias : kind ≡ 6 → {u : Bool} → u ≡ aliasesAt old new a b (declIn old at .name) → u ≡ aliasesOf old new a b (entryDecl old r)
     unfolding aliasesOf alias
     entry-alias q p = rw (decl-body old e, ← k, eq-eqb kind 6 q) p
 
@@ -140,39 +143,38 @@ module _ (l n : List Decl) where
       (owns stand (lookup-own nameOf byName stand (rising nameOf byName l)) (all-survivors nameOf before (λ d. told d ≡ false) l (any-none told l e))))
       (λ e. none-any told l (all (listed-told (any-none paired stand e)) l))
 
--- ---- the entries of the old image from a position on
+-- ---- the entries of the old image that may stand, from a position on
 
-unfoldable pub aliasesFrom : List ℕ → List ℕ → ℕ → Bool
-aliasesFrom old new i = any (λ d. alias d && aliasesAt old new (d .name)) (listed (schemaOf old .registry) (drop i (schemaOf old .ids)))
+unfoldable pub aliasesFrom : (old new : List ℕ) (a b : IdSet) → ℕ → Bool
+aliasesFrom old new a b i = any (λ d. alias d && aliasesAt old new a b (d .name)) (present (drop i (candidates old a)))
 
-module _ (old new : List ℕ) where
-  pub aliases-start : aliasesFrom old new 0 ≡ bothAliases old new
-  unfolding aliasesFrom aliasesAt bothAliases aliasPair viewOf declarations
-  aliases-start = any-told (listed (schemaOf old .registry) (schemaOf old .ids)) (standing old new Side.New)
+module _ (old new : List ℕ) (a b : IdSet) where
+  pub aliases-start : aliasesFrom old new a b 0 ≡ bothAliases old new a b
+  unfolding aliasesFrom aliasesAt bothAliases aliasPair viewWith standingWith
+  aliases-start =
+      ap (any (λ d. alias d && aliasesAt old new a b (d .name))) (present-candidates old a)
+      ∙ any-told (listed (schemaOf old .registry) (idsFrom 0 a ++ schemaOf old .ids)) (standing old new a b Side.New)
 
   any-resolved : (o : Option Decl) (ds : List Decl)
-      → any (λ d. alias d && aliasesAt old new (d .name)) (resolved o ds) ≡ aliasesOf old new o || any (λ d. alias d && aliasesAt old new (d .name)) ds
+      → any (λ d. alias d && aliasesAt old new a b (d .name)) (resolved o ds) ≡ aliasesOf old new a b o || any (λ d. alias d && aliasesAt old new a b (d .name)) ds
   unfolding any resolved aliasesOf
   any-resolved none ds = refl
   any-resolved (some d) ds = refl
 
-  module _ (i : ℕ) {x : Bool} (p : aliasesFrom old new i ≡ x) where
-    pub aliases-done : length (schemaOf old .ids) ≤ i → false ≡ x
-    unfolding aliasesFrom listed any
-    aliases-done h = rw (drop-of-length-le (schemaOf old .ids) h) at p
+  module _ (i : ℕ) {x : Bool} (p : aliasesFrom old new a b i ≡ x) where
+    pub aliases-done : length (candidates old a) ≤ i → false ≡ x
+    unfolding aliasesFrom present any
+    aliases-done h = rw (drop-of-length-le (candidates old a) h) at p
 
-    module _ (h : i < length (schemaOf old .ids)) {id : ℕ} (e : id ≡ getD (schemaOf old .ids) i 0) {r : Entry} (v : Resolved old id r)
-        {b : Bool} (q : b ≡ aliasesOf old new (entryDecl old r)) where
-      turn : (b || aliasesFrom old new (i + 1)) ≡ x
-      unfolding aliasesFrom listed entryOf
+    module _ (h : i < length (candidates old a)) {r : Entry} (v : Candidate old a i r) {t : Bool} (q : t ≡ aliasesOf old new a b (entryDecl old r)) where
+      turn : (t || aliasesFrom old new a b (i + 1)) ≡ x
+      unfolding aliasesFrom present
       turn =
-          let R = schemaOf old .registry in
-          let ids = schemaOf old .ids in
-          let u : getD R (getD ids i 0) none ≡ entryDecl old r = rw (← e) (sym (v .value)) in
-          rw (add-one, q) (sym (rw (drop-cons ids i 0 h, u) (any-resolved (entryDecl old r) (listed R (drop (suc i) ids)))) ∙ p)
+          rw (add-one, q)
+          (sym (rw (drop-cons (candidates old a) i none h, ← v .value) (any-resolved (entryDecl old r) (present (drop (suc i) (candidates old a))))) ∙ p)
 
-      pub aliases-found : b ≡ true → true ≡ x
+      pub aliases-found : t ≡ true → true ≡ x
       aliases-found f = rw f at turn
 
-      pub aliases-turn : b ≡ false → aliasesFrom old new (i + 1) ≡ x
+      pub aliases-turn : t ≡ false → aliasesFrom old new a b (i + 1) ≡ x
       aliases-turn f = rw f at turn

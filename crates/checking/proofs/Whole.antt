@@ -6,7 +6,8 @@ use Rattle.maps.specs.Compare.{compare}
 use Rattle.text.specs.declared.Mode.{Mode}
 use Rattle.text.proofs.Pieces.{together}
 use Rattle.parts.specs.Promise.{schemaOf}
-use Rattle.rules.specs.Survivors.{viewOf}
+use Rattle.rules.specs.Reached.{IdSet}
+use Rattle.rules.specs.Imports.{viewWith}
 use Rattle.rules.specs.Changes.{Change}
 use Rattle.rules.specs.Clauses.{compareNamespaces, changes}
 use Rattle.types.specs.declared.Reading.{Reading}
@@ -17,22 +18,22 @@ use Rattle.tally.proofs.Running.{Owed, owed-start}
 use Rattle.items.specs.declared.Side.{Side}
 use Rattle.checking.specs.Decls.{unmatchedDecls, keptDecls, allChanges}
 
-module _ (reading : Reading) (old new : List ℕ) where
+module _ (reading : Reading) (old new : List ℕ) (a b : IdSet) where
   -- in the order of the report
   abbrev pub parts : List (List Change)
   parts =
       compareNamespaces (schemaOf old .namespace) (schemaOf new .namespace)
-      ∷ unmatchedDecls reading old new Side.Old
-      ∷ unmatchedDecls reading old new Side.New
-      ∷ keptDecls reading old new
+      ∷ unmatchedDecls reading old new a b Side.Old
+      ∷ unmatchedDecls reading old new a b Side.New
+      ∷ keptDecls reading old new a b
       ∷ []
 
-  all-parts : allChanges reading old new ≡ together parts
-  unfolding allChanges changes viewOf compare unmatchedDecls keptDecls together
+  all-parts : allChanges reading old new a b ≡ together parts
+  unfolding allChanges changes viewWith compare unmatchedDecls keptDecls together
   all-parts = refl
 
   -- from the tally of no change on
   pub parts-start : {m : Mode} {d : List ℕ} {t : Tally} → t ≡ noChange
-      → Ready m d noChange (allChanges reading old new)
-      → Owed m d noChange (allChanges reading old new) t d parts
-  parts-start e a = rw e (owed-start all-parts a)
+      → Ready m d noChange (allChanges reading old new a b)
+      → Owed m d noChange (allChanges reading old new a b) t d parts
+  parts-start e r = rw e (owed-start all-parts r)

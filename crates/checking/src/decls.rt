@@ -22,9 +22,9 @@ use parts::kinds::NEWTYPE;
 use parts::kinds::UNION;
 use tally::Tally;
 ghost use Rattle.tally.specs.Reporting.{Ready, Ran};
-ghost use Rattle.items.specs.Pairs.{BothAccepted, DeclPair, KindPair};
+ghost use Rattle.items.specs.Pairs.{DeclPair, KindPair};
 ghost use Rattle.items.specs.declared.Side.{Side};
-ghost use Rattle.checking.specs.Decls.{DeclOn, ofKind, ofDecls, unmatchedDecls, unmatchedDecl, keptDecls, keptDecl};
+ghost use Rattle.checking.specs.Decls.{BothSearchable, DeclOn, ofKind, ofDecls, unmatchedDecls, unmatchedDecl, keptDecls, keptDecl};
 
 // Two declarations of one kind.
 fn compare_kind(
@@ -77,15 +77,17 @@ fn unmatched_decl(
     walk: Walk,
     old: &[u8],
     new: &[u8],
+    old_reached: &[bool],
+    new_reached: &[bool],
     out: &mut [u8],
     t: Tally,
     side: Side,
     at: usize,
 ) -> Tally
-    requires { ⌜ DeclOn (now old) (now new) side at × Ready (walk .mode) (now out) t (unmatchedDecl (walk .reading) (now old) (now new) side at) ⌝ }
-    ensures { λ r. ⌜ Ran (walk .mode) (now (out .entry)) t (unmatchedDecl (walk .reading) (now (old .entry)) (now (new .entry)) side at) r (now (out .exit)) ⌝ }
+    requires { ⌜ DeclOn (now old) (now new) (now «old_reached») (now «new_reached») side at × Ready (walk .mode) (now out) t (unmatchedDecl (walk .reading) (now old) (now new) (now «old_reached») (now «new_reached») side at) ⌝ }
+    ensures { λ r. ⌜ Ran (walk .mode) (now (out .entry)) t (unmatchedDecl (walk .reading) (now (old .entry)) (now (new .entry)) (now («old_reached» .entry)) (now («new_reached» .entry)) side at) r (now (out .exit)) ⌝ }
 {
-    let Entry::Unresolvable = namesake_off(side, old, new, at) else {
+    let Entry::Unresolvable = namesake_off(side, old, new, old_reached, new_reached, at) else {
         return t;
     };
     let mode = walk.mode;
@@ -100,50 +102,79 @@ pub fn unmatched_decls(
     walk: Walk,
     old: &[u8],
     new: &[u8],
+    old_reached: &[bool],
+    new_reached: &[bool],
     out: &mut [u8],
     t: Tally,
     side: Side,
 ) -> Tally
-    requires { ⌜ BothAccepted (now old) (now new) × Ready (walk .mode) (now out) t (unmatchedDecls (walk .reading) (now old) (now new) side) ⌝ }
-    ensures { λ r. ⌜ Ran (walk .mode) (now (out .entry)) t (unmatchedDecls (walk .reading) (now (old .entry)) (now (new .entry)) side) r (now (out .exit)) ⌝ }
+    requires { ⌜ BothSearchable (now old) (now new) (now «old_reached») (now «new_reached») × Ready (walk .mode) (now out) t (unmatchedDecls (walk .reading) (now old) (now new) (now «old_reached») (now «new_reached») side) ⌝ }
+    ensures { λ r. ⌜ Ran (walk .mode) (now (out .entry)) t (unmatchedDecls (walk .reading) (now (old .entry)) (now (new .entry)) (now («old_reached» .entry)) (now («new_reached» .entry)) side) r (now (out .exit)) ⌝ }
 {
-    if all_off(side, old, new) {
+    if all_off(side, old, new, old_reached, new_reached) {
         return t;
     }
     let mut tally = t;
     let mut after = Entry::Unresolvable;
     loop {
-        let Entry::Body(at) = next_on(side, old, new, after) else {
+        let Entry::Body(at) = next_on(side, old, new, old_reached, new_reached, after) else {
             return tally;
         };
-        tally = unmatched_decl(walk, old, new, out, tally, side, at);
+        tally = unmatched_decl(
+            walk,
+            old,
+            new,
+            old_reached,
+            new_reached,
+            out,
+            tally,
+            side,
+            at,
+        );
         after = Entry::Body(at);
     }
 }
 
 // The old declaration at a place: compared, if a new one stands under its name too.
-fn kept_decl(walk: Walk, old: &[u8], new: &[u8], out: &mut [u8], t: Tally, i: usize) -> Tally
-    requires { ⌜ DeclOn (now old) (now new) Side.Old i × Ready (walk .mode) (now out) t (keptDecl (walk .reading) (now old) (now new) i) ⌝ }
-    ensures { λ r. ⌜ Ran (walk .mode) (now (out .entry)) t (keptDecl (walk .reading) (now (old .entry)) (now (new .entry)) i) r (now (out .exit)) ⌝ }
+fn kept_decl(
+    walk: Walk,
+    old: &[u8],
+    new: &[u8],
+    old_reached: &[bool],
+    new_reached: &[bool],
+    out: &mut [u8],
+    t: Tally,
+    i: usize,
+) -> Tally
+    requires { ⌜ DeclOn (now old) (now new) (now «old_reached») (now «new_reached») Side.Old i × Ready (walk .mode) (now out) t (keptDecl (walk .reading) (now old) (now new) (now «old_reached») (now «new_reached») i) ⌝ }
+    ensures { λ r. ⌜ Ran (walk .mode) (now (out .entry)) t (keptDecl (walk .reading) (now (old .entry)) (now (new .entry)) (now («old_reached» .entry)) (now («new_reached» .entry)) i) r (now (out .exit)) ⌝ }
 {
-    let Entry::Body(j) = namesake_off(Side::Old, old, new, i) else {
+    let Entry::Body(j) = namesake_off(Side::Old, old, new, old_reached, new_reached, i) else {
         return t;
     };
     compare_decls(walk, old, new, out, t, i, j)
 }
 
 // The declarations of the old image that stand in the new one too.
-pub fn kept_decls(walk: Walk, old: &[u8], new: &[u8], out: &mut [u8], t: Tally) -> Tally
-    requires { ⌜ BothAccepted (now old) (now new) × Ready (walk .mode) (now out) t (keptDecls (walk .reading) (now old) (now new)) ⌝ }
-    ensures { λ r. ⌜ Ran (walk .mode) (now (out .entry)) t (keptDecls (walk .reading) (now (old .entry)) (now (new .entry))) r (now (out .exit)) ⌝ }
+pub fn kept_decls(
+    walk: Walk,
+    old: &[u8],
+    new: &[u8],
+    old_reached: &[bool],
+    new_reached: &[bool],
+    out: &mut [u8],
+    t: Tally,
+) -> Tally
+    requires { ⌜ BothSearchable (now old) (now new) (now «old_reached») (now «new_reached») × Ready (walk .mode) (now out) t (keptDecls (walk .reading) (now old) (now new) (now «old_reached») (now «new_reached»)) ⌝ }
+    ensures { λ r. ⌜ Ran (walk .mode) (now (out .entry)) t (keptDecls (walk .reading) (now (old .entry)) (now (new .entry)) (now («old_reached» .entry)) (now («new_reached» .entry))) r (now (out .exit)) ⌝ }
 {
     let mut tally = t;
     let mut after = Entry::Unresolvable;
     loop {
-        let Entry::Body(at) = next_on(Side::Old, old, new, after) else {
+        let Entry::Body(at) = next_on(Side::Old, old, new, old_reached, new_reached, after) else {
             return tally;
         };
-        tally = kept_decl(walk, old, new, out, tally, at);
+        tally = kept_decl(walk, old, new, old_reached, new_reached, out, tally, at);
         after = Entry::Body(at);
     }
 }

@@ -17,7 +17,7 @@ is-alias-requires c κs = search needs
 
 returns : tie.Need-returns
 returns c =
-    old-other _ _ (under (c .before .before .before .decl-name .ensures) (c .before .before .survivor .ensures)) (c .before .is-alias .ensures)
+    old-other _ _ _ _ (under (c .before .before .before .decl-name .ensures) (c .before .before .survivor .ensures)) (c .before .is-alias .ensures)
     (not-true _ (c .if1 .taken))
 
 survivor-requires-2 : tie.Need-survivor-requires-2
@@ -29,7 +29,7 @@ is-alias-requires-2 c κs = search needs
 returns-2 : tie.Need-returns-2
 returns-2 c =
     let n = c .before .before .before .before .before in
-    new-decides _ _ (under (n .decl-name .ensures) (c .before .before .before .before .survivor .ensures)) (c .before .before .before .is-alias .ensures)
+    new-decides _ _ _ _ (under (n .decl-name .ensures) (c .before .before .before .before .survivor .ensures)) (c .before .before .before .is-alias .ensures)
     (not-false _ (c .before .before .if1 .left))
     (under (n .decl-name .ensures) (c .before .survivor2 .ensures)) (c .is-alias2 .ensures)
 

@@ -16,19 +16,19 @@ enum-told c = search needs
 
 returns : tie.Need-returns
 returns c =
-    let s = c .before .before .before .before .before .before in
+    let s = c .before .before .before .before .before .before .before .before in
     ran-none (new-none _ (s .pre .0) (c .before .before .namesake-off .ensures) (c .enum-told .given .1)) (s .pre .1)
 
 compare-decls-requires : tie.Need-compare-decls-requires
 compare-decls-requires c κs =
-    let s = c .before .before .before .before .before .before .before .before in
+    let s = c .before .before .before .before .before .before .before .before .before .before in
     both-asks _ (s .pre .0) (c .before .before .before .before .namesake-off .ensures) (c .before .before .j .given .1) (s .pre .1)
 
 same-length : tie.Need-same-length
 same-length c = search needs
 
 returns-2 : tie.Need-returns-2
-returns-2 c = both-ran _ (c .before .before .before .before .before .before .before .before .before .before .before .pre .0) (c .before .before .before .before .before .before .before .namesake-off .ensures) (c .before .before .before .before .before .j .given .1) (c .before .before .compare-decls .ensures)
+returns-2 c = both-ran _ (c .before .before .before .before .before .before .before .before .before .before .before .before .before .pre .0) (c .before .before .before .before .before .before .before .namesake-off .ensures) (c .before .before .before .before .before .j .given .1) (c .before .before .compare-decls .ensures)
 
 pub kept-decl-spec : {M : Type 1} → statement M
 kept-decl-spec =

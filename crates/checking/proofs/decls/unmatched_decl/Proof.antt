@@ -16,11 +16,11 @@ use Rattle.checking.proofs.decls.unmatched_decl.Tie as tie
 
 -- what is to be reported
 abbrev said : tie.Start → List Change
-said s = unmatchedDecl (s .args .walk .reading) (s .args .old .now) (s .args .new .now) (s .args .side) (s .args .at)
+said s = unmatchedDecl (s .args .walk .reading) (s .args .old .now) (s .args .new .now) (s .args .old-reached .now) (s .args .new-reached .now) (s .args .side) (s .args .at)
 
 -- where none stands on the other side, that at the place is reported by the side
 abbrev st : tie.After-enum-told → tie.Start
-st c = c .before .before .before .before .before .before
+st c = c .before .before .before .before .before .before .before .before
 
 removed-here : (c : tie.After-enum-told) → st c .args .side ≡ Side.Old
     → Reports (st c .args .old .now) (st c .args .new .now) (declRemoved (st c .args .at)) true (said (st c))
@@ -41,7 +41,7 @@ enum-told-2 c = search needs
 
 returns : tie.Need-returns
 returns c =
-    let s = c .before .before .before .before .before .before in
+    let s = c .before .before .before .before .before .before .before .before in
     ran-none (stands-off _ (s .pre .0) (c .before .before .namesake-off .ensures) (c .enum-told2 .given .1)) (s .pre .1)
 
 enum-told-3 : tie.Need-enum-told-3

@@ -8,7 +8,7 @@ enum-told : tie.Need-enum-told
 enum-told c = search needs
 
 decl-name-requires : tie.Need-decl-name-requires
-decl-name-requires c κs = rw (c .enum-told .given .1) at (c .before .before .before .before .pre .here)
+decl-name-requires c κs = rw (c .enum-told .given .1) at (c .before .before .before .before .before .before .pre .here)
 
 survivor-requires : tie.Need-survivor-requires
 survivor-requires c κs = search needs
@@ -17,7 +17,7 @@ enum-told-2 : tie.Need-enum-told-2
 enum-told-2 c = search needs
 
 decl-name-requires-2 : tie.Need-decl-name-requires-2
-decl-name-requires-2 c κs = rw (c .enum-told2 .given .1) at (c .before .before .before .before .pre .here)
+decl-name-requires-2 c κs = rw (c .enum-told2 .given .1) at (c .before .before .before .before .before .before .pre .here)
 
 survivor-requires-2 : tie.Need-survivor-requires-2
 survivor-requires-2 c κs = search needs
