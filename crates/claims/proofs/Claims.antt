@@ -1,8 +1,10 @@
 -- The claims hold: each is proved in the crate that it is about. Assumes nothing.
 use Rattle.refusals.proofs.Refusals.{only-ten, exactly-if}
 use Rattle.written.proofs.Accepted.{accepted-exactly}
-use Rattle.rules.specs.Answer.{plain}
+use Rattle.rules.specs.Survivors.{viewOf}
+use Rattle.rules.specs.Answer.{plainReading, plain}
 use Rattle.rules.proofs.Answer.{plain-numbered}
+use Rattle.rules.proofs.Standing.{view-rises}
 use Rattle.rules.proofs.Refusals.{policy-refusals, report-refusals, clauses-told, verdict-refusals}
 use Rattle.rules.proofs.Bound.{selector-bound, plain-bounded}
 use Rattle.rules.proofs.Ordinals.{no-ordinal-changed}
@@ -21,7 +23,7 @@ refusing = record {
   ten = only-ten;
   five = exactly-if;
   stages = policy-refusals plain plain-numbered;
-  verdict = verdict-refusals;
+  verdict = verdict-refusals viewOf view-rises plainReading;
   report = report-refusals plain plain-numbered;
   listing = listing-refusals;
   values = selector-bound plain plain-bounded;
@@ -29,7 +31,7 @@ refusing = record {
 
 comparing : Comparing
 comparing = record {
-  clauses = clauses-told;
+  clauses = clauses-told viewOf view-rises plainReading;
   ordinals = no-ordinal-changed;
   roomEnough = room-enough plain plain-numbered;
   sameText = same-text plain plain-numbered;

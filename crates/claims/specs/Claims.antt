@@ -35,7 +35,7 @@ pub record Refusing : Type 0 where
   pub five : (s : Image) → ExactlyIf s
   -- of two: when each number is given, with which side, what a refusal is, and that it leaves the buffer as it was
   pub stages : (old new : Image) → PolicyRefusals plain old new
-  pub verdict : (old new : Image) → VerdictRefusals old new
+  pub verdict : (old new : Image) → VerdictRefusals viewOf plainReading old new
   pub report : (old new : Image) (room : ℕ) → ReportRefusals plain old new room
   -- and of the listing of one
   pub listing : (image : Image) (room : ℕ) → ListingRefusals image room
@@ -45,7 +45,7 @@ pub record Refusing : Type 0 where
 -- Demand 2: "For every pair of images that 01 accepts, the changes, result and bump .. are proved equal to the clauses as 01 writes them."
 pub record Comparing : Type 0 where
   -- all that is told of such a pair is made of the changes of the clauses
-  pub clauses : (old new : Image) (a : AcceptedPair old new (λ x y. AliasPair x y → ⊥))
+  pub clauses : (old new : Image) (a : AcceptedPair old new (λ x y. AliasPair viewOf x y → ⊥))
       → checked old new ≡ compared (changes plainReading (viewOf (a .oldSchema)) (viewOf (a .newSchema)))
   -- "The three `..OrdinalChanged` counts are 0."
   pub ordinals : (old new : Image)
@@ -63,7 +63,7 @@ pub record Claims : Type 0 where
   pub refusing : Refusing
   pub comparing : Comparing
   -- Demand 3: chain, self and swap
-  pub distance : DistanceRule verdictOf holdsVectors
+  pub distance : DistanceRule verdictOf (holdsVectors viewOf)
   -- R-13: filing order must not matter; and filing anew is an equivalence
   pub filing : FilingOrder
   pub filings : Refilings

@@ -12,14 +12,14 @@ use Rattle.image.specs.Schema.{Schema}
 use Rattle.image.specs.Parse.{Parsed, ok, no}
 use Rattle.image.specs.Image.{readImage}
 use Rattle.refusals.proofs.Refusals.{only-ten}
-use Rattle.rules.specs.Survivors.{viewOf}
+use Rattle.rules.specs.Survivors.{View, viewOf}
 use Rattle.rules.specs.Changes.{Change, kindCount}
-use Rattle.rules.specs.Clauses.{changes}
+use Rattle.rules.specs.Clauses.{Reading, changes}
 use Rattle.rules.specs.Verdict.{bumpOf, resultOf, countOf, aliasPair}
 use Rattle.rules.specs.Report.{report}
-use Rattle.rules.specs.Outcome.{Outcome, refused, answered, selected, select}
+use Rattle.rules.specs.Outcome.{Outcome, refused, selected, select}
 use Rattle.image.specs.Codes.{number, oldSide, newSide, bothSides}
-use Rattle.rules.specs.Answer.{Fault, fault, Policy, compared, counts, firstFault, judged, onSide, imageFault, faultIn, comparePair, acceptNew, acceptOld, outcome, aliasCheck, plain}
+use Rattle.rules.specs.Answer.{Fault, fault, Policy, compared, counts, firstFault, judged, onSide, imageFault, faultIn, comparePair, acceptNew, acceptOld, outcome, aliasCheck, usual, plainReading, plain}
 use Rattle.rules.specs.Refusals.{Passes, Decided, oldRefused, oldAlone, newRefused, newAlone, pairRefused, verdict, Numbered}
 
 -- ---- where they are decided
@@ -120,22 +120,37 @@ unfoldable pub schemaOf : Parsed Schema → Schema
 schemaOf (ok s n) = s
 schemaOf (no k) = record { registry = []; ids = []; namespace = [] }
 
+-- two images of which none of the numbers is given
+pub record Settled (p : Policy) (a b : List ℕ) : Type 0 where
+  pub oldSchema : Schema
+  pub newSchema : Schema
+  pub old : Passes p a oldSchema
+  pub new : Passes p b newSchema
+  pub faultless : firstFault (p .pair) oldSchema newSchema ≡ none
+
 module _ (p : Policy) where
   -- what the clauses report, whether or not the images are refused
   unfoldable pub changesOf : List ℕ → List ℕ → List Change
   changesOf a b = changes (p .reading) (p .view (schemaOf (readImage a))) (p .view (schemaOf (readImage b)))
 
-  pub compared-of : Numbered p → (a b : List ℕ) → select (outcome p a b) 0 ≡ 0 → outcome p a b ≡ compared (changesOf a b)
-  unfolding changesOf schemaOf select selected
-  compared-of n a b = go (decided p a b)
+  -- both are accepted, each passes alone, and the pair passes its checks
+  pub settled : Numbered p → (a b : List ℕ) → select (outcome p a b) 0 ≡ 0 → Settled p a b
+  unfolding select selected
+  settled n a b = go (decided p a b)
     where
-      go : {o : Outcome} → Decided p a b o → select o 0 ≡ 0 → o ≡ compared (changesOf a b)
+      go : {o : Outcome} → Decided p a b o → select o 0 ≡ 0 → Settled p a b
       go (oldRefused l q) z = absurd (omega arith)
       go (oldAlone q e) z = absurd (n .alone _ _ e .0 z)
       go (newRefused c l q) z = absurd (omega arith)
       go (newAlone c q e) z = absurd (n .alone _ _ e .0 z)
       go (pairRefused c d e) z = absurd (n .pair _ _ _ e .0 z)
-      go (verdict c d e) z = rw (c .read, d .read)
+      go (verdict {x = x} {y = y} c d e) z = record { oldSchema = x; newSchema = y; old = c; new = d; faultless = e }
+
+  pub compared-of : Numbered p → (a b : List ℕ) → select (outcome p a b) 0 ≡ 0 → outcome p a b ≡ compared (changesOf a b)
+  unfolding changesOf schemaOf
+  compared-of n a b z =
+      let t = settled n a b z in
+      rw (t .old .read, t .new .read) (decides p a b (verdict (t .old) (t .new) (t .faultless)))
 
 -- ---- the selectors from 5 on
 
@@ -151,29 +166,33 @@ count-selected kind h cs =
     getD-append-add (0 ∷ 0 ∷ bumpOf cs ∷ resultOf cs ∷ length (report cs) ∷ []) (counts kindCount 0 cs) kind 0
     ∙ (counts-at kindCount 0 kind cs h ∙ ap (λ i. countOf i cs) (omega arith))
 
--- ---- the verdict of document 01
+-- ---- a verdict whose one check is 11, over any view and by any reading
 
--- of the pair only 11 is given, to a pair of aliases
-pub plain-fault : (x y : Schema) (f : Fault) → firstFault (plain .pair) x y ≡ some f
-    → (aliasPair (viewOf x) (viewOf y) ≡ true) × (f ≡ fault 11 (number bothSides))
-unfolding firstFault aliasCheck orElse
-plain-fault x y f = go (aliasPair (viewOf x) (viewOf y)) refl
-  where
-    go : (u : Bool) → aliasPair (viewOf x) (viewOf y) ≡ u → orElse (cond u (some (fault 11 (number bothSides))) none) none ≡ some f
-        → (aliasPair (viewOf x) (viewOf y) ≡ true) × (f ≡ fault 11 (number bothSides))
-    go true p e = (p, sym (Option·some-injective (fault 11 (number bothSides)) f e))
-    go false p e = absurd (Option·none-ne-some f e)
+module _ (view : Schema → View) where
+  -- of the pair only 11 is given, to a pair of aliases
+  pub usual-fault : (x y : Schema) (f : Fault) → firstFault (aliasCheck view ∷ []) x y ≡ some f
+      → (aliasPair (view x) (view y) ≡ true) × (f ≡ fault 11 (number bothSides))
+  unfolding firstFault aliasCheck orElse
+  usual-fault x y f = go (aliasPair (view x) (view y)) refl
+    where
+      go : (u : Bool) → aliasPair (view x) (view y) ≡ u → orElse (cond u (some (fault 11 (number bothSides))) none) none ≡ some f
+          → (aliasPair (view x) (view y) ≡ true) × (f ≡ fault 11 (number bothSides))
+      go true p e = (p, sym (Option·some-injective (fault 11 (number bothSides)) f e))
+      go false p e = absurd (Option·none-ne-some f e)
 
-pub alias-fault : (x y : Schema) → aliasPair (viewOf x) (viewOf y) ≡ true → firstFault (plain .pair) x y ≡ some (fault 11 (number bothSides))
-unfolding firstFault aliasCheck orElse
-alias-fault x y e = rw e
+  pub alias-fault : (x y : Schema) → aliasPair (view x) (view y) ≡ true → firstFault (aliasCheck view ∷ []) x y ≡ some (fault 11 (number bothSides))
+  unfolding firstFault aliasCheck orElse
+  alias-fault x y e = rw e
 
-pub no-alias-fault : (x y : Schema) → aliasPair (viewOf x) (viewOf y) ≡ false → firstFault (plain .pair) x y ≡ none
-unfolding firstFault aliasCheck orElse
-no-alias-fault x y e = rw e
+  pub no-alias-fault : (x y : Schema) → aliasPair (view x) (view y) ≡ false → firstFault (aliasCheck view ∷ []) x y ≡ none
+  unfolding firstFault aliasCheck orElse
+  no-alias-fault x y e = rw e
+
+pub usual-numbered : (view : Schema → View) (reading : Reading) → Numbered (usual view reading)
+usual-numbered view reading = record {
+  alone = λ x k e. absurd (Option·none-ne-some k e);
+  pair = λ x y f e. let n = ap (λ (g : Fault). g .number) (usual-fault view x y f e .1) in (λ z. omega arith, λ z. omega arith);
+}
 
 pub plain-numbered : Numbered plain
-plain-numbered = record {
-  alone = λ x k e. absurd (Option·none-ne-some k e);
-  pair = λ x y f e. let n = ap (λ (g : Fault). g .number) (plain-fault x y f e .1) in (λ z. omega arith, λ z. omega arith);
-}
+plain-numbered = usual-numbered viewOf plainReading

@@ -2,7 +2,7 @@
 use mathlib.Core.Path.{_≡_, ap}
 use mathlib.Core.Bool.{Bool, true, false, cond}
 use mathlib.Core.Option.{Option, none, some, Option·none-ne-some}
-use mathlib.Core.List.{List, [], _∷_}
+use mathlib.Core.List.{List, [], _∷_, _++_}
 use Prim.Native.Nat.{ℕ, zero, suc, _+_, _*_, _^_, _≤_, _<_}
 use native.Mathlib.Omega.{arith}
 use lib.Dec.{eqb}
@@ -18,26 +18,34 @@ use Rattle.image.specs.Words.{bytes}
 use Rattle.image.specs.Parse.{Parsed, ok}
 use Rattle.image.specs.Image.{readImage}
 use Rattle.image.proofs.Laws.Sure.{Sure, sure-ok, sure-no}
-use Rattle.rules.specs.Survivors.{Registry, nameOf, standsFor, resolved, listed, declarations, View, viewOf}
+use Rattle.rules.specs.Survivors.{Registry, nameOf, standsFor, resolved, listed, View, viewOf}
 use Rattle.rules.specs.Types.{nameOrNone, sameType}
 use Rattle.rules.specs.Text.{joined}
 use Rattle.rules.specs.Changes.{Change, kindCount}
-use Rattle.rules.specs.Clauses.{changes}
+use Rattle.rules.specs.Clauses.{Reading, changes}
 use Rattle.rules.specs.Verdict.{bumpOf, resultAt, resultOf, countOf}
 use Rattle.rules.specs.Report.{bumpWord, resultWord, line, lastLine, report}
 use Rattle.rules.specs.Outcome.{Outcome, refused, selected, select}
-use Rattle.rules.specs.Answer.{Fault, Policy, compared, counts, firstFault, verdictBy, plain, verdictOf}
+use Rattle.rules.specs.Answer.{Fault, Policy, compared, counts, firstFault, verdictBy, usual, plainReading, plain}
+use Rattle.rules.specs.Reached.{IdSet}
+use Rattle.rules.specs.Imports.{idsFrom, standingWith, viewWith}
 use Rattle.rules.specs.Refusals.{Passes, Decided, oldRefused, oldAlone, newRefused, newAlone, pairRefused, verdict}
 use Rattle.rules.proofs.Sizes.{namesSize, declSize}
 use Rattle.text.proofs.Numbers.{decimal-length}
 use Rattle.rules.proofs.Texts.{word-length, Short, line-some}
 use Rattle.rules.proofs.Weights.{lineLength, Light, clauses-light, changes-weight}
 use Rattle.rules.proofs.Held.{Small, Held, image-held}
-use Rattle.rules.proofs.Answer.{decided, plain-fault}
+use Rattle.rules.proofs.Answer.{decided, usual-fault}
 use Rattle.rules.proofs.Chain.{largest-two}
-use Rattle.rules.proofs.Distance.{view-rises}
+use Rattle.rules.proofs.Standing.{view-none, with-rises}
 
--- ---- the standing declarations of what an image holds
+-- ---- what stands of what an image holds
+
+ids-fewer : (id : ℕ) (m : IdSet) → length (idsFrom id m) ≤ length m
+unfolding idsFrom
+ids-fewer id [] = omega arith
+ids-fewer id (true ∷ m) = omega (arith, ids-fewer (suc id) m)
+ids-fewer id (false ∷ m) = omega (arith, ids-fewer (suc id) m)
 
 entry-small : (R : Registry) (id : ℕ) → All Small R → Small (getD R id none)
 unfolding All Small
@@ -76,18 +84,21 @@ module _ (R : Registry) (h : All Small R) where
   listed-total [] = omega arith
   listed-total (id ∷ ids) = omega (arith, resolved-total (getD R id none) (entry-small R id h) (listed R ids), listed-total ids)
 
-module _ (x : Schema) (h : Held x) where
-  standing-small : All (λ d. declSize d ≤ 32768) (declarations x)
-  unfolding declarations
-  standing-small = all-survivors nameOf before _ (listed (x .registry) (x .ids)) (listed-small (x .registry) (h .entries) (x .ids))
+module _ (m : IdSet) (x : Schema) (h : Held x) where
+  standing-small : All (λ d. declSize d ≤ 32768) (standingWith m x)
+  unfolding standingWith
+  standing-small = all-survivors nameOf before _ (listed (x .registry) (idsFrom 0 m ++ x .ids)) (listed-small (x .registry) (h .entries) (idsFrom 0 m ++ x .ids))
 
-  standing-total : total declSize (declarations x) ≤ 16777216
-  unfolding declarations
+  -- as many as there are marks and listed ids, of 32,768 bytes each
+  standing-total : total declSize (standingWith m x) ≤ 32768 * (length m + 512)
+  unfolding standingWith
   standing-total =
       omega (
         arith,
-        total-survivors nameOf before declSize (listed (x .registry) (x .ids)),
-        listed-total (x .registry) (h .entries) (x .ids),
+        total-survivors nameOf before declSize (listed (x .registry) (idsFrom 0 m ++ x .ids)),
+        listed-total (x .registry) (h .entries) (idsFrom 0 m ++ x .ids),
+        length-append (idsFrom 0 m) (x .ids),
+        ids-fewer 0 m,
         h .ids,
       )
 
@@ -205,24 +216,30 @@ selector-bound p b old new n = go (decided p old new)
     go (pairRefused a c e) = refused-below _ _ n (b .pair _ _ _ e .0) (b .pair _ _ _ e .1)
     go (verdict {x = x} {y = y} a c e) = compared-below _ n (report-bound p b old new x y (a .end) (c .end) (a .read) (c .read))
 
--- ---- of the verdict of document 01
+-- ---- of a verdict whose one check is 11
 
-plain-sized : (x : Schema) → Held x → Sized (viewOf x)
-unfolding viewOf
-plain-sized x h = record {
+pub usual-bounded : (view : Schema → View) (reading : Reading) → ((x : Schema) → Held x → Sized (view x)) → Light reading → Bounded (usual view reading)
+usual-bounded view reading sized light = record {
+  view = sized;
+  light = light;
+  alone = λ x k e. absurd (Option·none-ne-some k e);
+  pair = λ x y f e.
+      let q = usual-fault view x y f e .1 in
+      (omega (arith, ap (λ (g : Fault). g .number) q), omega (arith, ap (λ (g : Fault). g .side) q));
+}
+
+-- a view of what stands with a set of no more ids than a registry has
+pub with-sized : (m : IdSet) → length m ≤ 512 → (x : Schema) → Held x → Sized (viewWith m x)
+unfolding viewWith
+with-sized m l x h = record {
   namespace = h .segments;
-  rises = view-rises x;
-  small = standing-small x h;
-  size = omega (arith, standing-total x h);
+  rises = with-rises m x;
+  small = standing-small m x h;
+  size = omega (arith, standing-total m x h);
   registry = held-short x h;
 }
 
+-- ---- of the verdict of document 01
+
 pub plain-bounded : Bounded plain
-plain-bounded = record {
-  view = plain-sized;
-  light = clauses-light sameType;
-  alone = λ x k e. absurd (Option·none-ne-some k e);
-  pair = λ x y f e.
-      let q = plain-fault x y f e .1 in
-      (omega (arith, ap (λ (g : Fault). g .number) q), omega (arith, ap (λ (g : Fault). g .side) q));
-}
+plain-bounded = usual-bounded viewOf plainReading (λ x h. rw (← view-none x) (with-sized [] (omega arith) x h)) (clauses-light sameType)

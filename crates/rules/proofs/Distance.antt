@@ -2,38 +2,35 @@
 -- verdict call of document 01. Assumes nothing.
 use mathlib.Core.Path.{_≡_, refl, sym, ap, _∙_}
 use mathlib.Core.Bool.{Bool, true, cond, not, _&&_}
-use mathlib.Core.List.{List, [], _∷_, flatMap}
+use mathlib.Core.List.{List, [], _∷_}
 use Prim.Native.Nat.{ℕ, _+_, _≤_, _<_, max}
 use native.Mathlib.Omega.{arith}
 use lib.Dec.{eqb, ltb}
 use borrow.Author.Tests.{ltb-true, eqb-true, not-true}
-use Rattle.maps.specs.Lists.{pass, All}
-use Rattle.maps.specs.Keyed.{survivors}
+use Rattle.maps.specs.Lists.{All}
 use Rattle.maps.specs.Orders.{before}
 use Rattle.maps.specs.Walk.{Rising}
 use Rattle.maps.proofs.Lists.{all-map}
-use Rattle.maps.proofs.Names.{byName}
-use Rattle.maps.proofs.Survivors.{rising}
 use Rattle.image.specs.Schema.{Schema, Ty}
-use Rattle.image.specs.Parse.{Parsed, ok, no}
 use Rattle.image.specs.Image.{readImage}
 use Rattle.maps.proofs.Tests.{both}
-use Rattle.rules.specs.Survivors.{nameOf, listed, declarations, View, viewOf}
+use Rattle.rules.specs.Survivors.{nameOf, View, viewOf}
 use Rattle.rules.specs.Types.{resolve, holdsVector}
 use Rattle.rules.specs.Changes.{kindCount, kindAt, FieldAdded, FieldRemoved, FieldDeprecated, VariantAdded, VariantRemoved, DeclarationAdded, DeclarationRemoved, FlagsBitAdded, FlagsBitRemoved}
 use Rattle.rules.specs.Clauses.{comparedTypes}
 use Rattle.rules.specs.Verdict.{bumpOf, countOf, any}
 use Rattle.rules.specs.Outcome.{selected, select}
-use Rattle.rules.specs.Answer.{Policy, outcome, verdictBy, plain, verdictOf}
+use Rattle.rules.specs.Answer.{Policy, verdictBy, usual, plainReading, verdictOf}
 use Rattle.rules.specs.Refusals.{Numbered}
 use Rattle.rules.specs.Distance.{Image, vectorCompared, last, otherKinds, Verdict, distance, countBetween, Steps, largestStep, Swapped, DistanceRule, holdsVectors}
 use Rattle.rules.proofs.Types.{types, holds-resolved}
 use Rattle.rules.proofs.Chain.{changes-chained}
 use Rattle.rules.proofs.Self.{changes-self}
-use Rattle.rules.proofs.Mirror.{exchange, mirror}
+use Rattle.rules.proofs.Mirror.{mirror}
 use Rattle.rules.proofs.Readings.{Lawful, clauses-lawful}
 use Rattle.rules.proofs.Swap.{changes-swap}
-use Rattle.rules.proofs.Answer.{schemaOf, changesOf, compared-of, count-selected, plain-numbered}
+use Rattle.rules.proofs.Answer.{schemaOf, settled, changesOf, compared-of, count-selected, usual-numbered}
+use Rattle.rules.proofs.Standing.{view-rises}
 
 -- whether the count of one kind is that of another the other way
 unfoldable turned : ℕ → ℕ → Bool
@@ -102,34 +99,39 @@ module _ (p : Policy) (numbered : Numbered p) (rise : (s : Schema) → Rising na
     swap = swapped;
   }
 
--- ---- the verdict call of document 01
-
--- survivors rise by name
-pub view-rises : (s : Schema) → Rising nameOf before (viewOf s .standing)
-unfolding viewOf declarations
-view-rises s = rising nameOf byName (listed (s .registry) (s .ids))
+-- ---- a verdict whose one check is 11, over any rising view
 
 any-same : {A : Type 0} (p q : A → Bool) → ((a : A) → p a ≡ q a) → (l : List A) → any p l ≡ any q l
 unfolding any
 any-same p q h [] = refl
 any-same p q h (a ∷ l) = rw (h a, any-same p q h l)
 
--- an odd type is one that holds a vector, quaternion or matrix node
-odd-vectors : (a : Image) → oddIn plain plain-numbered view-rises (clauses-lawful types) a ≡ holdsVectors a
-unfolding holdsVectors vectorCompared schemaOf viewOf declarations listed survivors pass comparedTypes flatMap any
-odd-vectors a = go (readImage a)
-  where
-    go : (p : Parsed Schema)
-        → any (λ t. holdsVector (resolve (viewOf (schemaOf p) .registry) t)) (comparedTypes (viewOf (schemaOf p))) ≡ vectorCompared p
-    go (ok s n) = any-same _ holdsVector (holds-resolved (s .registry)) (comparedTypes (viewOf s))
-    go (no k) = refl
+module _ (view : Schema → View) (rise : (s : Schema) → Rising nameOf before (view s .standing)) where
+  abbrev policy : Policy
+  policy = usual view plainReading
 
-pub distance-rule : DistanceRule verdictOf holdsVectors
-distance-rule = record {
-  chain = rule .chain;
-  self = λ a v. rule .self a v ∙ ap (λ u. cond u 2 0) (odd-vectors a);
-  swap = rule .swap;
-}
-  where
-    rule : DistanceRule verdictOf (oddIn plain plain-numbered view-rises (clauses-lawful types))
-    rule = distance-rule-of plain plain-numbered view-rises (clauses-lawful types)
+  abbrev numbered : Numbered policy
+  numbered = usual-numbered view plainReading
+
+  -- an odd type is one that holds a vector, quaternion or matrix node
+  odd-vectors : (a : Image) → Verdict (verdictBy policy) a a → oddIn policy numbered rise (clauses-lawful types) a ≡ holdsVectors view a
+  unfolding Verdict verdictBy holdsVectors vectorCompared schemaOf
+  odd-vectors a v =
+      let t = settled policy numbered a a v in
+      let x = view (t .oldSchema) in
+      rw (t .old .read) (any-same _ holdsVector (holds-resolved (x .registry)) (comparedTypes x))
+
+  pub usual-distance-rule : DistanceRule (verdictBy policy) (holdsVectors view)
+  usual-distance-rule = record {
+    chain = rule .chain;
+    self = λ a v. rule .self a v ∙ ap (λ u. cond u 2 0) (odd-vectors a v);
+    swap = rule .swap;
+  }
+    where
+      rule : DistanceRule (verdictBy policy) (oddIn policy numbered rise (clauses-lawful types))
+      rule = distance-rule-of policy numbered rise (clauses-lawful types)
+
+-- ---- the verdict call of document 01
+
+pub distance-rule : DistanceRule verdictOf (holdsVectors viewOf)
+distance-rule = usual-distance-rule viewOf view-rises

@@ -13,6 +13,7 @@ pub mod Self
 pub mod Swap
 pub mod Outcomes
 pub mod Answer
+pub mod Standing
 pub mod Distance
 pub mod Refusals
 pub mod Calls

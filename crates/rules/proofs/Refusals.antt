@@ -10,6 +10,7 @@ use borrow.Author.Tests.{eqb-true, eq-eqb, leb-true, leb-false}
 use Rattle.maps.specs.Lists.{All}
 use Rattle.maps.specs.Keyed.{lookup}
 use Rattle.maps.specs.Orders.{before}
+use Rattle.maps.specs.Walk.{Rising}
 use Rattle.maps.proofs.Names.{byName}
 use Rattle.maps.proofs.Survivors.{all-lookup, lookup-key, lookup-own}
 use Rattle.image.specs.Schema.{Name, Decl, Schema}
@@ -17,16 +18,15 @@ use Rattle.image.specs.Parse.{ok, no}
 use Rattle.image.specs.Image.{readImage}
 use Rattle.refusals.proofs.Refusals.{only-ten}
 use Rattle.maps.proofs.Tests.{no-both, both}
-use Rattle.rules.specs.Survivors.{nameOf, declarations, viewOf}
-use Rattle.rules.specs.Clauses.{changes}
+use Rattle.rules.specs.Survivors.{nameOf, View}
+use Rattle.rules.specs.Clauses.{Reading, changes}
 use Rattle.rules.specs.Verdict.{alias, isAlias, any, aliasPair}
-use Rattle.rules.specs.Outcome.{Outcome, refused, answered, selected, select}
+use Rattle.rules.specs.Outcome.{Outcome, refused, selected, select}
 use Rattle.image.specs.Codes.{number, bothSides}
-use Rattle.rules.specs.Answer.{Fault, fault, Policy, compared, firstFault, outcome, verdictBy, reportBy, plainReading, plain, checked, reported}
+use Rattle.rules.specs.Answer.{Fault, fault, Policy, compared, firstFault, outcome, verdictBy, reportBy, usual}
 use Rattle.rules.specs.Refusals.{Passes, Decided, oldRefused, oldAlone, newRefused, newAlone, pairRefused, verdict, Numbered, PolicyRefusals, ReportRefusals, AcceptedPair, NewRefused, Alias, AliasPair, VerdictRefusals}
 use Rattle.rules.proofs.Outcomes.{not-answered, nothing-told, nothing-written, fit-full, fit-filled, fit-else}
-use Rattle.rules.proofs.Answer.{decided, decides, exactly, plain-fault, alias-fault, plain-numbered}
-use Rattle.rules.proofs.Distance.{view-rises}
+use Rattle.rules.proofs.Answer.{decided, decides, exactly, usual-fault, alias-fault, usual-numbered}
 
 -- ---- the test of a pair of aliases
 
@@ -61,45 +61,45 @@ found-alias n l = go (lookup nameOf before n l) refl
     go none p e = no-both refl (sym e)
     go (some d) p e = (d, p, eqb-true (d .kind) 6 e)
 
-module _ (x y : Schema) where
-  pair-found : aliasPair (viewOf x) (viewOf y) ≡ true → AliasPair x y
-  unfolding aliasPair viewOf alias
+module _ (view : Schema → View) (rise : (s : Schema) → Rising nameOf before (view s .standing)) (x y : Schema) where
+  pair-found : aliasPair (view x) (view y) ≡ true → AliasPair view x y
+  unfolding aliasPair alias
   pair-found e =
-      let own = lookup-own nameOf byName (declarations x) (view-rises x) in
-      let t = any-true (λ d. alias d && isAlias (lookup nameOf before (d .name) (declarations y))) _ (declarations x) own e in
-      let b = both (alias (t .0)) (isAlias (lookup nameOf before (t .0 .name) (declarations y))) (t .2) in
-      let f = found-alias (t .0 .name) (declarations y) (b .1) in
+      let own = lookup-own nameOf byName (view x .standing) (rise x) in
+      let t = any-true (λ d. alias d && isAlias (lookup nameOf before (d .name) (view y .standing))) _ (view x .standing) own e in
+      let b = both (alias (t .0)) (isAlias (lookup nameOf before (t .0 .name) (view y .standing))) (t .2) in
+      let f = found-alias (t .0 .name) (view y .standing) (b .1) in
       record {
         name = t .0 .name;
         inOld = record { survivor = t .0; stands = t .1; generic = eqb-true (t .0 .kind) 6 (b .0) };
         inNew = record { survivor = f .0; stands = f .1; generic = f .2 };
       }
 
-  pair-given : AliasPair x y → aliasPair (viewOf x) (viewOf y) ≡ true
-  unfolding aliasPair viewOf alias isAlias
-  pair-given a = go (aliasPair (viewOf x) (viewOf y)) refl
+  pair-given : AliasPair view x y → aliasPair (view x) (view y) ≡ true
+  unfolding aliasPair alias isAlias
+  pair-given a = go (aliasPair (view x) (view y)) refl
     where
-      old : Alias (a .name) x
+      old : Alias view (a .name) x
       old = a .inOld
 
       test : Decl → Bool
-      test d = alias d && isAlias (lookup nameOf before (d .name) (declarations y))
+      test d = alias d && isAlias (lookup nameOf before (d .name) (view y .standing))
 
       passes : test (old .survivor) ≡ true
       passes =
           rw (
             eq-eqb (old .survivor .kind) 6 (old .generic),
-            lookup-key nameOf byName (a .name) (declarations x) (old .survivor)
+            lookup-key nameOf byName (a .name) (view x .standing) (old .survivor)
                 (old .stands),
             a .inNew .stands,
           )
           (eq-eqb (a .inNew .survivor .kind) 6 (a .inNew .generic))
 
-      go : (u : Bool) → aliasPair (viewOf x) (viewOf y) ≡ u → u ≡ true
+      go : (u : Bool) → aliasPair (view x) (view y) ≡ u → u ≡ true
       go true e = refl
       go false e =
-          no-both passes (all-lookup nameOf before (λ d. test d ≡ false) (a .name) (declarations x) (old .survivor)
-          (any-false test (declarations x) e) (old .stands))
+          no-both passes (all-lookup nameOf before (λ d. test d ≡ false) (a .name) (view x .standing) (old .survivor)
+          (any-false test (view x .standing) e) (old .stands))
 
 -- ---- of any verdict
 
@@ -145,25 +145,28 @@ module _ (p : Policy) (numbered : Numbered p) (old new : List ℕ) where
         untouched = nothing-written (reportBy p old new room);
       }
 
--- ---- of the verdict of document 01
+-- ---- of a verdict whose one check is 11
 
-module _ (old new : List ℕ) where
+module _ (view : Schema → View) (rise : (s : Schema) → Rising nameOf before (view s .standing)) (reading : Reading) (old new : List ℕ) where
+  abbrev policy : Policy
+  policy = usual view reading
+
   abbrev Of : Outcome → Type 0
-  Of = Decided plain old new
+  Of = Decided policy old new
 
   -- nobody is refused alone
   none-alone : {A : Type 0} {k : ℕ} → _≡_ {A = Option ℕ} none (some k) → A
   none-alone e = absurd (Option·none-ne-some _ e)
 
   -- the number and the side that a fault of the pair has
-  eleven : (x y : Schema) (f : Fault) → firstFault (plain .pair) x y ≡ some f → (f .number ≡ 11) × (f .side ≡ number bothSides)
-  eleven x y f e = let q = plain-fault x y f e .1 in (ap (λ (g : Fault). g .number) q, ap (λ (g : Fault). g .side) q)
+  eleven : (x y : Schema) (f : Fault) → firstFault (policy .pair) x y ≡ some f → (f .number ≡ 11) × (f .side ≡ number bothSides)
+  eleven x y f e = let q = usual-fault view x y f e .1 in (ap (λ (g : Fault). g .number) q, ap (λ (g : Fault). g .side) q)
 
-  both-read : {P : Schema → Schema → Type 0} {x y : Schema} → Passes plain old x → Passes plain new y → P x y → AcceptedPair old new P
+  both-read : {P : Schema → Schema → Type 0} {x y : Schema} → Passes policy old x → Passes policy new y → P x y → AcceptedPair old new P
   both-read {x = x} {y = y} a b h =
       record { oldSchema = x; newSchema = y; oldEnd = a .end; newEnd = b .end; oldRead = a .read; newRead = b .read; holds = h }
 
-  verdict-only : {o : Outcome} → Of o → select o 0 ≡ 0 → AcceptedPair old new (λ x y. AliasPair x y → ⊥)
+  verdict-only : {o : Outcome} → Of o → select o 0 ≡ 0 → AcceptedPair old new (λ x y. AliasPair view x y → ⊥)
   unfolding select selected
   verdict-only (oldRefused l q) z = absurd (omega arith)
   verdict-only (oldAlone q e) z = none-alone e
@@ -171,43 +174,43 @@ module _ (old new : List ℕ) where
   verdict-only (newAlone a q e) z = none-alone e
   verdict-only (pairRefused a b e) z = absurd (omega (arith, eleven _ _ _ e .0))
   verdict-only (verdict {x = x} {y = y} a b e) z =
-      both-read a b (λ h. absurd (Option·none-ne-some _ (sym e ∙ alias-fault x y (pair-given x y h))))
+      both-read a b (λ h. absurd (Option·none-ne-some _ (sym e ∙ alias-fault view x y (pair-given view rise x y h))))
 
-  alias-only : {o : Outcome} → Of o → select o 0 ≡ 11 → AcceptedPair old new AliasPair
+  alias-only : {o : Outcome} → Of o → select o 0 ≡ 11 → AcceptedPair old new (AliasPair view)
   unfolding select selected
   alias-only (oldRefused l q) z = absurd (omega arith)
   alias-only (oldAlone q e) z = none-alone e
   alias-only (newRefused a l q) z = absurd (omega arith)
   alias-only (newAlone a q e) z = none-alone e
-  alias-only (pairRefused {x = x} {y = y} a b e) z = both-read a b (pair-found x y (plain-fault _ _ _ e .0))
+  alias-only (pairRefused {x = x} {y = y} a b e) z = both-read a b (pair-found view rise x y (usual-fault view _ _ _ e .0))
   alias-only (verdict a b e) z = absurd (omega arith)
 
   module _ {P : Schema → Schema → Type 0} (a : AcceptedPair old new P) where
-    old-passes : Passes plain old (a .oldSchema)
+    old-passes : Passes policy old (a .oldSchema)
     old-passes = record { end = a .oldEnd; read = a .oldRead; alone = refl }
 
-    new-passes : Passes plain new (a .newSchema)
+    new-passes : Passes policy new (a .newSchema)
     new-passes = record { end = a .newEnd; read = a .newRead; alone = refl }
 
   -- two images that get a verdict get that of the clauses
-  pub clauses-told : (a : AcceptedPair old new (λ x y. AliasPair x y → ⊥))
-      → checked old new ≡ compared (changes plainReading (viewOf (a .oldSchema)) (viewOf (a .newSchema)))
-  clauses-told a = go (firstFault (plain .pair) (a .oldSchema) (a .newSchema)) refl
+  pub clauses-told : (a : AcceptedPair old new (λ x y. AliasPair view x y → ⊥))
+      → outcome policy old new ≡ compared (changes reading (view (a .oldSchema)) (view (a .newSchema)))
+  clauses-told a = go (firstFault (policy .pair) (a .oldSchema) (a .newSchema)) refl
     where
-      go : (f : Option Fault) → firstFault (plain .pair) (a .oldSchema) (a .newSchema) ≡ f
-          → checked old new ≡ compared (changes plainReading (viewOf (a .oldSchema)) (viewOf (a .newSchema)))
-      go none e = decides plain old new (verdict (old-passes a) (new-passes a) e)
-      go (some f) e = absurd (a .holds (pair-found (a .oldSchema) (a .newSchema) (plain-fault _ _ _ e .0)))
+      go : (f : Option Fault) → firstFault (policy .pair) (a .oldSchema) (a .newSchema) ≡ f
+          → outcome policy old new ≡ compared (changes reading (view (a .oldSchema)) (view (a .newSchema)))
+      go none e = decides policy old new (verdict (old-passes a) (new-passes a) e)
+      go (some f) e = absurd (a .holds (pair-found view rise (a .oldSchema) (a .newSchema) (usual-fault view _ _ _ e .0)))
 
-  verdict-given : AcceptedPair old new (λ x y. AliasPair x y → ⊥) → select (checked old new) 0 ≡ 0
+  verdict-given : AcceptedPair old new (λ x y. AliasPair view x y → ⊥) → select (outcome policy old new) 0 ≡ 0
   unfolding select selected
   verdict-given a = ap (λ o. select o 0) (clauses-told a)
 
-  alias-given : AcceptedPair old new AliasPair → select (checked old new) 0 ≡ 11
+  alias-given : AcceptedPair old new (AliasPair view) → select (outcome policy old new) 0 ≡ 11
   unfolding select selected
   alias-given a =
-      ap (λ o. select o 0) (decides plain old new (pairRefused {f = fault 11 (number bothSides)} (old-passes a) (new-passes a)
-      (alias-fault (a .oldSchema) (a .newSchema) (pair-given (a .oldSchema) (a .newSchema) (a .holds)))))
+      ap (λ o. select o 0) (decides policy old new (pairRefused {f = fault 11 (number bothSides)} (old-passes a) (new-passes a)
+      (alias-fault view (a .oldSchema) (a .newSchema) (pair-given view rise (a .oldSchema) (a .newSchema) (a .holds)))))
 
   -- the old image's number, and the new one's
   old-only : (k : ℕ) {o : Outcome} → Of o → (select o 0 ≡ k) × (select o 1 ≡ 1) → readImage old ≡ no k
@@ -219,9 +222,9 @@ module _ (old new : List ℕ) where
   old-only k (pairRefused a b e) z = absurd (omega (arith, z .1, eleven _ _ _ e .1))
   old-only k (verdict a b e) z = absurd (omega (arith, z .1))
 
-  old-given : (k : ℕ) → readImage old ≡ no k → (select (checked old new) 0 ≡ k) × (select (checked old new) 1 ≡ 1)
+  old-given : (k : ℕ) → readImage old ≡ no k → (select (outcome policy old new) 0 ≡ k) × (select (outcome policy old new) 1 ≡ 1)
   unfolding select selected
-  old-given k e = let d = decides plain old new (oldRefused (only-ten old k e) e) in (ap (λ o. select o 0) d, ap (λ o. select o 1) d)
+  old-given k e = let d = decides policy old new (oldRefused (only-ten old k e) e) in (ap (λ o. select o 0) d, ap (λ o. select o 1) d)
 
   new-only : (k : ℕ) {o : Outcome} → Of o → (select o 0 ≡ k) × (select o 1 ≡ 2) → NewRefused old new k
   unfolding select selected
@@ -232,10 +235,10 @@ module _ (old new : List ℕ) where
   new-only k (pairRefused a b e) z = absurd (omega (arith, z .1, eleven _ _ _ e .1))
   new-only k (verdict a b e) z = absurd (omega (arith, z .1))
 
-  new-given : (k : ℕ) → NewRefused old new k → (select (checked old new) 0 ≡ k) × (select (checked old new) 1 ≡ 2)
+  new-given : (k : ℕ) → NewRefused old new k → (select (outcome policy old new) 0 ≡ k) × (select (outcome policy old new) 1 ≡ 2)
   unfolding select selected
   new-given k r =
-      let d = decides plain old new (newRefused (record { end = r .oldEnd; read = r .oldRead; alone = refl }) (only-ten new k (r .newRead)) (r .newRead)) in
+      let d = decides policy old new (newRefused (record { end = r .oldEnd; read = r .oldRead; alone = refl }) (only-ten new k (r .newRead)) (r .newRead)) in
       (ap (λ o. select o 0) d, ap (λ o. select o 1) d)
 
   both-sides : {o : Outcome} → Of o → select o 0 ≡ 11 → select o 1 ≡ 3
@@ -256,29 +259,29 @@ module _ (old new : List ℕ) where
   at-most (pairRefused a b e) = omega (arith, eleven _ _ _ e .0)
   at-most (verdict a b e) = omega arith
 
-  reported-most : (room : ℕ) → select (reported old new room) 0 ≤ 12
+  reported-most : (room : ℕ) → select (reportBy policy old new room) 0 ≤ 12
   unfolding reportBy
-  reported-most room = go (leb (select (reported old new room) 0) 12) refl
+  reported-most room = go (leb (select (reportBy policy old new room) 0) 12) refl
     where
-      go : (u : Bool) → leb (select (reported old new room) 0) 12 ≡ u → select (reported old new room) 0 ≤ 12
+      go : (u : Bool) → leb (select (reportBy policy old new room) 0) 12 ≡ u → select (reportBy policy old new room) 0 ≤ 12
       go true e = leb-true _ 12 e
       go false e =
-          let l = leb-false (select (reported old new room) 0) 12 e in
-          absurd (omega (arith, ap (λ o. select o 0) (fit-else (number bothSides) room (checked old new) (λ z. omega arith)), at-most (decided plain old new)))
+          let l = leb-false (select (reportBy policy old new room) 0) 12 e in
+          absurd (omega (arith, ap (λ o. select o 0) (fit-else (number bothSides) room (outcome policy old new) (λ z. omega arith)), at-most (decided policy old new)))
 
-pub verdict-refusals : (old new : List ℕ) → VerdictRefusals old new
-unfolding verdictBy
-verdict-refusals old new =
-    let d = decided plain old new in
-    let r = policy-refusals plain plain-numbered old new in
-    record {
-      verdict = (verdict-only old new d, verdict-given old new);
-      aliasPair = (alias-only old new d, alias-given old new);
-      oldRefused = λ k. (old-only old new k d, old-given old new k);
-      newRefused = λ k. (new-only old new k d, new-given old new k);
-      noSide = r .noSide;
-      bothSides = both-sides old new d;
-      refusal = r .refusal;
-      most = at-most old new d;
-      mostReported = reported-most old new;
-    }
+  pub verdict-refusals : VerdictRefusals view reading old new
+  unfolding verdictBy
+  verdict-refusals =
+      let d = decided policy old new in
+      let r = policy-refusals policy (usual-numbered view reading) old new in
+      record {
+        verdict = (verdict-only d, verdict-given);
+        aliasPair = (alias-only d, alias-given);
+        oldRefused = λ k. (old-only k d, old-given k);
+        newRefused = λ k. (new-only k d, new-given k);
+        noSide = r .noSide;
+        bothSides = both-sides d;
+        refusal = r .refusal;
+        most = at-most d;
+        mostReported = reported-most;
+      }

@@ -7,7 +7,7 @@ use Rattle.maps.specs.Lists.{All}
 use Rattle.image.specs.Schema.{Schema}
 use Rattle.image.specs.Parse.{Parsed, ok, no}
 use Rattle.image.specs.Image.{readImage}
-use Rattle.rules.specs.Survivors.{viewOf}
+use Rattle.rules.specs.Survivors.{View}
 use Rattle.rules.specs.Types.{holdsVector}
 use Rattle.rules.specs.Changes.{kindAt, FieldAdded, FieldRemoved, FieldTypeChanged, FieldOrdinalChanged, FieldRenamed, FieldEncodingChanged, VariantAdded, VariantRemoved, VariantOrdinalChanged, DeclarationAdded, DeclarationRemoved, DeclarationKindChanged, NamespaceChanged, NonExhaustiveChanged, FlagsBitAdded, FlagsBitRemoved, FlagsBitOrdinalChanged}
 use Rattle.rules.specs.Clauses.{comparedTypes}
@@ -17,13 +17,14 @@ use Rattle.rules.specs.Verdict.{any}
 abbrev pub Image : Type 0
 Image = List ℕ
 
--- whether a type compared in an image holds a vector, quaternion or matrix node
-unfoldable pub vectorCompared : Parsed Schema → Bool
-vectorCompared (ok s n) = any holdsVector (comparedTypes (viewOf s))
-vectorCompared (no k) = false
+-- whether a type compared in a view of an image holds a vector, quaternion or matrix node
+module _ (view : Schema → View) where
+  unfoldable pub vectorCompared : Parsed Schema → Bool
+  vectorCompared (ok s n) = any holdsVector (comparedTypes (view s))
+  vectorCompared (no k) = false
 
-unfoldable pub holdsVectors : Image → Bool
-holdsVectors a = vectorCompared (readImage a)
+  unfoldable pub holdsVectors : Image → Bool
+  holdsVectors a = vectorCompared (readImage a)
 
 -- the last of a list that begins with the given image
 unfoldable pub last : Image → List Image → Image

@@ -11,10 +11,10 @@ use Rattle.image.specs.Schema.{Name, Decl, Schema}
 use Rattle.image.specs.Codes.{number, aliasKind, notRefused, longRefusal, deepRefusal, aliasPairRefusal, fullRefusal, noSide, oldSide, newSide, bothSides}
 use Rattle.image.specs.Parse.{ok, no}
 use Rattle.image.specs.Image.{readImage}
-use Rattle.rules.specs.Survivors.{nameOf, declarations}
-use Rattle.rules.specs.Clauses.{changes}
+use Rattle.rules.specs.Survivors.{nameOf, View}
+use Rattle.rules.specs.Clauses.{Reading, changes}
 use Rattle.rules.specs.Outcome.{Outcome, refused, select, textLength, written}
-use Rattle.rules.specs.Answer.{Fault, Policy, compared, firstFault, outcome, verdictBy, reportBy, verdictOf, reported}
+use Rattle.rules.specs.Answer.{Fault, Policy, compared, firstFault, outcome, verdictBy, reportBy, usual}
 
 -- "A refusal is number and side .., with bump Major, result Breaking, all counts and length 0": by selector
 pub record Refusal (answer : ℕ → ℕ) : Type 0 where
@@ -76,7 +76,7 @@ pub record ReportRefusals (p : Policy) (old new : List ℕ) (room : ℕ) : Type 
   pub nothing : (select (reportBy p old new room) 0 ≡ number notRefused → ⊥) → textLength (reportBy p old new room) ≡ 0
   pub untouched : (select (reportBy p old new room) 0 ≡ number notRefused → ⊥) → (out : List ℕ) → written (reportBy p old new room) out ≡ out
 
--- ---- of the verdict of document 01
+-- ---- of a verdict whose one check is 11: that of document 01, and others over another view or by another reading
 
 -- both images are accepted, and P holds of what they hold
 pub record AcceptedPair (old new : List ℕ) (P : Schema → Schema → Type 0) : Type 0 where
@@ -95,31 +95,37 @@ pub record NewRefused (old new : List ℕ) (k : ℕ) : Type 0 where
   pub oldRead : readImage old ≡ ok oldSchema oldEnd
   pub newRead : readImage new ≡ no k
 
--- the survivor of a name is a generic alias
-pub record Alias (name : Name) (s : Schema) : Type 0 where
-  pub survivor : Decl
-  pub stands : lookup nameOf before name (declarations s) ≡ some survivor
-  pub generic : survivor .kind ≡ number aliasKind
+module _ (view : Schema → View) where
+  -- what stands of a name is a generic alias
+  pub record Alias (name : Name) (s : Schema) : Type 0 where
+    pub survivor : Decl
+    pub stands : lookup nameOf before name (view s .standing) ≡ some survivor
+    pub generic : survivor .kind ≡ number aliasKind
 
--- "survivors of one name are generic aliases in both images"
-pub record AliasPair (old new : Schema) : Type 0 where
-  pub name : Name
-  pub inOld : Alias name old
-  pub inNew : Alias name new
+  -- "survivors of one name are generic aliases in both images"
+  pub record AliasPair (old new : Schema) : Type 0 where
+    pub name : Name
+    pub inOld : Alias name old
+    pub inNew : Alias name new
 
 -- of the verdict call
-pub record VerdictRefusals (old new : List ℕ) : Type 0 where
-  -- "Two images get one exactly if none of 1 to 11 applies to them": the number is 0
-  pub verdict : (verdictOf old new 0 ≡ number notRefused) ↔ AcceptedPair old new (λ x y. AliasPair x y → ⊥)
-  -- 11
-  pub aliasPair : (verdictOf old new 0 ≡ number aliasPairRefusal) ↔ AcceptedPair old new AliasPair
-  -- 1 to 10, "old before new"
-  pub oldRefused : (k : ℕ) → ((verdictOf old new 0 ≡ k) × (verdictOf old new 1 ≡ number oldSide)) ↔ (readImage old ≡ no k)
-  pub newRefused : (k : ℕ) → ((verdictOf old new 0 ≡ k) × (verdictOf old new 1 ≡ number newSide)) ↔ NewRefused old new k
-  -- "A verdict has number 0 and side none."  "11 and 12: both"
-  pub noSide : verdictOf old new 0 ≡ number notRefused → verdictOf old new 1 ≡ number noSide
-  pub bothSides : verdictOf old new 0 ≡ number aliasPairRefusal → verdictOf old new 1 ≡ number bothSides
-  pub refusal : (verdictOf old new 0 ≡ number notRefused → ⊥) → Refusal (verdictOf old new)
-  -- the number is one of 0 to 11, and the report's, with a buffer of so many bytes, one of 0 to 12
-  pub most : verdictOf old new 0 ≤ number aliasPairRefusal
-  pub mostReported : (room : ℕ) → select (reported old new room) 0 ≤ number fullRefusal
+module _ (view : Schema → View) (reading : Reading) (old new : List ℕ) where
+  -- by selector
+  abbrev answer : ℕ → ℕ
+  answer = verdictBy (usual view reading) old new
+
+  pub record VerdictRefusals : Type 0 where
+    -- "Two images get one exactly if none of 1 to 11 applies to them": the number is 0
+    pub verdict : (answer 0 ≡ number notRefused) ↔ AcceptedPair old new (λ x y. AliasPair view x y → ⊥)
+    -- 11
+    pub aliasPair : (answer 0 ≡ number aliasPairRefusal) ↔ AcceptedPair old new (AliasPair view)
+    -- 1 to 10, "old before new"
+    pub oldRefused : (k : ℕ) → ((answer 0 ≡ k) × (answer 1 ≡ number oldSide)) ↔ (readImage old ≡ no k)
+    pub newRefused : (k : ℕ) → ((answer 0 ≡ k) × (answer 1 ≡ number newSide)) ↔ NewRefused old new k
+    -- "A verdict has number 0 and side none."  "11 and 12: both"
+    pub noSide : answer 0 ≡ number notRefused → answer 1 ≡ number noSide
+    pub bothSides : answer 0 ≡ number aliasPairRefusal → answer 1 ≡ number bothSides
+    pub refusal : (answer 0 ≡ number notRefused → ⊥) → Refusal answer
+    -- the number is one of 0 to 11, and the report's, with a buffer of so many bytes, one of 0 to 12
+    pub most : answer 0 ≤ number aliasPairRefusal
+    pub mostReported : (room : ℕ) → select (reportBy (usual view reading) old new room) 0 ≤ number fullRefusal

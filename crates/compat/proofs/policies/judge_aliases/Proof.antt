@@ -12,11 +12,11 @@ alias-pair-requires c κs = search needs
 
 returns : tie.Need-returns
 unfolding faultOf bothAliases
-returns c = sym (alias-fault _ _ (sym (c .before .alias-pair .ensures) ∙ c .if1 .taken))
+returns c = sym (alias-fault _ _ _ (sym (c .before .alias-pair .ensures) ∙ c .if1 .taken))
 
 returns-2 : tie.Need-returns-2
 unfolding faultOf bothAliases
-returns-2 c = sym (no-alias-fault _ _ (sym (c .before .alias-pair .ensures) ∙ c .if1 .left))
+returns-2 c = sym (no-alias-fault _ _ _ (sym (c .before .alias-pair .ensures) ∙ c .if1 .left))
 
 pub judge-aliases-spec : {M : Type 1} → statement M
 judge-aliases-spec = tie.close (tie.spec alias-pair-requires returns returns-2)
