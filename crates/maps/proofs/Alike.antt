@@ -50,7 +50,7 @@ module _ {K E : Type 0} {lt : K → K → Bool} (key : E → K) (S : Strict K lt
           Option·some-ne-none f (sym (seen-here key lt (key e) none f (rw (← ap key h) (same-self S (key e)))) ∙ q)
       go none p (List·Memᴰ·tail j) ih q = ih j p
 
-  lookup-found : (l : List E) (e : E) → In e l → lookup key lt (key e) (survivors key lt l) ≡ none → ⊥
+  pub lookup-found : (l : List E) (e : E) → In e l → lookup key lt (key e) (survivors key lt l) ≡ none → ⊥
   lookup-found l e i p = latest-found l e i (sym (lookup-latest key S (key e) l) ∙ p)
 
   -- what is found was listed
@@ -124,6 +124,19 @@ module _ {K E : Type 0} {lt : K → K → Bool} (key : E → K) (S : Strict K lt
     -- the same where no two entries have one key
     pub survivors-once : (l m : List E) → Once key l → Reordered R l m → Forall₂ R (survivors key lt l) (survivors key lt m)
     survivors-once l m h w = survivors-alike l m w (λ e d i j k f r. subst (λ x. R x f) (sym (once-one key h i j k)) r)
+
+  -- two rising maps in which the same is found are one
+  pub same-found : (m n : List E) → Rising key lt m → Rising key lt n → ((k : K) → lookup key lt k m ≡ lookup key lt k n) → m ≡ n
+  same-found m n M N h =
+      equal (alike-found (λ e f. e ≡ f) (λ e f p. ap key p) m n M N (λ k. subst (Both (λ e f. e ≡ f) (lookup key lt k m)) (h k) (self (lookup key lt k m))))
+    where
+      self : (o : Option E) → Both (λ e f. e ≡ f) o o
+      self none = neither
+      self (some e) = these refl
+
+      equal : {m n : List E} → Forall₂ (λ e f. e ≡ f) m n → m ≡ n
+      equal Forall₂·nil = refl
+      equal (Forall₂·cons {l₁ = l} p w) = cc (p, equal w)
 
 -- ---- like maps compared
 

@@ -1,5 +1,5 @@
 -- What an accepted image holds is no larger than the bytes that hold it. Assumes nothing.
-use mathlib.Core.Path.{_≡_, ap}
+use mathlib.Core.Path.{_≡_, refl, ap}
 use mathlib.Core.Bool.{_&&_}
 use mathlib.Core.Option.{Option, none, some}
 use mathlib.Core.List.{List, [], _∷_}
@@ -203,23 +203,24 @@ module _ (s : List ℕ) (l : length s ≤ 32768) where
       (λ h. sure-bind _ (body-takes (part (entryOffset s i) (entryLength s i) s))
       (λ d n q. yields (some d) n (omega (arith, q, part-length (entryOffset s i) (entryLength s i) s .1))))
 
-  entries-small : (count i : ℕ) → Sure (λ es n. All Small es) (entriesOf count s i)
+  entries-small : (count i : ℕ) → Sure (λ es n. All Small es × (length es ≡ count)) (entriesOf count s i)
   unfolding entriesOf All
-  entries-small zero i = yields [] (length s) tt
+  entries-small zero i = yields [] (length s) (tt, refl)
   entries-small (suc count) i =
-      sure-bind _ (entry-small i) (λ e n p. sure-bind _ (entries-small count (i + 1)) (λ es m q. yields (e ∷ es) m (p, q)))
+      sure-bind _ (entry-small i) (λ e n p. sure-bind _ (entries-small count (i + 1)) (λ es m q. yields (e ∷ es) m ((p, q .0), ap suc (q .1))))
 
 -- what an accepted image holds
 pub record Held (x : Schema) : Type 0 where
   pub entries : All Small (x .registry)
+  pub registry : length (x .registry) ≤ 512
   pub ids : length (x .ids) ≤ 512
   pub segments : namesSize (x .namespace) ≤ 32768
 
--- the head says how many ids there are at most
-few-ids : (s : List ℕ) → Head s → idCount s ≤ 512
-few-ids s h =
+-- the head says how many entries and ids there are at most
+few : (s : List ℕ) → Head s → (entryCount s ≤ 512) × (idCount s ≤ 512)
+few s h =
     let p = both (leb (entryCount s) 512) (leb (idCount s) 512 && leb (segmentCount s) 16) (h .counts) in
-    leb-true (idCount s) 512 (both (leb (idCount s) 512) (leb (segmentCount s) 16) (p .1) .0)
+    (leb-true (entryCount s) 512 (p .0), leb-true (idCount s) 512 (both (leb (idCount s) 512) (leb (segmentCount s) 16) (p .1) .0))
 
 tables-sure : (s : List ℕ) → Sure (λ ids n. (length ids ≡ idCount s) × (n ≤ length s)) (tablesOf s)
 unfolding tablesOf
@@ -233,4 +234,9 @@ image-held s =
     sure-bind _ (sure-both (names-take 2 (segmentCount s) s n₂) (names-sure 2 (segmentCount s) s n₂ (q₂ .1))) (λ names n₃ q₃.
     sure-need _ _ (λ l.
     sure-bind _ (entries-small s (q₁ .most) (entryCount s) 0) (λ es n₄ q₄.
-    yields _ n₄ (record { entries = q₄; ids = omega (arith, q₂ .0, few-ids s q₁); segments = omega (arith, q₃ .0, q₃ .1, q₁ .most) }))))))
+    yields _ n₄ (record {
+      entries = q₄ .0;
+      registry = omega (arith, q₄ .1, few s q₁ .0);
+      ids = omega (arith, q₂ .0, few s q₁ .1);
+      segments = omega (arith, q₃ .0, q₃ .1, q₁ .most);
+    }))))))

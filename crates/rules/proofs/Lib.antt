@@ -2,7 +2,8 @@
 -- reading of types. Answer: the four cases of two images. Distance: the distance rule. Refusals: when each number is given.
 -- Calls: what both calls say together.
 -- Ordinals: the counts that are always 0. Sizes, Texts, Weights, Held, Bound: how long a report can be.
--- ReachedSets, Reached: what is computed is what is reached through named nodes.
+-- ReachedSets, Reached: what is computed is what is reached through named nodes. Standing: what stands with a set of ids. Imports: the
+-- verdict with imports.
 -- Computed: what is unfolded to compute. Edges, Pinned: what is computed from the definitions alone.
 pub mod Equal
 pub mod Types
@@ -13,6 +14,8 @@ pub mod Self
 pub mod Swap
 pub mod Outcomes
 pub mod Answer
+pub mod ReachedSets
+pub mod Reached
 pub mod Standing
 pub mod Distance
 pub mod Refusals
@@ -23,8 +26,7 @@ pub mod Texts
 pub mod Weights
 pub mod Held
 pub mod Bound
-pub mod ReachedSets
-pub mod Reached
+pub mod Imports
 pub mod Computed
 pub mod Edges
 pub mod Pinned

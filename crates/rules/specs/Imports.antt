@@ -1,7 +1,7 @@
 -- R-2, "Follow the imports": what stands with what is reached, and the verdict and the report over it. The clauses, the checks and the stages
 -- are those of document 01. Assumes nothing.
 use mathlib.Core.Path.{_≡_}
-use mathlib.Core.Bool.{Bool, true, cond}
+use mathlib.Core.Bool.{true, cond}
 use mathlib.Core.Option.{Option, none, some}
 use mathlib.Core.List.{List, [], _∷_, _++_}
 use Prim.Native.Nat.{ℕ, suc, _<_}
@@ -13,8 +13,7 @@ use Rattle.image.specs.Parse.{ok}
 use Rattle.image.specs.Image.{readImage}
 use Rattle.rules.specs.Equal.{sameName}
 use Rattle.rules.specs.Survivors.{standsFor, listed, nameOf, declarations, View}
-use Rattle.rules.specs.Outcome.{Outcome}
-use Rattle.rules.specs.Answer.{Policy, usual, plainReading, outcome, verdictBy, checked}
+use Rattle.rules.specs.Answer.{Policy, usual, plainReading, outcome, checked}
 use Rattle.rules.specs.Reached.{Reached, member, IdSet, reachedSet}
 
 -- ---- what stands
