@@ -21,10 +21,12 @@ use Rattle.parts.proofs.Promise.{message-listed, union-listed, inner-here, inne
 use Rattle.rules.specs.Survivors.{standsFor, nameOf, declarations, viewOf}
 use Rattle.rules.specs.Clauses.{typesOf}
 use Rattle.rules.specs.Reached.{namedIn, namedOf, namedBy, namedFrom, IdSet}
+use Rattle.rules.specs.Imports.{standingWith}
 use Rattle.rules.proofs.ReachedSets.{markAll-kept}
 use Rattle.rules.proofs.Reached.{named-from, survivor-named}
+use Rattle.rules.proofs.Standing.{standing-none, view-rises}
 use Rattle.survivors.specs.Answers.{Survives, Follows}
-use Rattle.survivors.proofs.Declarations.{declarations-rising, survives-body, follows-here}
+use Rattle.survivors.proofs.Declarations.{survives-body, follows-here}
 use Rattle.survivors.proofs.Walks.{restDecls, declsLeft, decls-start, decls-done, decls-turn, decls-less}
 use Rattle.reached.specs.Marks.{Started, Marked, StandsAt}
 use Rattle.reached.specs.Named.{namedItems}
@@ -112,16 +114,19 @@ module _ (s : List ℕ) (id : ℕ) {r : Entry} (h : Resolved s id r) where
 
 -- ---- the survivors
 
--- found under the name of the declaration at a place
-module _ (s : List ℕ) (at : ℕ) {x : Name} (q : x ≡ declIn s at .name) {r : Entry} (h : Survives (declarations (schemaOf s)) s x r) where
+-- what comes next over the listed ids alone
+pub next-listed : (s : List ℕ) {after r : Entry} → Follows (standingWith [] (schemaOf s)) s after r → Follows (declarations (schemaOf s)) s after r
+next-listed s h = rw (← standing-none (schemaOf s)) h
+
+-- found over them under the name of the declaration at a place
+module _ (s : List ℕ) (at : ℕ) {x : Name} (q : x ≡ declIn s at .name) {r : Entry} (h : Survives (standingWith [] (schemaOf s)) s x r) where
   pub not-there : StandsAt s at false
   not-there = record { stands = λ t. no-both t refl }
 
   pub stands-there : {p : ℕ} → r ≡ Entry.Body p → StandsAt s at (eqb p at)
   stands-there {p} e = record {
     stands = λ t.
-        ap (λ n. lookup nameOf before n (declarations (schemaOf s))) (sym q)
-        ∙ (survives-body s x h e ∙ ap (λ i. some (declIn s i)) (eqb-true p at t));
+        rw (← q, ← standing-none (schemaOf s)) (survives-body s x h e) ∙ ap (λ i. some (declIn s i)) (eqb-true p at t);
   }
 
 unfoldable pub toMarkDecls : List ℕ → Entry → List ℕ
@@ -142,10 +147,10 @@ module _ (s : List ℕ) (after : Entry) {r : Entry} (f : Follows (declarations (
   module _ {at : ℕ} (e : r ≡ Entry.Body at) where
     pub decls-go : {m₀ m n : IdSet} {whole : List ℕ} → Owing s m₀ whole m (toMarkDecls s after) → Marked s m (namedOf (declIn s at)) n
         → Owing s m₀ whole n (toMarkDecls s (Entry.Body at)) × EntryHere s (Entry.Body at)
-    unfolding toMarkDecls each EntryHere
+    unfolding toMarkDecls each EntryHere viewOf
     decls-go w d =
-        (owing-turn w (decls-turn (each namedOf) (declarations (schemaOf s)) s [] after f (declarations-rising (schemaOf s)) e) d, follows-here s after f e)
+        (owing-turn w (decls-turn (each namedOf) (declarations (schemaOf s)) s [] after f (view-rises (schemaOf s)) e) d, follows-here s after f e)
 
     pub decls-fewer : leftDecls s (Entry.Body at) < leftDecls s after
-    unfolding leftDecls
-    decls-fewer = decls-less (declarations (schemaOf s)) (declarations-rising (schemaOf s)) s after f e
+    unfolding leftDecls viewOf
+    decls-fewer = decls-less (declarations (schemaOf s)) (view-rises (schemaOf s)) s after f e

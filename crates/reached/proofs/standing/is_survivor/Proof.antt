@@ -4,6 +4,9 @@ use Rattle.reached.proofs.Declared.{not-there, stands-there}
 use Rattle.reached.proofs.standing.is_survivor.Statement.{statement}
 use Rattle.reached.proofs.standing.is_survivor.Tie as tie
 
+slice-aggregate-survivor : tie.Need-slice-aggregate-survivor
+slice-aggregate-survivor c = search needs
+
 decl-name-requires : tie.Need-decl-name-requires
 decl-name-requires c κs = search needs
 
@@ -25,4 +28,11 @@ returns-2 c = stands-there _ _ (c .before .before .before .before .decl-name .en
 pub is-survivor-spec : {M : Type 1} → statement M
 is-survivor-spec =
     tie.close
-    (tie.spec decl-name-requires survivor-requires enum-known-found enum-told returns returns-2)
+    (tie.spec
+    slice-aggregate-survivor
+    decl-name-requires
+    survivor-requires
+    enum-known-found
+    enum-told
+    returns
+    returns-2)
