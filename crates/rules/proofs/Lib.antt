@@ -4,7 +4,7 @@
 -- Ordinals: the counts that are always 0. Sizes, Texts, Weights, Held, Bound: how long a report can be.
 -- ReachedSets, Reached: what is computed is what is reached through named nodes. Standing: what stands with a set of ids. Imports: the
 -- verdict with imports.
--- Computed: what is unfolded to compute. Edges, Pinned: what is computed from the definitions alone.
+-- Computed: what is unfolded to compute. Edges, ImportEdges, Pinned, PinnedImports: what is computed from the definitions alone.
 pub mod Equal
 pub mod Types
 pub mod Mirror
@@ -29,4 +29,6 @@ pub mod Bound
 pub mod Imports
 pub mod Computed
 pub mod Edges
+pub mod ImportEdges
 pub mod Pinned
+pub mod PinnedImports

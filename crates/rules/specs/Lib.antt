@@ -2,7 +2,7 @@
 -- Verdict, Report; Outcome, Answer: the calls over byte lists. Equal: tests of equality. Reached, Imports: R-2, what is reached through
 -- named nodes, and the verdict over it.
 -- Statements that are proved of them: Refusals (when each number is given), Distance (demand 3), Edges (document 01's edges), Pinned (what
--- the Rust answered).
+-- the Rust answered), ImportEdges and PinnedImports (R-2, on small schemas and over byte lists).
 pub mod Equal
 pub mod Survivors
 pub mod Types
@@ -18,4 +18,6 @@ pub mod Imports
 pub mod Refusals
 pub mod Distance
 pub mod Edges
+pub mod ImportEdges
 pub mod Pinned
+pub mod PinnedImports
