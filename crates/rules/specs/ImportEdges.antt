@@ -5,7 +5,7 @@ use mathlib.Core.Option.{Option, none, some}
 use mathlib.Core.List.{List, [], _∷_, _++_}
 use Prim.Native.Nat.{ℕ, zero, suc, _≤_}
 use Prim.Native.String.{String}
-use Rattle.image.specs.Schema.{unmarked, label, Ty, two, noType, Variant, Decl, decl, Schema}
+use Rattle.image.specs.Schema.{unmarked, label, Ty, two, noType, Field, Variant, Decl, decl, Schema}
 use Rattle.image.specs.Codes.{number, newtypeKind, aliasKind, optionalTag, arrayTag, mapTag, resultTag, vec3Tag}
 use Rattle.image.specs.Words.{bytes}
 use Rattle.text.specs.Decimal.{decimal}
@@ -56,17 +56,23 @@ unfoldable pub under : ℕ → Ty → Ty
 under zero t = t
 under (suc n) t = optional (under n t)
 
--- A names the two entries after it, which have one name
+-- A names the two entries after it
 abbrev pub twice : Option Decl → Option Decl → List (Option Decl) → Schema
 twice first second more = newtype (result (named 1) (named 2)) (first ∷ second ∷ more)
 
--- a variant with a field that names entry 1
-abbrev pub variantNaming : Variant
-variantNaming = record { ordinal = 0; name = bytes "x"; fields = field 0 "x" unmarked none (named 1) ∷ [] }
+-- a field that names entry 1, and a variant with that field
+abbrev pub fieldNaming : Field
+fieldNaming = field 0 "x" unmarked none (named 1)
 
--- B was changed
-abbrev pub changedB : List ℕ
-changedB = bytes "FieldTypeChanged;Major;B;-;newtype 'B' inner type changed from u8 to f32\nBreaking;Major;1\n"
+abbrev pub variantNaming : Variant
+variantNaming = record { ordinal = 0; name = bytes "x"; fields = fieldNaming ∷ [] }
+
+-- what is told where a schema holds B, a newtype of u8, and then of f32; and that this is seen
+abbrev pub changing : Policy → (Option Decl → Schema) → List ℕ
+changing p s = told p (s (entry "B" u8)) (s (entry "B" f32))
+
+abbrev pub seen : List ℕ
+seen = bytes "FieldTypeChanged;Major;B;-;newtype 'B' inner type changed from u8 to f32\nBreaking;Major;1\n"
 
 -- ---- a chain of imports
 
@@ -84,63 +90,55 @@ chain n = record { registry = links 0 (suc n); ids = 0 ∷ []; namespace = [] }
 
 pub record ImportEdges : Type 0 where
   -- what is imported has changed
-  pub seen : told imports (naming (entry "B" u8 ∷ [])) (naming (entry "B" f32 ∷ [])) ≡ changedB
-  pub unseen : told plain (naming (entry "B" u8 ∷ [])) (naming (entry "B" f32 ∷ [])) ≡ silent
+  pub inside : changing imports (λ b. naming (b ∷ [])) ≡ seen
+  pub insidePlain : changing plain (λ b. naming (b ∷ [])) ≡ silent
   -- a type that names itself is compared once
   pub itself : told imports (newtype (optional (named 0)) []) (newtype (array (named 0)) [])
       ≡ bytes "FieldTypeChanged;Major;A;-;newtype 'A' inner type changed from optional<A> to array<A>\nBreaking;Major;1\n"
   -- so are two that name each other
   pub eachOther : told imports (naming (entry "B" (optional (named 0)) ∷ [])) (naming (entry "B" (array (named 0)) ∷ []))
       ≡ bytes "FieldTypeChanged;Major;B;-;newtype 'B' inner type changed from optional<A> to array<A>\nBreaking;Major;1\n"
-  -- B is named only in a field that does not survive, or in a variant that does not; and in those that do
-  pub lostField : told imports
-      (holding (message (field 0 "x" unmarked none (named 1) ∷ field 0 "y" unmarked none u8 ∷ [])) (entry "B" u8 ∷ []))
-      (holding (message (field 0 "x" unmarked none (named 1) ∷ field 0 "y" unmarked none u8 ∷ [])) (entry "B" f32 ∷ []))
-      ≡ silent
-  pub keptField : told imports (holding (message (field 0 "x" unmarked none (named 1) ∷ [])) (entry "B" u8 ∷ []))
-      (holding (message (field 0 "x" unmarked none (named 1) ∷ [])) (entry "B" f32 ∷ []))
-      ≡ changedB
-  pub lostVariant : told imports (holding (union (variantNaming ∷ variant 0 "y" ∷ [])) (entry "B" u8 ∷ []))
-      (holding (union (variantNaming ∷ variant 0 "y" ∷ [])) (entry "B" f32 ∷ []))
-      ≡ silent
-  pub keptVariant : told imports (holding (union (variantNaming ∷ [])) (entry "B" u8 ∷ [])) (holding (union (variantNaming ∷ [])) (entry "B" f32 ∷ []))
-      ≡ changedB
-  -- of two reached entries of one name that with the higher id stands
-  pub higher : told imports (twice (entry "B" f32) (entry "B" u8) []) (twice (entry "B" u8) (entry "B" f32) []) ≡ changedB
-  -- the other is followed all the same
-  pub lowerFollowed : told imports (twice (entry "C" (named 3)) (entry "C" u8) (entry "B" u8 ∷ [])) (twice (entry "C" (named 3)) (entry "C" u8) (entry "B" f32 ∷ []))
-      ≡ changedB
-  -- a listed declaration stands before a reached entry of its name, though that has a higher id, and that is followed all the same
-  pub listedStands : told imports (listing (newtype (named 2) (entry "C" u8 ∷ entry "C" (named 3) ∷ entry "B" u8 ∷ [])) (1 ∷ []))
-      (listing (newtype (named 2) (entry "C" u8 ∷ entry "C" (optional (named 3)) ∷ entry "B" f32 ∷ [])) (1 ∷ []))
-      ≡ changedB
-  -- 11: a generic alias is reached on both sides; it is listed on one and reached on the other
+  -- B is named in a field, or a variant, that survives; and only in one that does not
+  pub keptField : changing imports (λ b. holding (message (fieldNaming ∷ [])) (b ∷ [])) ≡ seen
+  pub lostField : changing imports (λ b. holding (message (fieldNaming ∷ field 0 "y" unmarked none u8 ∷ [])) (b ∷ [])) ≡ silent
+  pub keptVariant : changing imports (λ b. holding (union (variantNaming ∷ [])) (b ∷ [])) ≡ seen
+  pub lostVariant : changing imports (λ b. holding (union (variantNaming ∷ variant 0 "y" ∷ [])) (b ∷ [])) ≡ silent
+  -- of two reached entries of one name that with the higher id stands, and the other is followed all the same
+  pub higher : changing imports (λ b. twice (entry "B" u8) b []) ≡ seen
+  pub lower : changing imports (λ b. twice b (entry "B" u8) []) ≡ silent
+  pub lowerFollowed : changing imports (λ b. twice (entry "C" (named 3)) (entry "C" u8) (b ∷ [])) ≡ seen
+  -- a listed declaration stands before a reached entry of its name, also of a higher id, and that is followed all the same
+  pub listed : changing imports (λ b. listing (newtype (named 2) (b ∷ entry "B" u8 ∷ [])) (1 ∷ [])) ≡ seen
+  pub notListed : changing imports (λ b. listing (newtype (named 2) (entry "B" u8 ∷ b ∷ [])) (1 ∷ [])) ≡ silent
+  pub notListedFollowed : changing imports (λ b. listing (newtype (named 2) (entry "C" u8 ∷ entry "C" (named 3) ∷ b ∷ [])) (1 ∷ [])) ≡ seen
+  -- a listed declaration that lost its name, and is not reached, is not followed
+  pub notFollowed : changing imports (λ b. listing (newtype u8 (entry "C" (named 3) ∷ entry "C" u8 ∷ b ∷ [])) (1 ∷ 2 ∷ [])) ≡ silent
+  -- 11: a generic alias is reached on both sides, or listed on one and reached on the other
   pub reachedAliases : selected (comparePair imports (naming (alias "G" ∷ [])) (naming (alias "G" ∷ []))) ≡ 11 ∷ 3 ∷ 2 ∷ 1 ∷ []
-  pub unseenAliases : told plain (naming (alias "G" ∷ [])) (naming (alias "G" ∷ [])) ≡ silent
-  pub listedAlias : selected (comparePair imports (listing (newtype u8 (alias "G" ∷ [])) (1 ∷ [])) (naming (alias "G" ∷ []))) ≡ 11 ∷ 3 ∷ 2 ∷ 1 ∷ []
-  pub reachedAlias : selected (comparePair imports (naming (alias "G" ∷ [])) (listing (newtype u8 (alias "G" ∷ [])) (1 ∷ []))) ≡ 11 ∷ 3 ∷ 2 ∷ 1 ∷ []
-  -- it is reached on both sides, and its name has another survivor
-  pub aliasHidden : told imports (listing (naming (alias "B" ∷ entry "B" u8 ∷ [])) (2 ∷ [])) (listing (naming (alias "B" ∷ entry "B" f32 ∷ [])) (2 ∷ []))
-      ≡ changedB
+  pub reachedAliasesPlain : told plain (naming (alias "G" ∷ [])) (naming (alias "G" ∷ [])) ≡ silent
+  pub aliasReached : selected (comparePair imports (listing (newtype u8 (alias "G" ∷ [])) (1 ∷ [])) (naming (alias "G" ∷ []))) ≡ 11 ∷ 3 ∷ 2 ∷ 1 ∷ []
+  pub aliasListed : selected (comparePair imports (naming (alias "G" ∷ [])) (listing (newtype u8 (alias "G" ∷ [])) (1 ∷ []))) ≡ 11 ∷ 3 ∷ 2 ∷ 1 ∷ []
+  -- not 11: it is reached on both sides, and another declaration of its name survives
+  pub aliasHidden : changing imports (λ b. listing (naming (alias "B" ∷ b ∷ [])) (2 ∷ [])) ≡ seen
   -- an id past the registry and one of an empty entry reach nothing; then B is there
   pub unresolvable : told imports (newtype (result (named 7) (named 1)) (none ∷ [])) (newtype (result (named 7) (named 1)) (none ∷ [])) ≡ silent
   pub resolvable : told imports (newtype (named 7) []) (naming (entry "B" u8 ∷ []))
       ≡ bytes "DeclarationAdded;Minor;B;-;newtype 'B' was added\nFieldTypeChanged;Major;A;-;newtype 'A' inner type changed from <unknown> to B\nBreaking;Major;2\n"
   -- B is named inside a map, a result, a vector, and by the last of 32 nodes
-  pub inKey : told imports (newtype (map (named 1) u8) (entry "B" u8 ∷ [])) (newtype (map (named 1) u8) (entry "B" f32 ∷ [])) ≡ changedB
-  pub inValue : told imports (newtype (map u8 (named 1)) (entry "B" u8 ∷ [])) (newtype (map u8 (named 1)) (entry "B" f32 ∷ [])) ≡ changedB
-  pub inResult : told imports (newtype (result (named 1) u8) (entry "B" u8 ∷ [])) (newtype (result (named 1) u8) (entry "B" f32 ∷ [])) ≡ changedB
-  pub inError : told imports (newtype (result u8 (named 1)) (entry "B" u8 ∷ [])) (newtype (result u8 (named 1)) (entry "B" f32 ∷ [])) ≡ changedB
-  pub inVector : told imports (newtype (around (number vec3Tag) (named 1)) (entry "B" u8 ∷ [])) (newtype (around (number vec3Tag) (named 1)) (entry "B" f32 ∷ []))
+  pub inKey : changing imports (λ b. newtype (map (named 1) u8) (b ∷ [])) ≡ seen
+  pub inValue : changing imports (λ b. newtype (map u8 (named 1)) (b ∷ [])) ≡ seen
+  pub inResult : changing imports (λ b. newtype (result (named 1) u8) (b ∷ [])) ≡ seen
+  pub inError : changing imports (λ b. newtype (result u8 (named 1)) (b ∷ [])) ≡ seen
+  pub inVector : changing imports (λ b. newtype (around (number vec3Tag) (named 1)) (b ∷ []))
       ≡ bytes "FieldTypeChanged;Major;A;-;newtype 'A' inner type changed from vec3<B> to vec3<B>\nFieldTypeChanged;Major;B;-;newtype 'B' inner type changed from u8 to f32\nBreaking;Major;2\n"
-  pub deep : told imports (newtype (under 31 (named 1)) (entry "B" u8 ∷ [])) (newtype (under 31 (named 1)) (entry "B" f32 ∷ [])) ≡ changedB
-  -- an impl that is reached stands under the empty name; imports on one side only
-  pub reachedImpl : told imports (naming (some impl ∷ [])) (newtype u8 [])
-      ≡ bytes "DeclarationRemoved;Major;;-;impl '' was removed\nFieldTypeChanged;Major;A;-;newtype 'A' inner type changed from  to u8\nBreaking;Major;2\n"
+  pub deep : changing imports (λ b. newtype (under 31 (named 1)) (b ∷ [])) ≡ seen
+  -- imports on one side only; an impl that is reached stands under the empty name
   pub gone : told imports (naming (entry "B" u8 ∷ [])) (newtype u8 [])
       ≡ bytes "DeclarationRemoved;Major;B;-;newtype 'B' was removed\nFieldTypeChanged;Major;A;-;newtype 'A' inner type changed from B to u8\nBreaking;Major;2\n"
   pub came : told imports (newtype u8 []) (naming (entry "B" u8 ∷ []))
       ≡ bytes "DeclarationAdded;Minor;B;-;newtype 'B' was added\nFieldTypeChanged;Major;A;-;newtype 'A' inner type changed from u8 to B\nBreaking;Major;2\n"
+  pub reachedImpl : told imports (naming (some impl ∷ [])) (newtype u8 [])
+      ≡ bytes "DeclarationRemoved;Major;;-;impl '' was removed\nFieldTypeChanged;Major;A;-;newtype 'A' inner type changed from  to u8\nBreaking;Major;2\n"
   -- B was listed and is now imported only
   pub moved : told imports (listing (naming (entry "B" u8 ∷ [])) (1 ∷ [])) (naming (entry "B" u8 ∷ [])) ≡ silent
   pub movedPlain : told plain (listing (naming (entry "B" u8 ∷ [])) (1 ∷ [])) (naming (entry "B" u8 ∷ []))
