@@ -15,9 +15,8 @@ use Rattle.maps.proofs.Survivors.{all-survivors}
 use Rattle.maps.proofs.Sums.{total-survivors}
 use Rattle.image.specs.Schema.{Decl, Schema}
 use Rattle.image.specs.Words.{bytes}
-use Rattle.image.specs.Parse.{Parsed, ok}
+use Rattle.image.specs.Parse.{ok}
 use Rattle.image.specs.Image.{readImage}
-use Rattle.image.proofs.Laws.Sure.{Sure, sure-ok, sure-no}
 use Rattle.rules.specs.Survivors.{Registry, nameOf, standsFor, resolved, listed, View, viewOf}
 use Rattle.rules.specs.Types.{nameOrNone, sameType}
 use Rattle.rules.specs.Text.{joined}
@@ -34,7 +33,7 @@ use Rattle.rules.proofs.Sizes.{namesSize, declSize}
 use Rattle.text.proofs.Numbers.{decimal-length}
 use Rattle.rules.proofs.Texts.{word-length, Short, line-some}
 use Rattle.rules.proofs.Weights.{lineLength, Light, clauses-light, changes-weight}
-use Rattle.rules.proofs.Held.{Small, Held, image-held}
+use Rattle.rules.proofs.Held.{Small, Held, accepted-held}
 use Rattle.rules.proofs.Answer.{decided, usual-fault}
 use Rattle.rules.proofs.Chain.{largest-two}
 use Rattle.rules.proofs.Standing.{view-none, with-rises}
@@ -154,13 +153,9 @@ module _ (p : Policy) (b : Bounded p) where
 
 -- ---- of two accepted images
 
-held-by : {r : Parsed Schema} (x : Schema) (n : ℕ) → Sure (λ x n. Held x) r → r ≡ ok x n → Held x
-held-by x n (sure-ok {a = y} h) e = let p : y ≡ x = cc in rw p at h
-held-by x n sure-no e = absurd (let z : _≡_ {A = ℕ} 0 1 = cc in omega arith)
-
 pub report-bound : (p : Policy) → Bounded p → (old new : List ℕ) (x y : Schema) (m n : ℕ) → readImage old ≡ ok x m → readImage new ≡ ok y n
     → length (report (changes (p .reading) (p .view x) (p .view y))) < 2 ^ 62
-report-bound p b old new x y m n q r = held-bound p b x y (held-by x m (image-held old) q) (held-by y n (image-held new) r)
+report-bound p b old new x y m n q r = held-bound p b x y (accepted-held old q) (accepted-held new r)
 
 -- ---- every selector
 

@@ -226,7 +226,7 @@ tables-sure : (s : List ℕ) → Sure (λ ids n. (length ids ≡ idCount s) × (
 unfolding tablesOf
 tables-sure s = sure-need _ _ (λ h. sure-ok (ids-length (idCount s) s (idsAt s), leb-true (segmentsAt s) (length s) h))
 
-pub image-held : (s : List ℕ) → Sure (λ x n. Held x) (readImage s)
+image-held : (s : List ℕ) → Sure (λ x n. Held x) (readImage s)
 unfolding readImage
 image-held s =
     sure-bind _ (head-sure s) (λ h n₁ q₁.
@@ -240,3 +240,10 @@ image-held s =
       ids = omega (arith, q₂ .0, few s q₁ .1);
       segments = omega (arith, q₃ .0, q₃ .1, q₁ .most);
     }))))))
+
+pub accepted-held : (s : List ℕ) {x : Schema} {n : ℕ} → readImage s ≡ ok x n → Held x
+accepted-held s e = go (image-held s) e
+  where
+    go : {r : Parsed Schema} {x : Schema} {n : ℕ} → Sure (λ x n. Held x) r → r ≡ ok x n → Held x
+    go {x = x} (sure-ok {a = y} h) e = let p : y ≡ x = cc in rw p at h
+    go sure-no e = absurd (let z : _≡_ {A = ℕ} 0 1 = cc in omega arith)

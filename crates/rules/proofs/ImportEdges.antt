@@ -87,6 +87,7 @@ import-edges = record {
   reachedImpl = refl;
   moved = refl;
   movedPlain = refl;
+  falling = refl;
   steps = steps;
   fiveHundred = steps 500 500 (omega arith) (omega arith);
 }

@@ -4,7 +4,7 @@ use mathlib.Core.Path.{_≡_, refl, _∙_}
 use mathlib.Core.Bool.{Bool, true, false, cond, _||_}
 use mathlib.Core.Option.{Option, none, some}
 use mathlib.Core.List.{List, [], _∷_, _++_, flatMap}
-use Prim.Native.Nat.{ℕ, zero, suc, _+_, _<_}
+use Prim.Native.Nat.{ℕ, _+_, _<_}
 use native.Mathlib.Omega.{arith}
 use borrow.Author.Tests.{eqb-true}
 use lib.Dec.{eqb, ltb}
@@ -13,7 +13,7 @@ use Rattle.maps.specs.Lists.{total, count, All}
 use Rattle.maps.specs.Orders.{before}
 use Rattle.maps.specs.Keyed.{lookup}
 use Rattle.maps.specs.Compare.{Rules, unmatched, matched, between, compare}
-use Rattle.image.specs.Schema.{Name, Marks, Ty, Field, Variant, Decl}
+use Rattle.image.specs.Schema.{Name, Marks, Ty, Field, Variant, Decl, Schema}
 use Rattle.image.specs.Kinds.{Kind, kindOf, message, enum, flags, union, newtype, config, alias, trait, impl, other}
 use Rattle.rules.specs.Survivors.{nameOf, ordinalOf, fieldMap, variantOrdinal, variantMap, View}
 use Rattle.rules.specs.Types.{sameType}
@@ -21,7 +21,7 @@ use Rattle.rules.specs.Changes.{Bump, Change, only, kindCount, kindAt, F
 use Rattle.rules.specs.Clauses.{compareNamespaces, Reading, clausesBy, Context, context, compareTypes, compareFieldNames, compareEncodings, compareDeprecated, compareFields, fieldRules, compareFieldSets, compareMessages, variantGone, variantCame, enumRules, compareNonExhaustive, compareEnums, flagsRules, compareFlags, unionRules, compareUnions, compareNewtypes, compareKind, kindChanged, compareAlike, compareDecls, declRules, changes}
 use Rattle.rules.specs.Verdict.{countOf}
 use Rattle.rules.specs.Outcome.{Outcome, select}
-use Rattle.rules.specs.Answer.{Policy, verdictBy, plain, verdictOf}
+use Rattle.rules.specs.Answer.{Policy, verdictBy, usual, plainReading}
 use Rattle.rules.specs.Refusals.{Decided, oldRefused, oldAlone, newRefused, newAlone, pairRefused, verdict}
 use Rattle.rules.specs.Distance.{countBetween}
 use Rattle.rules.proofs.Outcomes.{refusal-is}
@@ -203,7 +203,7 @@ module _ (p : Policy) (o : Ordinary (p .reading)) (old new : List ℕ) where
     ),
   )
 
--- and so of document 01's
-pub no-ordinal-changed : (old new : List ℕ) → All (λ kind. countBetween verdictOf kind old new ≡ 0)
+-- and so of one that reads types as document 01 says, over any view
+pub no-ordinal-changed : (view : Schema → View) (old new : List ℕ) → All (λ kind. countBetween (verdictBy (usual view plainReading)) kind old new ≡ 0)
     ((kindAt FieldOrdinalChanged) ∷ kindAt VariantOrdinalChanged ∷ kindAt FlagsBitOrdinalChanged ∷ [])
-no-ordinal-changed old new = none-ordinal plain (clauses-ordinary sameType) old new
+no-ordinal-changed view old new = none-ordinal (usual view plainReading) (clauses-ordinary sameType) old new

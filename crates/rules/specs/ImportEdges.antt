@@ -143,6 +143,8 @@ pub record ImportEdges : Type 0 where
   pub moved : told imports (listing (naming (entry "B" u8 ∷ [])) (1 ∷ [])) (naming (entry "B" u8 ∷ [])) ≡ silent
   pub movedPlain : told plain (listing (naming (entry "B" u8 ∷ [])) (1 ∷ [])) (naming (entry "B" u8 ∷ []))
       ≡ bytes "DeclarationRemoved;Major;B;-;newtype 'B' was removed\nBreaking;Major;1\n"
+  -- over three steps to falling ids
+  pub falling : changing imports (λ b. newtype (named 3) (b ∷ entry "C" (named 1) ∷ entry "D" (named 2) ∷ [])) ≡ seen
   -- every entry of a chain of any length is reached, also the one after 500 steps
   pub steps : (n id : ℕ) → 1 ≤ id → id ≤ n → Reached (chain n) id
   pub fiveHundred : Reached (chain 500) 500
