@@ -28,11 +28,12 @@ use Rattle.rules.specs.Outcome.{Outcome, refused, selected, select}
 use Rattle.rules.specs.Answer.{Fault, Policy, compared, counts, firstFault, verdictBy, usual, plainReading, plain}
 use Rattle.rules.specs.Reached.{IdSet}
 use Rattle.rules.specs.Imports.{idsFrom, standingWith, viewWith}
-use Rattle.rules.specs.Refusals.{Passes, Decided, oldRefused, oldAlone, newRefused, newAlone, pairRefused, verdict}
+use Rattle.rules.specs.Refusals.{Decided, oldRefused, oldAlone, newRefused, newAlone, pairRefused, verdict}
 use Rattle.rules.proofs.Sizes.{namesSize, declSize}
 use Rattle.text.proofs.Numbers.{decimal-length}
 use Rattle.rules.proofs.Texts.{word-length, Short, line-some}
-use Rattle.rules.proofs.Weights.{lineLength, Light, clauses-light, changes-weight}
+use Rattle.rules.proofs.Scales.{lineLength}
+use Rattle.rules.proofs.Weights.{Light, clauses-light, changes-weight}
 use Rattle.rules.proofs.Held.{Small, Held, accepted-held}
 use Rattle.rules.proofs.Answer.{decided, usual-fault}
 use Rattle.rules.proofs.Chain.{largest-two}

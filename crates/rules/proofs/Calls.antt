@@ -11,7 +11,7 @@ use lib.ListN.{length, take, drop, length-append}
 use Rattle.image.specs.Words.{bytes}
 use Rattle.rules.specs.Changes.{Change}
 use Rattle.rules.specs.Report.{line, lastLine, report}
-use Rattle.rules.specs.Outcome.{select, textLength, written}
+use Rattle.rules.specs.Outcome.{select, textLength}
 use Rattle.image.specs.Codes.{number, bothSides}
 use Rattle.rules.specs.Answer.{Policy, outcome, verdictBy, reportBy, returnedBy, leavesBy}
 use Rattle.rules.specs.Refusals.{Numbered}

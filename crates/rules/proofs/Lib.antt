@@ -1,7 +1,7 @@
 -- Equal, Types: the tests are sound. Chain, Self, Swap: the three claims of the distance rule, of the clauses over any views and any sound
 -- reading of types. Answer: the four cases of two images. Distance: the distance rule. Refusals: when each number is given.
 -- Calls: what both calls say together.
--- Ordinals: the counts that are always 0. Sizes, Texts, Weights, Held, Bound: how long a report can be.
+-- Ordinals: the counts that are always 0. Sizes, Texts, Scales, Weights, Held, Bound: how long a report can be.
 -- ReachedSets, Reached: what is computed is what is reached through named nodes. Standing: what stands with a set of ids. Imports: the
 -- verdict with imports.
 -- Computed: what is unfolded to compute. Edges, ImportEdges, Pinned, PinnedImports: what is computed from the definitions alone.
@@ -23,6 +23,7 @@ pub mod Calls
 pub mod Ordinals
 pub mod Sizes
 pub mod Texts
+pub mod Scales
 pub mod Weights
 pub mod Held
 pub mod Bound

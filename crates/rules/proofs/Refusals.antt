@@ -14,14 +14,14 @@ use Rattle.maps.specs.Walk.{Rising}
 use Rattle.maps.proofs.Names.{byName}
 use Rattle.maps.proofs.Survivors.{all-lookup, lookup-key, lookup-own}
 use Rattle.image.specs.Schema.{Name, Decl, Schema}
-use Rattle.image.specs.Parse.{ok, no}
+use Rattle.image.specs.Parse.{no}
 use Rattle.image.specs.Image.{readImage}
 use Rattle.refusals.proofs.Refusals.{only-ten}
 use Rattle.maps.proofs.Tests.{no-both, both}
 use Rattle.rules.specs.Survivors.{nameOf, View}
 use Rattle.rules.specs.Clauses.{Reading, changes}
 use Rattle.rules.specs.Verdict.{alias, isAlias, any, aliasPair}
-use Rattle.rules.specs.Outcome.{Outcome, refused, selected, select}
+use Rattle.rules.specs.Outcome.{Outcome, selected, select}
 use Rattle.image.specs.Codes.{number, bothSides}
 use Rattle.rules.specs.Answer.{Fault, fault, Policy, compared, firstFault, outcome, verdictBy, reportBy, usual}
 use Rattle.rules.specs.Refusals.{Passes, Decided, oldRefused, oldAlone, newRefused, newAlone, pairRefused, verdict, Numbered, PolicyRefusals, ReportRefusals, AcceptedPair, NewRefused, Alias, AliasPair, VerdictRefusals}

@@ -4,7 +4,7 @@ use mathlib.Core.Path.{_≡_, refl, ap, _∙_}
 use mathlib.Core.Bool.{Bool, true, false, cond, not, _&&_, _||_}
 use mathlib.Core.Option.{Option, some, none}
 use mathlib.Core.List.{List, [], _∷_, _++_}
-use Prim.Native.Nat.{ℕ, zero, suc, max}
+use Prim.Native.Nat.{ℕ, max}
 use native.Mathlib.Omega.{arith}
 use lib.Dec.{ltb}
 use Rattle.maps.specs.Lists.{largest}

@@ -4,7 +4,7 @@ use mathlib.Core.Path.{_≡_, refl, sym, ap, _∙_}
 use mathlib.Core.Bool.{Bool, true, false, cond, not}
 use mathlib.Core.Option.{Option, some, none}
 use mathlib.Core.List.{List, [], _∷_, _++_}
-use Prim.Native.Nat.{ℕ, zero, suc}
+use Prim.Native.Nat.{ℕ}
 use native.Mathlib.Omega.{arith}
 use lib.Dec.{eqb, ltb}
 use borrow.Author.Tests.{eqb-true}
@@ -28,7 +28,7 @@ use Rattle.rules.specs.Verdict.{countOf}
 use Rattle.rules.proofs.Equal.{same-sym, pairs, numbers, marks, options, names, nameLists}
 use Rattle.rules.proofs.Types.{encodings}
 use Rattle.rules.proofs.Mirror.{exchange, mirror, mirror-test}
-use Rattle.rules.proofs.Readings.{OneKind, Lawful}
+use Rattle.rules.proofs.Readings.{Lawful}
 
 module _ (j : ℕ) where
   -- xs one way counts under j what ys the other way counts under its mirror
