@@ -12,13 +12,11 @@ use lib.Dec.{ltb}
 use Rattle.maps.specs.Lists.{All}
 use Rattle.maps.specs.Keyed.{lookup}
 use Rattle.maps.specs.Orders.{same, before}
-use Rattle.maps.specs.Walk.{Rising, following, better, least, seen, latest}
-use Rattle.maps.proofs.Lists.{pass-append}
+use Rattle.maps.specs.Walk.{Rising, seen, latest}
 use Rattle.maps.proofs.Names.{byName}
 use Rattle.maps.proofs.Orders.{same-eq, same-ne}
 use Rattle.maps.proofs.Searches.{latest-append, lookup-latest}
 use Rattle.maps.proofs.Survivors.{rising}
-use Rattle.maps.proofs.Walking.{following-least}
 use Rattle.image.specs.Schema.{Name, Decl, Schema}
 use Rattle.rules.specs.Survivors.{Registry, standsFor, resolved, listed, nameOf, declarations, viewOf}
 use Rattle.rules.specs.Verdict.{any}
@@ -33,14 +31,18 @@ unfolding standingWith declarations idsFrom
 standing-none s = refl
 
 pub view-none : (s : Schema) → viewWith [] s ≡ viewOf s
-unfolding viewWith viewOf standingWith declarations idsFrom
-view-none s = refl
+unfolding viewWith viewOf
+view-none s = rw (standing-none s)
 
 -- ---- by rising name
 
+pub standing-rises : (m : IdSet) (s : Schema) → Rising nameOf before (standingWith m s)
+unfolding standingWith
+standing-rises m s = rising nameOf byName (listed (s .registry) (idsFrom 0 m ++ s .ids))
+
 pub with-rises : (m : IdSet) (s : Schema) → Rising nameOf before (viewWith m s .standing)
-unfolding viewWith standingWith
-with-rises m s = rising nameOf byName (listed (s .registry) (idsFrom 0 m ++ s .ids))
+unfolding viewWith
+with-rises m s = standing-rises m s
 
 pub view-rises : (s : Schema) → Rising nameOf before (viewOf s .standing)
 view-rises s = rw (← view-none s) (with-rises [] s)
@@ -62,7 +64,7 @@ module _ (m : IdSet) (s : Schema) where
   unfoldable pub setEntries : List Decl
   setEntries = listed (s .registry) (idsFrom 0 m)
 
-  -- for a search: first what survives, then the last of the set
+  -- what is found is what survives, or else the last of the set
   pub lookup-with : (name : Name) → lookup nameOf before name (standingWith m s)
       ≡ orElse (lookup nameOf before name (declarations s)) (latest nameOf before name setEntries)
   unfolding standingWith declarations setEntries
@@ -71,15 +73,6 @@ module _ (m : IdSet) (s : Schema) where
       ∙ (ap (latest nameOf before name) (listed-append (s .registry) (idsFrom 0 m) (s .ids))
       ∙ (latest-append nameOf before name setEntries (listed (s .registry) (s .ids))
       ∙ ap (λ o. orElse o (latest nameOf before name setEntries)) (sym (lookup-latest nameOf byName name (listed (s .registry) (s .ids))))))
-
-  -- for a walk: the least of both, in one pass over the set and then over what is listed
-  pub following-with : (b : Option Name) → following nameOf before b (standingWith m s)
-      ≡ least nameOf before b (least nameOf before b none setEntries) (listed (s .registry) (s .ids))
-  unfolding standingWith setEntries least
-  following-with b =
-      following-least nameOf byName b (listed (s .registry) (idsFrom 0 m ++ s .ids))
-      ∙ (ap (least nameOf before b none) (listed-append (s .registry) (idsFrom 0 m) (s .ids))
-      ∙ pass-append (better nameOf before b) none setEntries (listed (s .registry) (s .ids)))
 
 -- ---- the ids of a set rise, and are those that it has
 
