@@ -6,7 +6,7 @@ use Prim.Native.Nat.{ℕ, _^_, _≤_, _<_}
 use native.Mathlib.Nat.{zero-add}
 use native.Mathlib.Omega.{arith}
 use borrow.Author.Tests.{le-leb, lt-leb}
-use lib.ListN.{length}
+use lib.ListN.{length, take, length-take}
 use Rattle.image.specs.Schema.{Schema}
 use Rattle.parts.specs.Codes.{number, oldSide, newSide, bothSides}
 use Rattle.text.specs.Text.{put, putIn, Space}
@@ -21,12 +21,14 @@ use Rattle.rules.specs.Answer.{Fault, compared, firstFault, judged, faultIn, co
 use Rattle.rules.specs.Refusals.{Passes, Decided, oldRefused, oldAlone, newRefused, newAlone, pairRefused, verdict}
 use Rattle.rules.proofs.Answer.{no-fault, old-fault, new-fault, both-pass, decided}
 use Rattle.rules.proofs.Bound.{report-bound}
+use Rattle.rules.specs.Reached.{IdSet}
 use Rattle.items.specs.Pairs.{BothAccepted}
 use Rattle.items.specs.declared.Walk.{Walk}
-use Rattle.checking.specs.Decls.{allChanges}
+use Rattle.checking.specs.Decls.{BothSearchable, allChanges}
+use Rattle.reached.specs.declared.Reached.{Reached}
 use Rattle.verdicts.specs.Verdicts.{refusedBy, verdictIs}
 use Rattle.verdicts.specs.declared.Verdict.{Verdict}
-use Rattle.compat.specs.Policies.{policyOf, walkOf, changesBy, faultOf, Passing}
+use Rattle.compat.specs.Policies.{policyOf, walkOf, changesBy, HasIds, Prepared, faultOf, Passing}
 use Rattle.compat.specs.Passes.{ReportSpace, Passed, Reported}
 use Rattle.compat.specs.declared.policies.Policy.{Policy}
 use Rattle.compat.specs.declared.policies.Judged.{Judged}
@@ -98,16 +100,30 @@ module _ (p : Policy) (old new : List ℕ) where
 
   -- ---- a pass, by the walk of the policy
 
-  module _ {w : Walk} {m : Mode} (e : w ≡ walkOf p m) where
-    pub walk-asks : {d : List ℕ} → BothAccepted old new × ReportSpace m d (changesBy p old new)
-        → BothAccepted old new × ReportSpace (w .mode) d (allChanges (w .reading) old new)
+  module _ {a b : IdSet} (k : Prepared p old new a b) {w : Walk} {m : Mode} (e : w ≡ walkOf p m) where
+    pub walk-asks : {d : List ℕ} → ReportSpace m d (changesBy p old new)
+        → BothSearchable old new a b × ReportSpace (w .mode) d (allChanges (w .reading) old new a b)
     unfolding walkOf
-    walk-asks h = rw (e, policy-changes p old new) h
+    walk-asks h = (k .searchable, rw (e, policy-changes p k) h)
 
-    pub walk-passed : {d d′ : List ℕ} {r : Verdict} → Passed (w .mode) d (allChanges (w .reading) old new) r d′
+    pub walk-passed : {d d′ : List ℕ} {r : Verdict} → Passed (w .mode) d (allChanges (w .reading) old new a b) r d′
         → Passed m d (changesBy p old new) r d′
     unfolding walkOf
-    walk-passed h = rw (e, policy-changes p old new) at h
+    walk-passed h = rw (e, policy-changes p k) at h
+
+  -- each image with its set
+  pub prepared-accepted : {a b : IdSet} → Prepared p old new a b → BothAccepted old new
+  prepared-accepted k = (k .searchable .0 .accepted, k .searchable .1 .accepted)
+
+  pub prepared : BothAccepted old new → {r q : Reached} → HasIds p old r → HasIds p new q → Prepared p old new (take (r .count) (r .marks)) (take (q .count) (q .marks))
+  prepared g {r} {q} h k = record {
+    searchable = (
+      record { accepted = g .0; few = omega (arith, length-take (r .count) (r .marks), h .few) },
+      record { accepted = g .1; few = omega (arith, length-take (q .count) (q .marks), k .few) },
+    );
+    oldIds = h .marks;
+    newIds = k .marks;
+  }
 
   -- ---- the report's room
 

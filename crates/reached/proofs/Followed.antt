@@ -153,7 +153,7 @@ module _ {s : List ℕ} {m f : IdSet} (w : Following s m f) {n : ℕ} (e : n ≡
           (λ j k. getD-take n m j false (omega arith) ∙ least-is (schemaOf s) m following-least j)
 
       pub following-done : ReachedIn s (record { marks = m; count = n })
-      following-done = record { count = e; marks = marks-are; few = omega (arith, following-count .0, w .marks) }
+      following-done = record { count = e; marks = marks-are; few = omega (arith, following-count .0, w .marks); room = following-count .0 }
 
 -- ---- the start: what the survivors name is marked, and nothing is followed
 

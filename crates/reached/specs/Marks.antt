@@ -45,3 +45,4 @@ pub record ReachedIn (s : List ℕ) (r : Reached) : Type 0 where
   pub count : r .count ≡ length (schemaOf s .registry)
   pub marks : take (r .count) (r .marks) ≡ reachedSet (schemaOf s)
   pub few : r .count ≤ 512
+  pub room : r .count ≤ length (r .marks)

@@ -3,7 +3,7 @@ use mathlib.Core.Path.{_≡_}
 use mathlib.Core.List.{List, [], _∷_, _++_}
 use Prim.Native.Nat.{ℕ, zero, suc}
 use lib.ListN.{length}
-use Rattle.rules.specs.Answer.{returned, leaves}
+use Rattle.rules.specs.Answer.{Policy, returnedBy, leavesBy}
 
 -- f 0, f 1 and so on, so many
 unfoldable pub valuesOf : (ℕ → ℕ) → ℕ → List ℕ
@@ -14,6 +14,6 @@ valuesOf f (suc n) = valuesOf f n ++ f n ∷ []
 abbrev pub Valued : (ℕ → ℕ) → List ℕ → ℕ → List ℕ → Type 0
 Valued answer d r d′ = (r ≡ answer 0) × (d′ ≡ valuesOf answer (length d))
 
--- the report call with the buffer d
-abbrev pub Reported : List ℕ → List ℕ → List ℕ → ℕ → List ℕ → Type 0
-Reported old new d r d′ = (r ≡ returned old new d) × (d′ ≡ leaves old new d)
+-- a report call with the buffer d
+abbrev pub Reported : Policy → List ℕ → List ℕ → List ℕ → ℕ → List ℕ → Type 0
+Reported p old new d r d′ = (r ≡ returnedBy p old new d) × (d′ ≡ leavesBy p old new d)

@@ -1,5 +1,5 @@
-// The calls from C, for all bytes, buffers and selectors: the verdict on two images, by one value or by all, its report, and the contents
-// of one image. Each is thin: what it answers is of `compat` or of `listing`.
+// The calls from C, for all bytes, buffers and selectors: the verdict on two images, by one value or by all, its report, each also with
+// imports, and the contents of one image. Each is thin: what it answers is of `compat` or of `listing`.
 use compat::policies::Policy;
 use compat::report;
 use compat::verdict;
@@ -8,7 +8,8 @@ use listing::write_listing;
 use verdicts::Verdict;
 ghost use mathlib.Core.Path.{_≡_};
 ghost use lib.ListN.{length};
-ghost use Rattle.rules.specs.Answer.{verdictBy, verdictOf};
+ghost use Rattle.rules.specs.Answer.{verdictBy, plain, verdictOf};
+ghost use Rattle.rules.specs.Imports.{imports};
 ghost use Rattle.verdicts.specs.Verdicts.{selectIn};
 ghost use Rattle.compat.specs.Policies.{policyOf};
 ghost use Rattle.listing.specs.Listing.{listingVerdict, Wrote};
@@ -51,12 +52,40 @@ pub extern "C" fn vexil_compat_values(old: &[u8], new: &[u8], values: &mut [u64]
 }
 
 // The report's length, 0 if refused; the report stands at the start of the buffer.
+fn report_by(policy: Policy, old: &[u8], new: &[u8], out: &mut [u8]) -> u64
+    ensures { λ r. ⌜ Reported (policyOf policy) (now (old .entry)) (now (new .entry)) (now (out .entry)) r (now (out .exit)) ⌝ }
+{
+    let v = report(policy, old, new, out);
+    v.length as u64
+}
+
 #[no_mangle]
 pub extern "C" fn vexil_compat_report(old: &[u8], new: &[u8], out: &mut [u8]) -> u64
-    ensures { λ r. ⌜ Reported (now (old .entry)) (now (new .entry)) (now (out .entry)) r (now (out .exit)) ⌝ }
+    ensures { λ r. ⌜ Reported plain (now (old .entry)) (now (new .entry)) (now (out .entry)) r (now (out .exit)) ⌝ }
 {
-    let v = report(Policy::Plain, old, new, out);
-    v.length as u64
+    report_by(Policy::Plain, old, new, out)
+}
+
+// The same three with imports.
+#[no_mangle]
+pub extern "C" fn vexil_compat_imports_verdict(old: &[u8], new: &[u8], selector: u64) -> u64
+    ensures { λ r. ⌜ r ≡ verdictBy imports (now (old .entry)) (now (new .entry)) selector ⌝ }
+{
+    verdict(Policy::Imports, old, new).select(selector)
+}
+
+#[no_mangle]
+pub extern "C" fn vexil_compat_imports_values(old: &[u8], new: &[u8], values: &mut [u64]) -> u64
+    ensures { λ r. ⌜ Valued (verdictBy imports (now (old .entry)) (now (new .entry))) (now (values .entry)) r (now (values .exit)) ⌝ }
+{
+    values_by(Policy::Imports, old, new, values)
+}
+
+#[no_mangle]
+pub extern "C" fn vexil_compat_imports_report(old: &[u8], new: &[u8], out: &mut [u8]) -> u64
+    ensures { λ r. ⌜ Reported imports (now (old .entry)) (now (new .entry)) (now (out .entry)) r (now (out .exit)) ⌝ }
+{
+    report_by(Policy::Imports, old, new, out)
 }
 
 // The listing's length, 0 if refused; the listing stands at the start of the buffer.

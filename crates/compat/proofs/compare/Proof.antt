@@ -1,42 +1,46 @@
--- `compat::compare` meets its contract: the fault of the pair, or what is measured. Assumes nothing.
-use mathlib.Core.Path.{ap, _∙_}
-use Rattle.verdicts.specs.Verdicts.{verdictIs}
-use Rattle.compat.proofs.Outcomes.{pair-passes, pair-refused}
+-- `compat::compare` meets its contract: each image with its set of ids. Assumes nothing.
+use mathlib.Core.Path.{sym}
+use lib.Seq.{length-take-le}
+use Rattle.compat.proofs.Outcomes.{prepared}
 use borrow.Author.Needs.{needs}
 use Rattle.compat.proofs.compare.Statement.{statement}
 use Rattle.compat.proofs.compare.Tie as tie
 
-judge-pair-requires : tie.Need-judge-pair-requires
-judge-pair-requires c κs = search needs
+ids-of-requires : tie.Need-ids-of-requires
+ids-of-requires c κs = search needs
 
-enum-told : tie.Need-enum-told
-enum-told c = search needs
+ids-of-requires-2 : tie.Need-ids-of-requires-2
+ids-of-requires-2 c κs = search needs
 
-measure-requires : tie.Need-measure-requires
-measure-requires c κs = search needs
+array-share-prefix-m : tie.Need-array-share-prefix-m
+array-share-prefix-m c = c .before .before .before .ids-of .ensures .room
 
-enum-known-number : tie.Need-enum-known-number
-enum-known-number c = search needs
+slice-aggregate-compare-with : tie.Need-slice-aggregate-compare-with
+slice-aggregate-compare-with c = sym (length-take-le _ _ (c .before .before .before .before .ids-of .ensures .room))
 
-refused-requires : tie.Need-refused-requires
-refused-requires c κs = search needs
+array-share-prefix-n : tie.Need-array-share-prefix-n
+array-share-prefix-n c = c .before .before .before .ids-of2 .ensures .room
+
+slice-aggregate-compare-with-2 : tie.Need-slice-aggregate-compare-with-2
+slice-aggregate-compare-with-2 c = sym (length-take-le _ _ (c .before .before .before .before .ids-of2 .ensures .room))
+
+compare-with-requires : tie.Need-compare-with-requires
+compare-with-requires c κs =
+    let b = c .before .before .before .before in
+    prepared _ _ _ (b .before .before .before .before .pre) (b .before .ids-of .ensures) (b .ids-of2 .ensures)
 
 returns : tie.Need-returns
-returns c =
-    c .measure .ensures ∙ ap verdictIs (pair-passes _ _ _ (c .before .before .before .judge-pair .ensures) (c .before .enum-told .given .1))
-
-returns-2 : tie.Need-returns-2
-returns-2 c =
-    c .refused .ensures ∙ pair-refused _ _ _ (c .before .before .before .before .judge-pair .ensures) (c .before .before .number .given .1)
+returns c = c .compare-with .ensures
 
 pub compare-spec : {M : Type 1} → statement M
 compare-spec =
     tie.close
     (tie.spec
-    judge-pair-requires
-    enum-told
-    measure-requires
-    enum-known-number
-    refused-requires
-    returns
-    returns-2)
+    ids-of-requires
+    ids-of-requires-2
+    array-share-prefix-m
+    slice-aggregate-compare-with
+    array-share-prefix-n
+    slice-aggregate-compare-with-2
+    compare-with-requires
+    returns)
