@@ -15,8 +15,9 @@ use Rattle.parts.specs.Promise.{Accepted, schemaOf}
 use Rattle.parts.proofs.Promise.{accepted-read}
 use Rattle.rules.specs.Survivors.{standsFor, viewOf}
 use Rattle.rules.specs.Reached.{namedBy, namedFrom, member, resolvable, IdSet, has, reachedSet}
+use Rattle.rules.proofs.Held.{accepted-held}
 use Rattle.rules.proofs.ReachedSets.{below-has, no-marks, markAll-below, markAll-has}
-use Rattle.rules.proofs.Reached.{resolvable-in, entries-few, Within, within-marks, within-first, first-marks, Least, least-is, reached-is, reached-resolvable}
+use Rattle.rules.proofs.Reached.{resolvable-in, Within, within-marks, within-first, first-marks, Least, least-is, reached-is, reached-resolvable}
 use Rattle.reached.specs.Marks.{Ready, Started, Marked, Open, ReachedIn}
 use Rattle.reached.proofs.Marking.{marked-length, ready-after}
 
@@ -163,7 +164,7 @@ noMarks = replicate 512 false
 
 module _ (s : List ℕ) (g : Accepted s) where
   few-marks : length (schemaOf s .registry) ≤ length noMarks
-  few-marks = omega (arith, entries-few s (accepted-read s g .1), length-replicate 512 false)
+  few-marks = omega (arith, accepted-held s (accepted-read s g .1) .registry, length-replicate 512 false)
 
   pub ready-start : Ready s noMarks
   ready-start = record { accepted = g; room = few-marks }

@@ -4,23 +4,20 @@ use mathlib.Core.Path.{_≡_, refl, sym, ap, _∙_, subst}
 use mathlib.Core.Bool.{Bool, true, false, cond}
 use mathlib.Core.Logic.{_⊎_, inl, inr, ⊎-elim}
 use mathlib.Core.Option.{Option, none, some}
-use mathlib.Core.List.{List, flatMap}
+use mathlib.Core.List.{flatMap}
 use Prim.Native.Nat.{ℕ, zero, suc, _+_, _≤_, _<_}
 use native.Mathlib.Omega.{arith}
-use borrow.Author.Tests.{ltb-true, ltb-false, leb-true}
-use lib.Dec.{ltb, leb}
+use borrow.Author.Tests.{ltb-true, ltb-false}
+use lib.Dec.{ltb}
 use lib.ListN.{length, replicate, length-replicate, List·getD-eq-default}
 use Rattle.maps.specs.Keyed.{lookup}
 use Rattle.maps.specs.Orders.{before}
 use Rattle.maps.specs.Walk.{isSome}
 use Rattle.maps.proofs.Lists.{all, pass-keeps}
 use Rattle.maps.proofs.Survivors.{all-lookup}
-use Rattle.maps.proofs.Tests.{no-both, both}
+use Rattle.maps.proofs.Tests.{no-both}
 use Rattle.image.specs.Schema.{Name, Decl, Schema}
 use Rattle.image.specs.Kinds.{kindOf}
-use Rattle.image.specs.Parse.{Parsed, ok, no}
-use Rattle.image.specs.Image.{entryCount, tablesOf, entryOf, entriesOf, readImage}
-use Rattle.image.proofs.Laws.Sure.{Sure, sure-ok, sure-no, sure-bind, sure-need, head-sure}
 use Rattle.rules.specs.Survivors.{Registry, standsFor, nameOf, declarations, View, viewOf}
 use Rattle.rules.specs.Clauses.{typesOf, comparedTypes}
 use Rattle.rules.specs.Reached.{namedIn, namedOf, namedFrom, member, resolvable, Reached, by-survivor, by-reached, IdSet, has, markAll, namedBy, follow, upFrom, round, rounds, firstSet, reachedSet, ReachedIs}
@@ -114,35 +111,6 @@ module _ (R : Registry) where
   closed-rounds : (m : IdSet) → length m ≡ length R → Closed (rounds R (length R) m)
   closed-rounds m l =
       ⊎-elim (λ p. p) (λ p. closed-full (rounds R (length R) m) (length-rounds m l) (omega arith)) (grows (length R) 0 m l (omega arith))
-
--- ---- an accepted image has few entries
-
--- of any answer
-anything : {A : Type 0} (p : Parsed A) → Sure (λ a n. Unit {0}) p
-anything (ok a n) = sure-ok tt
-anything (no k) = sure-no
-
-entries-length : (s : List ℕ) (count i : ℕ) → Sure (λ es n. length es ≡ count) (entriesOf count s i)
-unfolding entriesOf
-entries-length s zero i = sure-ok refl
-entries-length s (suc count) i =
-    sure-bind _ (anything (entryOf s i)) (λ e n p. sure-bind _ (entries-length s count (i + 1)) (λ es m q. sure-ok (ap suc q)))
-
-image-few : (s : List ℕ) → Sure (λ x n. length (x .registry) ≤ 512) (readImage s)
-unfolding readImage
-image-few s =
-    sure-bind _ (head-sure s) (λ h n₁ q.
-    sure-bind _ (anything (tablesOf s)) (λ ids n₂ _.
-    sure-bind _ (anything _) (λ names n₃ _.
-    sure-need _ _ (λ l. sure-bind _ (entries-length s (entryCount s) 0) (λ es n₄ e.
-    sure-ok (omega (arith, e, leb-true (entryCount s) 512 (both (leb (entryCount s) 512) _ (q .counts) .0))))))))
-
-pub entries-few : (s : List ℕ) {x : Schema} {n : ℕ} → readImage s ≡ ok x n → length (x .registry) ≤ 512
-entries-few s e = few (image-few s) e
-  where
-    few : {p : Parsed Schema} {x : Schema} {n : ℕ} → Sure (λ y m. length (y .registry) ≤ 512) p → p ≡ ok x n → length (x .registry) ≤ 512
-    few {x = x} (sure-ok {a = y} h) e = let p : y ≡ x = cc in rw p at h
-    few sure-no e = absurd (let z : _≡_ {A = ℕ} 0 1 = cc in omega arith)
 
 -- ---- what is computed is what is reached
 
