@@ -37,7 +37,8 @@ pub variants-named : (vs : List Variant) → flatMap namedIn (variantTypes vs) �
 unfolding variantTypes itemNames
 variants-named vs =
     flatMap-flatMap (λ v. fieldTypes (v .fields)) namedIn (variantMap vs)
-    ∙ flatMap-same (λ v. flatMap namedIn (fieldTypes (v .fields))) (itemNames Shape.Variant) (variantMap vs) (all (λ v. fields-named (v .fields)) (variantMap vs))
+    ∙ flatMap-same (λ v. flatMap namedIn (fieldTypes (v .fields))) (itemNames Shape.Variant) (variantMap vs)
+    (all (λ v. fields-named (v .fields)) (variantMap vs))
 
 -- ---- a walk
 

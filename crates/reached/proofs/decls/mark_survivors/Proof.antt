@@ -17,7 +17,7 @@ Inv-loop image marks₀ after₀ marks after =
 abbrev μ-loop : tie.MeasureT-loop
 μ-loop image marks₀ after₀ marks after = leftDecls image after
 
--- where a survivor is met: the way to the search, and to the turn's end
+-- from where a survivor is met to the search, and from the end of a turn to where it was met
 abbrev found : tie.After-known-told Inv-loop μ-loop → tie.After-next-survivor Inv-loop μ-loop
 found c = c .before .before .before
 

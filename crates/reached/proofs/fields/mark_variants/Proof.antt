@@ -15,7 +15,7 @@ Inv-loop image run marks₀ after₀ marks after = Owing image marks₀ (namedIt
 abbrev μ-loop : tie.MeasureT-loop
 μ-loop image run marks₀ after₀ marks after = leftIn Shape.Variant image run after
 
--- where an item is met: the way to the start, to the search and to the turn's end
+-- from where an item is met: to the start, and to the search; and from the end of a turn to where it was met
 abbrev st : tie.After-known-told Inv-loop μ-loop → tie.Start Inv-loop μ-loop
 st c = c .before .before .before .before .before .before .before
 

@@ -23,7 +23,8 @@ returns : tie.Need-returns
 returns c = not-there _ _ (c .before .before .before .decl-name .ensures) (c .before .before .survivor .ensures)
 
 returns-2 : tie.Need-returns-2
-returns-2 c = stands-there _ _ (c .before .before .before .before .decl-name .ensures) (c .before .before .before .survivor .ensures) (c .before .found .given .1)
+returns-2 c =
+    stands-there _ _ (c .before .before .before .before .decl-name .ensures) (c .before .before .before .survivor .ensures) (c .before .found .given .1)
 
 pub is-survivor-spec : {M : Type 1} → statement M
 is-survivor-spec =
