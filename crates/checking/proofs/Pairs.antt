@@ -23,7 +23,7 @@ use Rattle.parts.specs.declared.Entry.{Entry}
 use Rattle.parts.specs.declared.Entry.the-variants.{Body, Unresolvable}
 use Rattle.rules.specs.Survivors.{resolved, listed, nameOf}
 use Rattle.rules.specs.Reached.{IdSet}
-use Rattle.rules.specs.Imports.{idsFrom, standingWith, viewWith}
+use Rattle.rules.specs.Imports.{markedIds, standingWith, viewWith}
 use Rattle.rules.specs.Verdict.{alias, isAlias, any, aliasPair}
 use Rattle.survivors.specs.Answers.{Survives}
 use Rattle.survivors.specs.Candidates.{candidates, Candidate, present}
@@ -153,7 +153,7 @@ module _ (old new : List ℕ) (a b : IdSet) where
   unfolding aliasesFrom aliasesAt bothAliases aliasPair viewWith standingWith
   aliases-start =
       ap (any (λ d. alias d && aliasesAt old new a b (d .name))) (present-candidates old a)
-      ∙ any-told (listed (schemaOf old .registry) (idsFrom 0 a ++ schemaOf old .ids)) (standing old new a b Side.New)
+      ∙ any-told (listed (schemaOf old .registry) (markedIds 0 a ++ schemaOf old .ids)) (standing old new a b Side.New)
 
   any-resolved : (o : Option Decl) (ds : List Decl)
       → any (λ d. alias d && aliasesAt old new a b (d .name)) (resolved o ds) ≡ aliasesOf old new a b o || any (λ d. alias d && aliasesAt old new a b (d .name)) ds

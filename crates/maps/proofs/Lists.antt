@@ -143,3 +143,8 @@ module _ {A C : Type 0} (f : A → List C) where
   unfolding total flatMap
   total-flatMap w [] = refl
   total-flatMap w (a ∷ l) = omega (arith, total-append w (f a) (flatMap f l), total-flatMap w l)
+
+pub flatMap-flatMap : {A B C : Type 0} (f : A → List B) (g : B → List C) (l : List A) → flatMap g (flatMap f l) ≡ flatMap (λ a. flatMap g (f a)) l
+unfolding flatMap
+flatMap-flatMap f g [] = refl
+flatMap-flatMap f g (a ∷ l) = flatMap-append g (f a) (flatMap f l) ∙ ap (λ x. flatMap g (f a) ++ x) (flatMap-flatMap f g l)

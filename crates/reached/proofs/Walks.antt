@@ -5,7 +5,7 @@ use mathlib.Core.Option.{Option, none, some}
 use mathlib.Core.List.{List, [], _∷_, flatMap, append-nil}
 use Prim.Native.Nat.{ℕ, _<_}
 use Rattle.maps.specs.Compare.{between}
-use Rattle.maps.proofs.Lists.{all, flatMap-same}
+use Rattle.maps.proofs.Lists.{all, flatMap-same, flatMap-flatMap}
 use Rattle.image.specs.Schema.{Field, Variant}
 use Rattle.parts.specs.Promise.{ItemOf, ItemHere, ItemsHere, typePlace, TypeHere, treeIn, variantItems}
 use Rattle.parts.specs.declared.Run.{Run}
@@ -14,7 +14,6 @@ use Rattle.parts.proofs.Promise.{field-type, field-type-here, variant-listed}
 use Rattle.rules.specs.Survivors.{fieldMap, variantMap}
 use Rattle.rules.specs.Clauses.{fieldTypes, variantTypes}
 use Rattle.rules.specs.Reached.{namedIn, IdSet}
-use Rattle.rules.proofs.ReachedSets.{flatMap-flatMap}
 use Rattle.survivors.specs.Answers.{ItemFollows}
 use Rattle.survivors.specs.Runs.{itemIn, itemMap, itemsOf, Holds}
 use Rattle.survivors.specs.declared.Next.{Next}

@@ -27,7 +27,7 @@ use Rattle.rules.specs.Report.{bumpWord, resultWord, line, lastLine, rep
 use Rattle.rules.specs.Outcome.{Outcome, refused, selected, select}
 use Rattle.rules.specs.Answer.{Fault, Policy, compared, counts, firstFault, verdictBy, usual, plainReading, plain}
 use Rattle.rules.specs.Reached.{IdSet}
-use Rattle.rules.specs.Imports.{idsFrom, standingWith, viewWith}
+use Rattle.rules.specs.Imports.{markedIds, standingWith, viewWith}
 use Rattle.rules.specs.Refusals.{Decided, oldRefused, oldAlone, newRefused, newAlone, pairRefused, verdict}
 use Rattle.rules.proofs.Sizes.{namesSize, declSize}
 use Rattle.text.proofs.Numbers.{decimal-length}
@@ -41,8 +41,8 @@ use Rattle.rules.proofs.Standing.{view-none, with-rises}
 
 -- ---- what stands of what an image holds
 
-ids-fewer : (id : ℕ) (m : IdSet) → length (idsFrom id m) ≤ length m
-unfolding idsFrom
+ids-fewer : (id : ℕ) (m : IdSet) → length (markedIds id m) ≤ length m
+unfolding markedIds
 ids-fewer id [] = omega arith
 ids-fewer id (true ∷ m) = omega (arith, ids-fewer (suc id) m)
 ids-fewer id (false ∷ m) = omega (arith, ids-fewer (suc id) m)
@@ -87,7 +87,7 @@ module _ (R : Registry) (h : All Small R) where
 module _ (m : IdSet) (x : Schema) (h : Held x) where
   standing-small : All (λ d. declSize d ≤ 32768) (standingWith m x)
   unfolding standingWith
-  standing-small = all-survivors nameOf before _ (listed (x .registry) (idsFrom 0 m ++ x .ids)) (listed-small (x .registry) (h .entries) (idsFrom 0 m ++ x .ids))
+  standing-small = all-survivors nameOf before _ (listed (x .registry) (markedIds 0 m ++ x .ids)) (listed-small (x .registry) (h .entries) (markedIds 0 m ++ x .ids))
 
   -- as many as there are marks and listed ids, of 32,768 bytes each
   standing-total : total declSize (standingWith m x) ≤ 32768 * (length m + 512)
@@ -95,9 +95,9 @@ module _ (m : IdSet) (x : Schema) (h : Held x) where
   standing-total =
       omega (
         arith,
-        total-survivors nameOf before declSize (listed (x .registry) (idsFrom 0 m ++ x .ids)),
-        listed-total (x .registry) (h .entries) (idsFrom 0 m ++ x .ids),
-        length-append (idsFrom 0 m) (x .ids),
+        total-survivors nameOf before declSize (listed (x .registry) (markedIds 0 m ++ x .ids)),
+        listed-total (x .registry) (h .entries) (markedIds 0 m ++ x .ids),
+        length-append (markedIds 0 m) (x .ids),
         ids-fewer 0 m,
         h .ids,
       )

@@ -27,7 +27,7 @@ use Rattle.rules.specs.Answer.{plainReading, plain, firstFault, aliasChe
 use Rattle.rules.specs.Refusals.{Numbered, VerdictRefusals}
 use Rattle.rules.specs.Distance.{holdsVectors, DistanceRule}
 use Rattle.rules.specs.Reached.{member, Reached, reachedSet}
-use Rattle.rules.specs.Imports.{idsFrom, viewWith, importsView, imports, Stands, survivor, imported, absent, OnlyListed, Imported}
+use Rattle.rules.specs.Imports.{markedIds, viewWith, importsView, imports, Stands, survivor, imported, absent, OnlyListed, Imported}
 use Rattle.rules.proofs.Equal.{names}
 use Rattle.rules.proofs.Answer.{usual-numbered}
 use Rattle.rules.proofs.Weights.{clauses-light}
@@ -42,15 +42,15 @@ use Rattle.rules.proofs.Standing.{with-rises, view-rises, setEntries, l
 
 module _ (s : Schema) where
   -- the ids of the set are those that are reached
-  ids-reached : (id : ℕ) → member id (idsFrom 0 (reachedSet s)) ≡ true → Reached s id
+  ids-reached : (id : ℕ) → member id (markedIds 0 (reachedSet s)) ≡ true → Reached s id
   ids-reached id e = reached-is s .exactly id .0 (sym (ids-has id (reachedSet s)) ∙ e)
 
-  reached-ids : (id : ℕ) → Reached s id → member id (idsFrom 0 (reachedSet s)) ≡ true
+  reached-ids : (id : ℕ) → Reached s id → member id (markedIds 0 (reachedSet s)) ≡ true
   reached-ids id r = ids-has id (reachedSet s) ∙ reached-is s .exactly id .1 r
 
   -- by what survives, and by the highest of the set
   stands-by : (name : Name) (o : Option Decl) → lookup nameOf before name (declarations s) ≡ o
-      → (r : Option Decl) → Highest (s .registry) name (idsFrom 0 (reachedSet s)) r → Stands s name (orElse o r)
+      → (r : Option Decl) → Highest (s .registry) name (markedIds 0 (reachedSet s)) r → Stands s name (orElse o r)
   unfolding orElse
   stands-by name (some d) e r t = survivor e
   stands-by name none e r (highest {id = id} i g n c) = imported e (ids-reached id i) g n (λ j f l w. c j f l (reached-ids j w))
@@ -60,7 +60,7 @@ module _ (s : Schema) where
   unfolding importsView viewWith setEntries
   stands name =
       subst (Stands s name) (sym (lookup-with (reachedSet s) s name))
-      (stands-by name (lookup nameOf before name (declarations s)) refl _ (highest-found (s .registry) name (idsFrom 0 (reachedSet s)) (ids-rise 0 (reachedSet s))))
+      (stands-by name (lookup nameOf before name (declarations s)) refl _ (highest-found (s .registry) name (markedIds 0 (reachedSet s)) (ids-rise 0 (reachedSet s))))
 
 -- by rising name
 pub imports-rise : (s : Schema) → Rising nameOf before (importsView s .standing)

@@ -13,7 +13,7 @@ use lib.ListN.{length, replicate, length-replicate, List·getD-eq-default}
 use Rattle.maps.specs.Keyed.{lookup}
 use Rattle.maps.specs.Orders.{before}
 use Rattle.maps.specs.Walk.{isSome}
-use Rattle.maps.proofs.Lists.{all, pass-keeps}
+use Rattle.maps.proofs.Lists.{all, pass-keeps, flatMap-flatMap}
 use Rattle.maps.proofs.Survivors.{all-lookup}
 use Rattle.maps.proofs.Tests.{no-both}
 use Rattle.image.specs.Schema.{Name, Decl, Schema}
@@ -21,7 +21,7 @@ use Rattle.image.specs.Kinds.{kindOf}
 use Rattle.rules.specs.Survivors.{Registry, standsFor, nameOf, declarations, View, viewOf}
 use Rattle.rules.specs.Clauses.{typesOf, comparedTypes}
 use Rattle.rules.specs.Reached.{namedIn, namedOf, namedFrom, member, resolvable, Reached, by-survivor, by-reached, IdSet, has, markAll, namedBy, follow, upFrom, round, rounds, firstSet, reachedSet, ReachedIs}
-use Rattle.rules.proofs.ReachedSets.{member-none, member-flatMap, flatMap-flatMap, member-up, Below, below-refl, below-trans, below-has, below-length, below-in, size, below-same, size-full, no-marks, pass-below, pass-has, markAll-below, markAll-has, markAll-only}
+use Rattle.rules.proofs.ReachedSets.{member-none, member-flatMap, member-up, Below, below-refl, below-trans, below-has, below-length, below-in, size, below-same, size-full, no-marks, pass-below, pass-has, markAll-below, markAll-has, markAll-only}
 
 -- what is named, declaration by declaration
 pub named-from : (v : View) → namedFrom v ≡ flatMap namedOf (v .standing)

@@ -11,7 +11,7 @@ use lib.Dec.{eqb}
 use lib.ListN.{length, getD, set, replicate}
 use lib.Seq.{getD-set-same, getD-set-other, set-getD}
 use Rattle.maps.specs.Lists.{pass, total, count, All}
-use Rattle.maps.proofs.Lists.{all-map, flatMap-append}
+use Rattle.maps.proofs.Lists.{all-map}
 use Rattle.maps.proofs.Tests.{no-both}
 use Rattle.rules.specs.Survivors.{Registry}
 use Rattle.rules.specs.Verdict.{any}
@@ -53,11 +53,6 @@ unfolding All flatMap
 member-flatMap f id [] = tt
 member-flatMap f id (a ∷ l) =
     (λ e. member-left id (f a) (flatMap f l) e, all-map (λ b h e. member-right id (f a) (flatMap f l) (h e)) l (member-flatMap f id l))
-
-pub flatMap-flatMap : {A B : Type 0} (f : A → List B) (g : B → List ℕ) (l : List A) → flatMap g (flatMap f l) ≡ flatMap (λ a. flatMap g (f a)) l
-unfolding flatMap
-flatMap-flatMap f g [] = refl
-flatMap-flatMap f g (a ∷ l) = flatMap-append g (f a) (flatMap f l) ∙ ap (λ x. flatMap g (f a) ++ x) (flatMap-flatMap f g l)
 
 pub member-up : (n from id : ℕ) → from ≤ id → id < from + n → member id (upFrom from n) ≡ true
 unfolding upFrom

@@ -21,13 +21,13 @@ use Rattle.image.specs.Schema.{Name, Decl, Schema}
 use Rattle.rules.specs.Survivors.{Registry, standsFor, resolved, listed, nameOf, declarations, viewOf}
 use Rattle.rules.specs.Verdict.{any}
 use Rattle.rules.specs.Reached.{member, IdSet, has}
-use Rattle.rules.specs.Imports.{idsFrom, standingWith, viewWith}
+use Rattle.rules.specs.Imports.{markedIds, standingWith, viewWith}
 use Rattle.rules.proofs.ReachedSets.{member-cons, member-here, member-more, member-none}
 
 -- ---- with no id
 
 pub standing-none : (s : Schema) → standingWith [] s ≡ declarations s
-unfolding standingWith declarations idsFrom
+unfolding standingWith declarations markedIds
 standing-none s = refl
 
 pub view-none : (s : Schema) → viewWith [] s ≡ viewOf s
@@ -38,7 +38,7 @@ view-none s = rw (standing-none s)
 
 pub standing-rises : (m : IdSet) (s : Schema) → Rising nameOf before (standingWith m s)
 unfolding standingWith
-standing-rises m s = rising nameOf byName (listed (s .registry) (idsFrom 0 m ++ s .ids))
+standing-rises m s = rising nameOf byName (listed (s .registry) (markedIds 0 m ++ s .ids))
 
 pub with-rises : (m : IdSet) (s : Schema) → Rising nameOf before (viewWith m s .standing)
 unfolding viewWith
@@ -62,15 +62,15 @@ listed-append R (id ∷ xs) ys = go (standsFor R id) (listed-append R xs ys)
 module _ (m : IdSet) (s : Schema) where
   -- the entries of the set, by rising id
   unfoldable pub setEntries : List Decl
-  setEntries = listed (s .registry) (idsFrom 0 m)
+  setEntries = listed (s .registry) (markedIds 0 m)
 
   -- what is found is what survives, or else the last of the set
   pub lookup-with : (name : Name) → lookup nameOf before name (standingWith m s)
       ≡ orElse (lookup nameOf before name (declarations s)) (latest nameOf before name setEntries)
   unfolding standingWith declarations setEntries
   lookup-with name =
-      lookup-latest nameOf byName name (listed (s .registry) (idsFrom 0 m ++ s .ids))
-      ∙ (ap (latest nameOf before name) (listed-append (s .registry) (idsFrom 0 m) (s .ids))
+      lookup-latest nameOf byName name (listed (s .registry) (markedIds 0 m ++ s .ids))
+      ∙ (ap (latest nameOf before name) (listed-append (s .registry) (markedIds 0 m) (s .ids))
       ∙ (latest-append nameOf before name setEntries (listed (s .registry) (s .ids))
       ∙ ap (λ o. orElse o (latest nameOf before name setEntries)) (sym (lookup-latest nameOf byName name (listed (s .registry) (s .ids))))))
 
@@ -79,14 +79,14 @@ module _ (m : IdSet) (s : Schema) where
 abbrev pub Rises : List ℕ → Type 0
 Rises ids = Rising (λ id. id) ltb ids
 
-ids-after : (id from : ℕ) (m : IdSet) → id < from → All (λ j. ltb id j ≡ true) (idsFrom from m)
-unfolding idsFrom All
+ids-after : (id from : ℕ) (m : IdSet) → id < from → All (λ j. ltb id j ≡ true) (markedIds from m)
+unfolding markedIds All
 ids-after id from [] l = tt
 ids-after id from (true ∷ m) l = (lt-ltb id from l, ids-after id (suc from) m (omega arith))
 ids-after id from (false ∷ m) l = ids-after id (suc from) m (omega arith)
 
-pub ids-rise : (from : ℕ) (m : IdSet) → Rises (idsFrom from m)
-unfolding idsFrom Rising
+pub ids-rise : (from : ℕ) (m : IdSet) → Rises (markedIds from m)
+unfolding markedIds Rising
 ids-rise from [] = tt
 ids-rise from (true ∷ m) = (ids-after from (suc from) m (omega arith), ids-rise (suc from) m)
 ids-rise from (false ∷ m) = ids-rise (suc from) m
@@ -105,18 +105,18 @@ not-before id ids h = go (member id ids) refl
     go true e = absurd (omega (arith, ltb-true id id (all-member (λ j. ltb id j ≡ true) ids h id e)))
     go false e = refl
 
-ids-from : (k from : ℕ) (m : IdSet) → member (from + k) (idsFrom from m) ≡ has m k
-unfolding idsFrom has member any
+ids-from : (k from : ℕ) (m : IdSet) → member (from + k) (markedIds from m) ≡ has m k
+unfolding markedIds has member any
 ids-from k from [] = refl
 ids-from zero from (true ∷ m) = rw (eq-eqb (from + 0) from (omega arith))
-ids-from zero from (false ∷ m) = not-before (from + 0) (idsFrom (suc from) m) (ids-after (from + 0) (suc from) m (omega arith))
+ids-from zero from (false ∷ m) = not-before (from + 0) (markedIds (suc from) m) (ids-after (from + 0) (suc from) m (omega arith))
 ids-from (suc k) from (true ∷ m) =
     let n : from + suc k ≡ suc from + k = omega arith in
     rw (ne-eqb (from + suc k) from (λ e. omega arith), n) (ids-from k (suc from) m)
 ids-from (suc k) from (false ∷ m) = let n : from + suc k ≡ suc from + k = omega arith in rw n (ids-from k (suc from) m)
 
-pub ids-has : (id : ℕ) (m : IdSet) → member id (idsFrom 0 m) ≡ has m id
-ids-has id m = subst (λ j. member j (idsFrom 0 m) ≡ has m id) (omega arith) (ids-from id 0 m)
+pub ids-has : (id : ℕ) (m : IdSet) → member id (markedIds 0 m) ≡ has m id
+ids-has id m = subst (λ j. member j (markedIds 0 m) ≡ has m id) (omega arith) (ids-from id 0 m)
 
 -- ---- of some rising ids, the entry of a name with the highest
 

@@ -19,13 +19,13 @@ use Rattle.rules.specs.Reached.{Reached, member, IdSet, reachedSet}
 -- ---- what stands
 
 -- the ids of a set, rising, from the id of its first mark on
-unfoldable pub idsFrom : ℕ → IdSet → List ℕ
-idsFrom id [] = []
-idsFrom id (m ∷ ms) = cond m (id ∷ idsFrom (suc id) ms) (idsFrom (suc id) ms)
+unfoldable pub markedIds : ℕ → IdSet → List ℕ
+markedIds id [] = []
+markedIds id (m ∷ ms) = cond m (id ∷ markedIds (suc id) ms) (markedIds (suc id) ms)
 
 -- of one name the last of these, if none of the listed declarations has it: the ids of a set, rising, and after them the listed ids
 unfoldable pub standingWith : IdSet → Schema → List Decl
-standingWith m s = survivors nameOf before (listed (s .registry) (idsFrom 0 m ++ s .ids))
+standingWith m s = survivors nameOf before (listed (s .registry) (markedIds 0 m ++ s .ids))
 
 unfoldable pub viewWith : IdSet → Schema → View
 viewWith m s = record { namespace = s .namespace; standing = standingWith m s; registry = s .registry }

@@ -1,30 +1,22 @@
 -- What the searches over the declarations say of those that stand: for a walk over them by rising name. Assumes nothing.
 use mathlib.Core.Path.{_≡_, sym, _∙_}
 use mathlib.Core.Option.{none, some}
-use mathlib.Core.List.{List, _++_}
+use mathlib.Core.List.{List}
 use Prim.Native.Nat.{ℕ}
 use Rattle.maps.specs.Orders.{before}
 use Rattle.maps.specs.Keyed.{lookup}
 use Rattle.maps.specs.Walk.{Rising, following}
 use Rattle.maps.proofs.Names.{byName}
-use Rattle.maps.proofs.Survivors.{rising}
 use Rattle.maps.proofs.Walking.{turn}
-use Rattle.image.specs.Schema.{Name, Decl, Schema}
+use Rattle.image.specs.Schema.{Name, Decl}
 use Rattle.parts.specs.Promise.{DeclHere, declIn}
 use Rattle.parts.specs.declared.Entry.{Entry}
 use Rattle.parts.specs.declared.Entry.the-variants.{Body, Unresolvable}
-use Rattle.rules.specs.Survivors.{listed, nameOf}
-use Rattle.rules.specs.Reached.{IdSet}
-use Rattle.rules.specs.Imports.{idsFrom, standingWith}
+use Rattle.rules.specs.Survivors.{nameOf}
 use Rattle.survivors.specs.Answers.{named, Survives, Follows}
 use Rattle.survivors.proofs.Laws.Nearest.{entry-here}
 -- the declaration of an entry, and its name: where a walk starts, and the bound after a declaration
 pub use Rattle.survivors.proofs.Laws.Nearest.{decl-none, decl-body, named-none, named-body}
-
--- by rising name
-pub standing-rising : (m : IdSet) (x : Schema) → Rising nameOf before (standingWith m x)
-unfolding standingWith
-standing-rising m x = rising nameOf byName (listed (x .registry) (idsFrom 0 m ++ x .ids))
 
 -- ---- the answers, where m are the declarations that stand
 

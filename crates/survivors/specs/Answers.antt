@@ -15,7 +15,7 @@ use Rattle.parts.specs.declared.Shape.{Shape}
 use Rattle.parts.specs.declared.Run.{Run}
 use Rattle.rules.specs.Survivors.{listed, nameOf}
 use Rattle.rules.specs.Reached.{IdSet}
-use Rattle.rules.specs.Imports.{idsFrom}
+use Rattle.rules.specs.Imports.{markedIds}
 use Rattle.survivors.specs.declared.Found.{Found}
 use Rattle.survivors.specs.declared.Found.the-variants as found
 use Rattle.survivors.specs.declared.Ordinal.{Ordinal}
@@ -51,7 +51,7 @@ namesakeIn n (some d) = isSome (lookup nameOf before (d .name) n)
 
 -- whether n has each name of what may stand in an image, with a set of its ids
 unfoldable pub namesCovered : List Decl → List ℕ → IdSet → Bool
-namesCovered n s m = covers nameOf before n (listed (schemaOf s .registry) (idsFrom 0 m ++ schemaOf s .ids))
+namesCovered n s m = covers nameOf before n (listed (schemaOf s .registry) (markedIds 0 m ++ schemaOf s .ids))
 
 -- ---- items
 

@@ -14,7 +14,7 @@ use Rattle.parts.specs.declared.Entry.{Entry}
 use Rattle.parts.specs.declared.Entry.the-variants.{Unresolvable}
 use Rattle.rules.specs.Survivors.{Registry, standsFor, resolved, listed}
 use Rattle.rules.specs.Reached.{IdSet}
-use Rattle.rules.specs.Imports.{idsFrom}
+use Rattle.rules.specs.Imports.{markedIds}
 use Rattle.survivors.specs.Candidates.{candidatesFrom, candidates, Candidate, present}
 
 module _ (R : Registry) where
@@ -54,14 +54,14 @@ module _ (R : Registry) where
   at-after id (b ∷ m) ids zero h k = absurd (omega arith)
   at-after id (b ∷ m) ids (suc i) h k = at-after (suc id) m ids i (omega arith) (omega arith) ∙ ap (λ j. standsFor R (getD ids j 0)) (omega arith)
 
-  present-from : (id : ℕ) (m : IdSet) (ids : List ℕ) → present (candidatesFrom R id m ids) ≡ listed R (idsFrom id m ++ ids)
-  unfolding candidatesFrom present listed idsFrom resolved
+  present-from : (id : ℕ) (m : IdSet) (ids : List ℕ) → present (candidatesFrom R id m ids) ≡ listed R (markedIds id m ++ ids)
+  unfolding candidatesFrom present listed markedIds resolved
   present-from id [] ids = present-listed ids
   present-from id (true ∷ m) ids = ap (resolved (standsFor R id)) (present-from (suc id) m ids)
   present-from id (false ∷ m) ids = present-from (suc id) m ids
 
 module _ (s : List ℕ) (m : IdSet) where
-  pub present-candidates : present (candidates s m) ≡ listed (schemaOf s .registry) (idsFrom 0 m ++ schemaOf s .ids)
+  pub present-candidates : present (candidates s m) ≡ listed (schemaOf s .registry) (markedIds 0 m ++ schemaOf s .ids)
   unfolding candidates
   present-candidates = present-from (schemaOf s .registry) 0 m (schemaOf s .ids)
 

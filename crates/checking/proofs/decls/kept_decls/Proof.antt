@@ -1,8 +1,9 @@
 -- `checking::decls::kept_decls` meets its contract: a walk over the old declarations. Assumes nothing.
 use Rattle.maps.specs.Compare.{matched}
 use Rattle.rules.specs.Clauses.{declRules}
+use Rattle.rules.proofs.Standing.{standing-rises}
 use Rattle.tally.proofs.Running.{ran-length}
-use Rattle.survivors.proofs.Declarations.{standing-rising, follows-here}
+use Rattle.survivors.proofs.Declarations.{follows-here}
 use Rattle.survivors.proofs.Walks.{declsLeft, decls-less}
 use Rattle.checking.proofs.Turns.{Walked, walk-start, walk-done, walk-room, walk-turn}
 use Rattle.items.specs.Pairs.{contextOf}
@@ -44,20 +45,20 @@ kept-decl-requires c κs =
     let n = c .before .before .before .before in
     let e = c .before .before .at .given .1 in (
       record { searchable = n .before .before .before .before .before .before .before .pre .0; here = follows-here _ _ (n .next-on .ensures) e },
-      walk-room (n .before .loop .inv) (n .next-on .ensures) (standing-rising _ _) e,
+      walk-room (n .before .loop .inv) (n .next-on .ensures) (standing-rises _ _) e,
     )
 
 loop-less : tie.Need-loop-less Inv-loop μ-loop
 loop-less c =
     let a = c .before .before .before .before .before in
-    decls-less _ (standing-rising _ _) _ _ (a .before .before .next-on .ensures) (a .at .given .1)
+    decls-less _ (standing-rises _ _) _ _ (a .before .before .next-on .ensures) (a .at .given .1)
 
 loop-again : tie.Need-loop-again Inv-loop μ-loop
 unfolding keptIn
 loop-again c =
     let a = c .before .before .before .before .before in
     let n = a .before .before in
-    walk-turn (n .before .loop .inv) (n .next-on .ensures) (standing-rising _ _) (a .at .given .1) (c .before .before .kept-decl .ensures)
+    walk-turn (n .before .loop .inv) (n .next-on .ensures) (standing-rises _ _) (a .at .given .1) (c .before .before .kept-decl .ensures)
 
 pub kept-decls-spec : {M : Type 1} → statement M
 kept-decls-spec =

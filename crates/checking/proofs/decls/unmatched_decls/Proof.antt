@@ -1,8 +1,9 @@
 -- `checking::decls::unmatched_decls` meets its contract: nothing is reported if each name stands on the other side, else there is a walk
 -- over the declarations of the side. Assumes nothing.
 use Rattle.maps.specs.Compare.{unmatched}
+use Rattle.rules.proofs.Standing.{standing-rises}
 use Rattle.tally.proofs.Running.{ran-none, ran-length}
-use Rattle.survivors.proofs.Declarations.{standing-rising, follows-here}
+use Rattle.survivors.proofs.Declarations.{follows-here}
 use Rattle.survivors.proofs.Walks.{declsLeft, decls-less}
 use Rattle.checking.proofs.Turns.{Walked, walk-start, walk-done, walk-room, walk-turn}
 use Rattle.checking.proofs.Names.{none-unmatched}
@@ -50,20 +51,20 @@ unmatched-decl-requires c κs =
     let n = c .before .before .before .before in
     let e = c .before .before .at .given .1 in (
       record { searchable = n .before .before .before .before .before .before .before .before .before .pre .0; here = follows-here _ _ (n .next-on .ensures) e },
-      walk-room (n .before .loop .inv) (n .next-on .ensures) (standing-rising _ _) e,
+      walk-room (n .before .loop .inv) (n .next-on .ensures) (standing-rises _ _) e,
     )
 
 loop-less : tie.Need-loop-less Inv-loop μ-loop
 loop-less c =
     let a = c .before .before .before .before .before in
-    decls-less _ (standing-rising _ _) _ _ (a .before .before .next-on .ensures) (a .at .given .1)
+    decls-less _ (standing-rises _ _) _ _ (a .before .before .next-on .ensures) (a .at .given .1)
 
 loop-again : tie.Need-loop-again Inv-loop μ-loop
 unfolding unmatchedIn
 loop-again c =
     let a = c .before .before .before .before .before in
     let n = a .before .before in
-    walk-turn (n .before .loop .inv) (n .next-on .ensures) (standing-rising _ _) (a .at .given .1) (c .before .before .unmatched-decl .ensures)
+    walk-turn (n .before .loop .inv) (n .next-on .ensures) (standing-rises _ _) (a .at .given .1) (c .before .before .unmatched-decl .ensures)
 
 pub unmatched-decls-spec : {M : Type 1} → statement M
 unmatched-decls-spec =
