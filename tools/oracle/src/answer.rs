@@ -1,11 +1,13 @@
 //! The answer to two images: the verdict by selector, and the report.
 
-use crate::changes::{Bump, CompatResult, COUNTS};
+use crate::changes::{Bump, Comparison, CompatResult, COUNTS};
 use crate::limits::REPORT_BYTES;
 use crate::reader::read_image;
-use crate::refusal::{Refusal, ALIAS_PAIR, FULL};
+use crate::refusal::{Read, Refusal, ALIAS_PAIR, FULL};
 use crate::schema::Schema;
-use crate::{model, vexil};
+use crate::writer::image;
+use crate::{imports, model, vexil};
+use std::borrow::Cow;
 
 #[derive(Clone, Copy, PartialEq, Debug)]
 pub enum Side {
@@ -30,7 +32,18 @@ pub struct Answer {
 pub const SELECTORS: u64 = 5 + COUNTS as u64;
 
 impl Answer {
-    fn refused(number: u8, side: Side) -> Answer {
+    pub fn of(comparison: &Comparison) -> Answer {
+        Answer {
+            number: 0,
+            side: Side::None,
+            bump: comparison.bump,
+            result: comparison.result,
+            counts: comparison.counts(),
+            report: comparison.report().into_bytes(),
+        }
+    }
+
+    pub fn refused(number: u8, side: Side) -> Answer {
         Answer {
             number,
             side,
@@ -74,7 +87,31 @@ impl Answer {
     }
 }
 
-/// Both images as read, and the answer to them.
+/// A verdict on two images: that of 01, or the one with imports.
+#[derive(Clone, Copy, PartialEq, Debug)]
+pub enum Verdict {
+    Plain,
+    Imports,
+}
+
+impl Verdict {
+    fn standing(self) -> model::Standing {
+        match self {
+            Verdict::Plain => model::surviving_declarations,
+            Verdict::Imports => imports::standing,
+        }
+    }
+
+    /// A schema whose survivors are what stands in this one, for `check`.
+    fn for_check(self, schema: &Schema) -> Cow<'_, Schema> {
+        match self {
+            Verdict::Plain => Cow::Borrowed(schema),
+            Verdict::Imports => Cow::Owned(imports::longer(schema)),
+        }
+    }
+}
+
+/// Both images as read, and the answer of 01 to them.
 pub struct Pair {
     pub old: Result<Schema, Refusal>,
     pub new: Result<Schema, Refusal>,
@@ -85,17 +122,35 @@ pub struct Pair {
 /// or else the program has stopped.
 pub fn judge(old_image: &[u8], new_image: &[u8]) -> Pair {
     let (old, new) = (read_image(old_image), read_image(new_image));
-    let answer = match (&old, &new) {
+    let answer = answer(Verdict::Plain, &old, &new);
+    Pair { old, new, answer }
+}
+
+impl Pair {
+    /// The answer with imports, judged as that of 01 is.
+    pub fn imports(&self) -> Answer {
+        answer(Verdict::Imports, &self.old, &self.new)
+    }
+
+    pub fn by(&self, verdict: Verdict) -> Answer {
+        match verdict {
+            Verdict::Plain => self.answer.clone(),
+            Verdict::Imports => self.imports(),
+        }
+    }
+}
+
+fn answer(verdict: Verdict, old: &Read<Schema>, new: &Read<Schema>) -> Answer {
+    match (old, new) {
         (Err(refusal), _) => Answer::refused(refusal.number, Side::Old),
         (_, Err(refusal)) => Answer::refused(refusal.number, Side::New),
-        (Ok(old), Ok(new)) => compare(old, new).unwrap_or_else(|difference| {
+        (Ok(old), Ok(new)) => compare(verdict, old, new).unwrap_or_else(|difference| {
             eprintln!("the model and the real check differ\n{difference}");
-            eprintln!("old image: {}", hexadecimal(old_image));
-            eprintln!("new image: {}", hexadecimal(new_image));
+            eprintln!("old image: {}", hexadecimal(&image(old)));
+            eprintln!("new image: {}", hexadecimal(&image(new)));
             std::process::exit(1)
         }),
-    };
-    Pair { old, new, answer }
+    }
 }
 
 fn hexadecimal(bytes: &[u8]) -> String {
@@ -103,20 +158,15 @@ fn hexadecimal(bytes: &[u8]) -> String {
 }
 
 /// The answer, or how the model differs from `check`.
-fn compare(old: &Schema, new: &Schema) -> Result<Answer, String> {
-    if model::alias_pair(old, new) {
+fn compare(verdict: Verdict, old: &Schema, new: &Schema) -> Result<Answer, String> {
+    let standing = verdict.standing();
+    if model::alias_pair(old, new, standing) {
         return Ok(Answer::refused(ALIAS_PAIR, Side::Both));
     }
-    let comparison = model::check(old, new);
-    if let Some(difference) = vexil::difference(old, new, &comparison) {
+    let comparison = model::check(old, new, standing);
+    let [old, new] = [old, new].map(|schema| verdict.for_check(schema));
+    if let Some(difference) = vexil::difference(&old, &new, &comparison) {
         return Err(difference);
     }
-    Ok(Answer {
-        number: 0,
-        side: Side::None,
-        bump: comparison.bump,
-        result: comparison.result,
-        counts: comparison.counts(),
-        report: comparison.report().into_bytes(),
-    })
+    Ok(Answer::of(&comparison))
 }

@@ -1,6 +1,6 @@
 //! The subcommands.
 
-use crate::answer::{judge, Side, SELECTORS};
+use crate::answer::{judge, Answer, Side, Verdict, SELECTORS};
 use crate::changes::CHANGE_KINDS;
 use crate::edits::{damaged, edited, too_deep};
 use crate::limits::IMAGE_BYTES;
@@ -31,14 +31,19 @@ fn read_or_empty(path: &str) -> Vec<u8> {
     read_file(path).unwrap_or_default()
 }
 
-pub fn report(old: &str, new: &str) -> Outcome {
-    let answer = judge(&read_or_empty(old), &read_or_empty(new)).answer;
-    let written = std::io::stdout().write_all(&answer.printed());
+fn answer(verdict: Verdict, old: &str, new: &str) -> Answer {
+    judge(&read_or_empty(old), &read_or_empty(new)).by(verdict)
+}
+
+pub fn report(verdict: Verdict, old: &str, new: &str) -> Outcome {
+    let printed = answer(verdict, old, new).printed();
+    let written = std::io::stdout().write_all(&printed);
     written.map_err(|error| error.to_string())
 }
 
-pub fn verdict(old: &str, new: &str, selector: Option<&str>) -> Outcome {
-    let answer = judge(&read_or_empty(old), &read_or_empty(new)).answer;
+/// Every selector with its value, or one value.
+pub fn verdict(verdict: Verdict, old: &str, new: &str, selector: Option<&str>) -> Outcome {
+    let answer = answer(verdict, old, new);
     match selector {
         Some(text) => println!("{}", answer.select(number(text)?)),
         None => (0..SELECTORS).for_each(|n| println!("{n} {}", answer.select(n))),

@@ -48,7 +48,7 @@ fn eventful(rng: &mut Rng, schema: &Schema) -> usize {
 }
 
 /// Two entries change places and every id follows: no verdict may change.
-fn renumber(rng: &mut Rng, schema: &mut Schema) {
+pub fn renumber(rng: &mut Rng, schema: &mut Schema) {
     let entries = schema.registry.len();
     let (a, b) = (rng.below(entries) as u32, rng.below(entries) as u32);
     schema.registry.swap(a as usize, b as usize);

@@ -10,6 +10,7 @@ mod commands;
 mod coverage;
 mod cursor;
 mod edits;
+mod imports;
 #[cfg(library)]
 mod library;
 mod limits;
@@ -39,10 +40,11 @@ use vexil::{ast, canonical, ir, span};
 #[path = "vexil/absent.rs"]
 mod vexil;
 
+use answer::Verdict;
 use commands::{number, Outcome};
 
-const USAGE: &str = "usage: oracle report OLD NEW
-       oracle verdict OLD NEW [SELECTOR]
+const USAGE: &str = "usage: oracle report [--imports] OLD NEW
+       oracle verdict [--imports] OLD NEW [SELECTOR]
        oracle show IMAGE
        oracle make TEXT IMAGE
        oracle refile IMAGE SEED OUT
@@ -70,9 +72,10 @@ fn main() {
 
 fn run(words: &[&str]) -> Outcome {
     match *words {
-        ["report", old, new] => commands::report(old, new),
-        ["verdict", old, new] => commands::verdict(old, new, None),
-        ["verdict", old, new, selector] => commands::verdict(old, new, Some(selector)),
+        ["report", "--imports", old, new] => commands::report(Verdict::Imports, old, new),
+        ["report", old, new] => commands::report(Verdict::Plain, old, new),
+        ["verdict", "--imports", ref words @ ..] => verdict(Verdict::Imports, words),
+        ["verdict", ref words @ ..] => verdict(Verdict::Plain, words),
         ["show", image] => commands::show(image),
         ["make", text, image] => commands::make(text, image),
         ["refile", image, seed, out] => commands::refile(image, number(seed)?, out),
@@ -92,6 +95,14 @@ fn run(words: &[&str]) -> Outcome {
             number(seconds)?,
             folder,
         ),
+        _ => Err(USAGE.to_string()),
+    }
+}
+
+fn verdict(verdict: Verdict, words: &[&str]) -> Outcome {
+    match *words {
+        [old, new] => commands::verdict(verdict, old, new, None),
+        [old, new, selector] => commands::verdict(verdict, old, new, Some(selector)),
         _ => Err(USAGE.to_string()),
     }
 }

@@ -1,5 +1,7 @@
 //! The clauses of document 01 in its order: names by byte order, ordinals
-//! rising. Written from 01; `vexil` holds it against the real `check`.
+//! rising. Written from 01; `vexil` holds it against the real `check`. Which
+//! declarations are compared is for the caller to say: those of 01 are
+//! `surviving_declarations`.
 
 use crate::changes::{Bump, Change, ChangeKind, Comparison};
 use crate::schema::*;
@@ -9,30 +11,40 @@ use std::collections::BTreeMap;
 use Bump::{Major, Minor, Patch};
 use ChangeKind::*;
 
-pub fn check(old: &Schema, new: &Schema) -> Comparison {
+/// Declarations of a schema by name.
+pub type ByName<'a> = BTreeMap<&'a str, &'a Declaration>;
+
+/// What stands in a schema: the declarations that are compared.
+pub type Standing = for<'a> fn(&'a Schema) -> ByName<'a>;
+
+pub fn check(old: &Schema, new: &Schema, standing: Standing) -> Comparison {
     let mut clauses = Clauses {
         old,
         new,
         changes: Vec::new(),
     };
     clauses.namespace();
-    clauses.declarations();
+    clauses.declarations(&standing(old), &standing(new));
     Comparison::of(clauses.changes)
 }
 
-/// Refusal 11: survivors of one name are generic aliases in both images.
-pub fn alias_pair(old: &Schema, new: &Schema) -> bool {
+/// Refusal 11: what stands under one name are generic aliases in both images.
+pub fn alias_pair(old: &Schema, new: &Schema, standing: Standing) -> bool {
     let alias = |declaration: &Declaration| declaration.kind() == GENERIC_ALIAS;
-    let (old, new) = (surviving_declarations(old), surviving_declarations(new));
+    let (old, new) = (standing(old), standing(new));
     let found = kept(&old, &new).any(|(_, o, n)| alias(o) && alias(n));
     found
 }
 
 /// Of those listed under one name the last stands; unresolvable ids are skipped.
-pub fn surviving_declarations(schema: &Schema) -> BTreeMap<&str, &Declaration> {
+pub fn surviving_declarations(schema: &Schema) -> ByName<'_> {
     let listed = schema.declarations.iter();
-    let resolved = listed.filter_map(|id| schema.get(*id));
-    resolved.map(|d| (d.name.as_str(), d)).collect()
+    by_name(listed.filter_map(|id| schema.get(*id)))
+}
+
+/// Of those with one name the last.
+pub fn by_name<'a>(declarations: impl Iterator<Item = &'a Declaration>) -> ByName<'a> {
+    declarations.map(|d| (d.name.as_str(), d)).collect()
 }
 
 /// Of those with one ordinal or bit the last stands.
@@ -89,18 +101,16 @@ impl Clauses<'_> {
         }
     }
 
-    fn declarations(&mut self) {
-        let old = surviving_declarations(self.old);
-        let new = surviving_declarations(self.new);
-        for (name, declaration) in only(&old, &new) {
+    fn declarations(&mut self, old: &ByName, new: &ByName) {
+        for (name, declaration) in only(old, new) {
             let detail = format!("{} '{name}' was removed", kind_name(declaration));
             self.report((DeclarationRemoved, Major), name, None, detail);
         }
-        for (name, declaration) in only(&new, &old) {
+        for (name, declaration) in only(new, old) {
             let detail = format!("{} '{name}' was added", kind_name(declaration));
             self.report((DeclarationAdded, Minor), name, None, detail);
         }
-        for (name, o, n) in kept(&old, &new) {
+        for (name, o, n) in kept(old, new) {
             self.compare_decls(name, o, n);
         }
     }

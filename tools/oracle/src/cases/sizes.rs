@@ -125,7 +125,8 @@ fn reporting(length: usize) -> (Schema, Schema) {
         schema(vec![enumeration(&name, 0, list)]).in_namespace(&[&"n".repeat(segment)])
     };
     let new = of(0, 1);
-    let measure = |old: &Schema| model::check(old, &new).report().len();
+    let compared = |old: &Schema| model::check(old, &new, model::surviving_declarations);
+    let measure = |old: &Schema| compared(old).report().len();
     let most = (1..).find(|n| measure(&of(*n, 0)) > length);
     let variants = most.expect("some number of variants is too many") - 1;
     let missing = length - measure(&of(variants, 0));

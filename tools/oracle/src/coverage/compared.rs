@@ -5,7 +5,7 @@ use crate::model::{alias_pair, kept, surviving_declarations, survivors};
 use crate::schema::*;
 
 pub fn facts(facts: &mut Facts, old: &Schema, new: &Schema) {
-    if alias_pair(old, new) {
+    if alias_pair(old, new, surviving_declarations) {
         return;
     }
     let same = old.namespace == new.namespace;

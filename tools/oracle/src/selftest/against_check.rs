@@ -29,7 +29,7 @@ fn pair() -> (Schema, Schema) {
 }
 
 fn a_difference_is_seen(tests: &mut Tests, old: &Schema, new: &Schema) {
-    let model = model::check(old, new);
+    let model = model::check(old, new, model::surviving_declarations);
     let mut seen = |name: &str, spoil: &dyn Fn(&mut Comparison)| {
         let mut spoiled = model.clone();
         spoil(&mut spoiled);

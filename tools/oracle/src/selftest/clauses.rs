@@ -3,9 +3,14 @@
 use super::Tests;
 use crate::changes::Comparison;
 use crate::make::*;
-use crate::model::{alias_pair, check};
+use crate::model::{self, alias_pair, surviving_declarations};
 use crate::schema::{Declaration, Field, Schema, Type};
 use crate::types::types_equal;
+
+/// The clauses over what survives.
+fn check(old: &Schema, new: &Schema) -> Comparison {
+    model::check(old, new, surviving_declarations)
+}
 
 fn report(old: Vec<Declaration>, new: Vec<Declaration>) -> String {
     check(&schema(old), &schema(new)).report()
@@ -224,7 +229,7 @@ fn aliases(tests: &mut Tests) {
     let hidden = schema(vec![alias("A"), config("A")]);
     let shown = schema(vec![config("A"), alias("A")]);
     let unlisted = schema(vec![alias("A")]).listing(&[]);
-    let pairs = |old: &Schema, new: &Schema| alias_pair(old, new);
+    let pairs = |old: &Schema, new: &Schema| alias_pair(old, new, surviving_declarations);
     tests.holds("an alias pair", pairs(&one, &shown));
     tests.holds("hidden by a later survivor", !pairs(&one, &hidden));
     tests.holds("hidden on the old side", !pairs(&hidden, &one));

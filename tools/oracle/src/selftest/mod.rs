@@ -5,6 +5,7 @@ mod calls;
 mod clauses;
 #[cfg(vexil)]
 mod exporting;
+mod imports;
 mod listing;
 mod pinned;
 mod reading;
@@ -53,6 +54,7 @@ pub fn run() -> Outcome {
     against_check::run(&mut tests);
     recording::run(&mut tests);
     refiling::run(&mut tests);
+    imports::run(&mut tests);
     pinned::run(&mut tests);
     texts::run(&mut tests);
     samples::run(&mut tests);

@@ -7,7 +7,7 @@ mod refusals;
 use super::Tests;
 use crate::cases;
 use crate::commands::random_pair;
-use crate::model::alias_pair;
+use crate::model::{alias_pair, surviving_declarations};
 use crate::reader::read_image;
 use crate::record::SEED;
 use crate::rng::Rng;
@@ -48,7 +48,7 @@ impl RoundTrips {
         else {
             return;
         };
-        if alias_pair(old, new) {
+        if alias_pair(old, new, surviving_declarations) {
             return;
         }
         self.verdicts += 1;
