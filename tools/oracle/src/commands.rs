@@ -2,7 +2,9 @@
 
 use crate::answer::{judge, Answer, Side, Verdict, SELECTORS};
 use crate::changes::CHANGE_KINDS;
+use crate::coverage::imports;
 use crate::edits::{damaged, edited, too_deep};
+use crate::imports::import_pair;
 use crate::limits::IMAGE_BYTES;
 use crate::listing::listing;
 use crate::random::random_schema;
@@ -11,6 +13,7 @@ use crate::refiling::{refiled, repeat};
 use crate::rng::Rng;
 use crate::text;
 use crate::writer::image;
+use std::collections::BTreeMap;
 use std::fs::File;
 use std::io::{Read, Write};
 
@@ -119,6 +122,29 @@ pub fn random(seed: u64, count: u64) -> Outcome {
     }
     for (kind, count) in CHANGE_KINDS.iter().zip(kinds) {
         println!("{kind:?}: {count}");
+    }
+    Ok(())
+}
+
+/// Pairs made for imports through both verdicts, and how many hold each fact.
+pub fn random_imports(seed: u64, count: u64) -> Outcome {
+    let mut rng = Rng::new(seed);
+    let mut seen: BTreeMap<String, u64> = BTreeMap::new();
+    for _ in 0..count {
+        let (old, new) = import_pair(&mut rng);
+        let pair = judge(&old, &new);
+        let answer = pair.imports();
+        let last = match answer.number {
+            0 => format!("verdict with imports: {:?}", answer.bump),
+            number => format!("refused with imports: {number}"),
+        };
+        for fact in imports::facts(&pair).into_iter().chain([last]) {
+            *seen.entry(fact).or_default() += 1;
+        }
+    }
+    println!("{count} pairs, seed {seed}");
+    for (fact, times) in seen {
+        println!("{times:8}  {fact}");
     }
     Ok(())
 }

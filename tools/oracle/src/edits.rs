@@ -89,7 +89,7 @@ pub fn types_of(declaration: &mut Declaration) -> Vec<&mut Type> {
     }
 }
 
-fn edit_entry(rng: &mut Rng, entry: &mut Option<Declaration>, entries: usize) {
+pub fn edit_entry(rng: &mut Rng, entry: &mut Option<Declaration>, entries: usize) {
     let Some(declaration) = entry else {
         *entry = Some(random_declaration(rng, entries));
         return;
@@ -166,7 +166,7 @@ fn edit_type(rng: &mut Rng, ty: &mut Type, entries: usize) {
     *ty = random_type(rng, entries, 3);
 }
 
-fn pick_mut<'a, T>(rng: &mut Rng, list: &'a mut [T]) -> Option<&'a mut T> {
+pub fn pick_mut<'a, T>(rng: &mut Rng, list: &'a mut [T]) -> Option<&'a mut T> {
     match list.len() {
         0 => None,
         length => Some(&mut list[rng.below(length)]),

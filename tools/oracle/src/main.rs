@@ -51,7 +51,7 @@ const USAGE: &str = "usage: oracle report [--imports] OLD NEW
        oracle list IMAGE
        oracle generate FILE [--seed N]
        oracle verify FILE
-       oracle random SEED COUNT
+       oracle random [--imports] SEED COUNT
        oracle selftest
 built with the library also:
        oracle-library bench FILE
@@ -83,6 +83,9 @@ fn run(words: &[&str]) -> Outcome {
         ["generate", path] => record::generate(path, record::SEED),
         ["generate", path, "--seed", seed] => record::generate(path, number(seed)?),
         ["verify", path] => record::verify(path),
+        ["random", "--imports", seed, count] => {
+            commands::random_imports(number(seed)?, number(count)?)
+        }
         ["random", seed, count] => commands::random(number(seed)?, number(count)?),
         ["selftest"] => selftest::run(),
         #[cfg(all(library, vexil))]

@@ -10,10 +10,12 @@ mod compared;
 mod damaged;
 mod edges;
 mod held;
+pub mod imports;
 mod pinned;
 pub mod refiled;
 mod refused;
 mod typed;
+mod ways;
 
 use crate::answer::Pair;
 use crate::cases::Case;

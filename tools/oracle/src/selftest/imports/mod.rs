@@ -2,7 +2,9 @@
 //! the ids and texts written out.
 
 mod answers;
+mod pairs;
 mod reach;
+mod wrong;
 
 use super::Tests;
 use crate::answer::{judge, Answer};
@@ -13,6 +15,7 @@ use crate::writer::image;
 pub fn run(tests: &mut Tests) {
     reach::run(tests);
     answers::run(tests);
+    pairs::run(tests);
 }
 
 /// Lists entry 0 only.

@@ -105,7 +105,7 @@ fn names(tests: &mut Tests) {
 
 /// The least set by iteration: what is named from the survivors and from the set
 /// before, until nothing comes.
-fn iterated(schema: &Schema) -> BTreeSet<u32> {
+pub fn iterated(schema: &Schema) -> BTreeSet<u32> {
     let survivors = surviving_declarations(schema);
     let mut set = BTreeSet::new();
     loop {
