@@ -1,5 +1,6 @@
-// Replays the recorded answers: each image of each pair is read and listed, the verdict, its values and the report are asked for, and what
-// is answered is compared with what is recorded.
+// Replays the recorded answers: each image of each pair is read and listed, the verdict, its values and the report are asked for, those of
+// 01 and those with imports, and what is answered is compared with what is recorded.
+mod calls;
 mod counting;
 mod file;
 mod listings;
@@ -7,6 +8,7 @@ mod selectors;
 mod texts;
 mod values;
 
+use calls::Verdict;
 use counting::Step;
 use counting::Tally;
 use counting::compared;
@@ -14,7 +16,7 @@ use counting::more;
 use file::Number;
 use libc::STDOUT_FILENO;
 use reader::Acceptance;
-use texts::Call;
+use values::ROOM;
 
 // The largest image that the file may hold.
 const IMAGE_ROOM: usize = 40960;
@@ -39,32 +41,74 @@ fn replay_image(fd: i32, bytes: &[u8], t: Tally) -> Step {
     Step::Next(compared(t, number_of(bytes) as u64, recorded as u64))
 }
 
-// The report of a pair that has one, beside the recorded one.
-fn replay_text(fd: i32, old: &[u8], new: &[u8], length: usize, t: Tally) -> Step {
-    let mut bytes = texts::blank();
-    if !file::fill(fd, &mut bytes, length) {
-        return Step::Broken;
+// A recorded answer: number, side, bump, result, length, counts and report; false where the file ends before.
+fn read_answer(fd: i32, counts: usize, recorded: &mut [u64], bytes: &mut [u8]) -> bool {
+    if !selectors::read_bytes(fd, recorded) {
+        return false;
     }
-    Step::Next(texts::replay_text(Call::Report, old, new, length, &mut bytes, t))
+    if !selectors::read_numbers(fd, counts, recorded) {
+        return false;
+    }
+    if values::kept(recorded, 0) != 0 {
+        return true;
+    }
+    file::fill(fd, bytes, values::kept(recorded, 4) as usize)
 }
 
-// The answer of a pair: number, side, bump, result, length, counts and report.
-fn replay_answer(fd: i32, counts: usize, old: &[u8], new: &[u8], t: Tally) -> Step {
-    let mut recorded = values::none();
-    let step = selectors::replay_bytes(fd, old, new, &mut recorded, t);
-    let Step::Next(after) = step else {
-        return step;
-    };
-    let step = selectors::replay_numbers(fd, old, new, counts, &mut recorded, after);
-    let Step::Next(after) = step else {
-        return step;
-    };
+// What is answered by a verdict beside what is recorded of it: all selectors, the values and the report.
+fn replay_answer(
+    of: Verdict,
+    old: &[u8],
+    new: &[u8],
+    recorded: [u64; ROOM],
+    counts: usize,
+    bytes: &mut [u8],
+    t: Tally,
+) -> Tally {
     let all = std::num::wrapping_add_usize(5, counts);
-    let next = values::replay_values(old, new, recorded, all, after);
+    let next = selectors::replay_selectors(of, old, new, &recorded, all, t);
+    let next = values::replay_values(of, old, new, recorded, all, next);
+    let call = texts::report_of(of);
     if recorded[0] != 0 {
-        return Step::Next(texts::replay_refused(Call::Report, old, new, next));
+        return texts::replay_refused(call, old, new, next);
     }
-    replay_text(fd, old, new, recorded[4] as usize, next)
+    texts::replay_text(call, old, new, recorded[4] as usize, bytes, next)
+}
+
+// The answer with imports, where it follows that of 01.
+fn replay_other(fd: i32, counts: usize, old: &[u8], new: &[u8], t: Tally) -> Step {
+    let mut recorded = values::none();
+    let mut bytes = texts::blank();
+    if !read_answer(fd, counts, &mut recorded, &mut bytes) {
+        return Step::Broken;
+    }
+    Step::Next(replay_answer(Verdict::Imports, old, new, recorded, counts, &mut bytes, t))
+}
+
+// The answer of 01, and then the one with imports: the same, or another.
+fn replay_answers(fd: i32, counts: usize, old: &[u8], new: &[u8], t: Tally) -> Step {
+    let mut recorded = values::none();
+    let mut bytes = texts::blank();
+    if !read_answer(fd, counts, &mut recorded, &mut bytes) {
+        return Step::Broken;
+    }
+    let next = replay_answer(Verdict::Plain, old, new, recorded, counts, &mut bytes, t);
+    let mark = file::read_u8(fd);
+    let Number::Is(follows) = mark else {
+        return Step::Broken;
+    };
+    if follows != 0 {
+        return replay_other(fd, counts, old, new, next);
+    }
+    Step::Next(replay_answer(
+        Verdict::Imports,
+        old,
+        new,
+        recorded,
+        counts,
+        &mut bytes,
+        next,
+    ))
 }
 
 // Both images of a pair: the reader's numbers, and then the listings.
@@ -84,13 +128,13 @@ fn replay_each(fd: i32, old: &[u8], new: &[u8], t: Tally) -> Step {
     listings::replay_listing(fd, new, number_of(new), after)
 }
 
-// Each image of a pair beside what is recorded of it, and then their answer.
+// Each image of a pair beside what is recorded of it, and then their answers.
 fn replay_images(fd: i32, counts: usize, old: &[u8], new: &[u8], t: Tally) -> Step {
     let step = replay_each(fd, old, new, t);
     let Step::Next(after) = step else {
         return step;
     };
-    replay_answer(fd, counts, old, new, after)
+    replay_answers(fd, counts, old, new, after)
 }
 
 // An image of the file: so many bytes at the start of a buffer.
@@ -120,7 +164,7 @@ fn replay_recorded(fd: i32, counts: usize, t: Tally) -> Step {
     replay_images(fd, counts, file::first(&old, m), file::first(&new, n), t)
 }
 
-// One pair: its name, its images, its answer.
+// One pair: its name, its images, its answers.
 fn replay_pair(fd: i32, counts: usize, t: Tally) -> Step {
     let size = file::read_u8(fd);
     let Number::Is(n) = size else {
@@ -180,7 +224,7 @@ fn replay_file(fd: i32) -> Step {
     if !file::fill(fd, &mut magic, 8) {
         return Step::Broken;
     }
-    if !check::same(&magic, b"VEXANSW2") {
+    if !check::same(&magic, b"VEXANSW3") {
         return Step::Broken;
     }
     let first = file::read_u32(fd);

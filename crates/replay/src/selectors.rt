@@ -1,73 +1,74 @@
-// The verdict call beside a pair's recorded answer: every selector, and some beyond them. The recorded values are kept for the values call.
-use crate::counting::Step;
+// The values of a recorded answer, read from the file, and the verdict call beside them: every selector, and some beyond them.
+use crate::calls;
+use crate::calls::Verdict;
 use crate::counting::Tally;
 use crate::counting::compared;
 use crate::counting::more;
 use crate::file;
 use crate::file::Number;
 use crate::values::keep;
+use crate::values::kept;
 
-// One selector beside the recorded value.
-fn replay_value(old: &[u8], new: &[u8], selector: u64, recorded: usize, t: Tally) -> Tally {
-    let got = vexil_compat::vexil_compat_verdict(old, new, selector);
-    compared(t, got, recorded as u64)
-}
-
-// A value of the file, of one byte.
-fn replay_byte(
-    fd: i32,
-    old: &[u8],
-    new: &[u8],
-    selector: u64,
-    values: &mut [u64],
-    t: Tally,
-) -> Step {
-    let byte = file::read_u8(fd);
-    let Number::Is(recorded) = byte else {
-        return Step::Broken;
-    };
-    keep(values, selector, recorded);
-    Step::Next(replay_value(old, new, selector, recorded, t))
-}
-
-// The number, the side, the bump and the result.
-pub fn replay_bytes(fd: i32, old: &[u8], new: &[u8], values: &mut [u64], t: Tally) -> Step {
-    let mut next = t;
+// The number, the side, the bump and the result, of a byte each; false where the file ends before.
+pub fn read_bytes(fd: i32, values: &mut [u64]) -> bool {
     let mut selector: u64 = 0;
     while selector < 4 {
-        let step = replay_byte(fd, old, new, selector, values, next);
-        let Step::Next(after) = step else {
-            return step;
+        let byte = file::read_u8(fd);
+        let Number::Is(recorded) = byte else {
+            return false;
         };
-        next = after;
+        keep(values, selector, recorded);
         selector += 1;
     }
-    Step::Next(next)
+    true
 }
 
-// The length and the counts, and then two selectors beyond them and a huge one, which give 0.
-pub fn replay_numbers(
-    fd: i32,
-    old: &[u8],
-    new: &[u8],
-    counts: usize,
-    values: &mut [u64],
-    t: Tally,
-) -> Step {
-    let mut next = t;
+// The length and the counts; false where the file ends before.
+pub fn read_numbers(fd: i32, counts: usize, values: &mut [u64]) -> bool {
     let mut selector: u64 = 4;
     let mut left = std::num::wrapping_add_usize(counts, 1);
     while 0 < left {
         let count = file::read_u32(fd);
         let Number::Is(recorded) = count else {
-            return Step::Broken;
+            return false;
         };
         keep(values, selector, recorded);
-        next = replay_value(old, new, selector, recorded, next);
         selector = more(selector);
         left -= 1;
     }
-    let next = replay_value(old, new, selector, 0, next);
-    let next = replay_value(old, new, more(selector), 0, next);
-    Step::Next(replay_value(old, new, 18446744073709551615, 0, next))
+    true
+}
+
+// One selector beside a value.
+fn replay_value(
+    of: Verdict,
+    old: &[u8],
+    new: &[u8],
+    selector: u64,
+    recorded: u64,
+    t: Tally,
+) -> Tally {
+    compared(t, calls::value(of, old, new, selector), recorded)
+}
+
+// So many selectors beside the recorded values, and then two beyond them and a huge one, which give 0.
+pub fn replay_selectors(
+    of: Verdict,
+    old: &[u8],
+    new: &[u8],
+    recorded: &[u64],
+    all: usize,
+    t: Tally,
+) -> Tally {
+    let mut next = t;
+    let mut selector: u64 = 0;
+    let mut left = all;
+    while 0 < left {
+        next = replay_value(of, old, new, selector, kept(recorded, selector), next);
+        selector = more(selector);
+        left -= 1;
+    }
+    let next = replay_value(of, old, new, selector, 0, next);
+    let next = replay_value(of, old, new, more(selector), 0, next);
+    replay_value(of, old, new, 18446744073709551615, 0, next)
 }

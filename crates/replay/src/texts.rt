@@ -1,4 +1,6 @@
 // A call that writes into a buffer, beside what is recorded of it, with buffers of several lengths.
+use crate::calls;
+use crate::calls::Verdict;
 use crate::counting::Tally;
 use crate::counting::falsified;
 use crate::counting::falsifies;
@@ -17,15 +19,25 @@ pub fn blank() -> [u8; ROOM] {
     [BLANK; ROOM]
 }
 
-// What is asked for: the report of two images, or the contents listing of the old one.
+// What is asked for: a report of two images, or the contents listing of the old one.
 pub enum Call {
     Report,
+    ImportsReport,
     Listing,
+}
+
+// The report of a verdict.
+pub fn report_of(of: Verdict) -> Call {
+    match of {
+        Verdict::Plain => Call::Report,
+        Verdict::Imports => Call::ImportsReport,
+    }
 }
 
 fn called(call: Call, old: &[u8], new: &[u8], out: &mut [u8]) -> u64 {
     match call {
-        Call::Report => vexil_compat::vexil_compat_report(old, new, out),
+        Call::Report => calls::report(Verdict::Plain, old, new, out),
+        Call::ImportsReport => calls::report(Verdict::Imports, old, new, out),
         Call::Listing => vexil_compat::vexil_compat_listing(old, out),
     }
 }
@@ -53,7 +65,14 @@ fn set(bytes: &mut [u8], at: usize, byte: u8) {
     }
 }
 
-// Answers with a false length, a false byte of the text and a false byte past it, each of which must be told.
+fn first(bytes: &[u8]) -> u8 {
+    if 0 < bytes.len() {
+        return bytes[0];
+    }
+    BLANK
+}
+
+// Answers with a false length, a false byte of the text and a false byte past it, each of which must be told. `bytes` stays as it is.
 fn replay_false(
     call: Call,
     old: &[u8],
@@ -68,8 +87,11 @@ fn replay_false(
     set(bytes, length, 1);
     let next = falsified(next, differs(call, old, new, room, length, bytes));
     set(bytes, length, BLANK);
+    let byte = first(bytes);
     set(bytes, 0, 1);
-    falsified(next, differs(call, old, new, room, length, bytes))
+    let next = falsified(next, differs(call, old, new, room, length, bytes));
+    set(bytes, 0, byte);
+    next
 }
 
 // Lent so many bytes, the call refuses: 0, and the buffer as it was.

@@ -1,12 +1,12 @@
 //! The file of recorded answers: written, and read strictly. README.md gives its
 //! form.
 
-use crate::answer::{Pair, SELECTORS};
+use crate::answer::{Answer, Pair, SELECTORS};
 use crate::changes::COUNTS;
 use crate::listing::listing;
 use std::collections::BTreeSet;
 
-const MAGIC: &[u8; 8] = b"VEXANSW2";
+const MAGIC: &[u8; 8] = b"VEXANSW3";
 
 /// A pair with its answer as the file holds it.
 #[derive(Clone, PartialEq, Debug)]
@@ -18,15 +18,45 @@ pub struct Recorded {
     pub readings: [u8; 2],
     /// The contents listing of each image; empty if it is refused.
     pub listings: [Vec<u8>; 2],
+    /// The answer of 01, and the one with imports.
+    pub answers: [Answered; 2],
+}
+
+/// An answer as the file holds it.
+#[derive(Clone, PartialEq, Debug)]
+pub struct Answered {
     /// By selector.
     pub verdict: Vec<u64>,
     /// With number 0 only.
     pub report: Vec<u8>,
 }
 
+impl Answered {
+    fn of(answer: &Answer) -> Answered {
+        Answered {
+            verdict: (0..SELECTORS).map(|n| answer.select(n)).collect(),
+            report: answer.report.clone(),
+        }
+    }
+
+    fn bytes(&self) -> Vec<u8> {
+        let mut bytes: Vec<u8> = self.verdict[..4].iter().map(|n| *n as u8).collect();
+        bytes.extend(self.verdict[4..].iter().flat_map(|n| number(*n as usize)));
+        bytes.extend(&self.report);
+        bytes
+    }
+}
+
+/// Whether the answer with imports is the one of 01, or follows it.
+const SAME: u8 = 0;
+const FOLLOWS: u8 = 1;
+
+fn number(n: usize) -> [u8; 4] {
+    (n as u32).to_le_bytes()
+}
+
 impl Recorded {
     pub fn of(name: &str, old: &[u8], new: &[u8], pair: &Pair) -> Recorded {
-        let answer = &pair.answer;
         Recorded {
             name: name.to_string(),
             old: old.to_vec(),
@@ -38,8 +68,7 @@ impl Recorded {
                     .as_ref()
                     .map_or(Vec::new(), |schema| listing(schema).into_bytes())
             }),
-            verdict: (0..SELECTORS).map(|n| answer.select(n)).collect(),
-            report: answer.report.clone(),
+            answers: [&pair.answer, &pair.imports()].map(Answered::of),
         }
     }
 }
@@ -50,14 +79,18 @@ fn largest(list: &[Recorded]) -> [usize; 4] {
     [
         most(|pair| pair.name.len()),
         most(|pair| pair.old.len().max(pair.new.len())),
-        most(|pair| pair.report.len()),
+        most(|pair| {
+            pair.answers[0]
+                .report
+                .len()
+                .max(pair.answers[1].report.len())
+        }),
         most(|pair| pair.listings[0].len().max(pair.listings[1].len())),
     ]
 }
 
 pub fn write(list: &[Recorded]) -> Vec<u8> {
     let mut file = MAGIC.to_vec();
-    let number = |n: usize| (n as u32).to_le_bytes();
     file.extend(number(list.len()));
     file.extend(number(COUNTS));
     file.extend(largest(list).iter().flat_map(|n| number(*n)));
@@ -73,9 +106,15 @@ pub fn write(list: &[Recorded]) -> Vec<u8> {
             file.extend(number(listing.len()));
             file.extend(listing);
         }
-        file.extend(pair.verdict[..4].iter().map(|n| *n as u8));
-        file.extend(pair.verdict[4..].iter().flat_map(|n| number(*n as usize)));
-        file.extend(&pair.report);
+        let [plain, imports] = &pair.answers;
+        file.extend(plain.bytes());
+        match plain == imports {
+            true => file.push(SAME),
+            false => {
+                file.push(FOLLOWS);
+                file.extend(imports.bytes());
+            }
+        }
     }
     file
 }
@@ -116,6 +155,27 @@ impl<'a> File<'a> {
         let (old, new) = (self.bytes()?, self.bytes()?);
         let readings = [self.u8()?, self.u8()?];
         let listings = [self.bytes()?, self.bytes()?];
+        let plain = self.answered()?;
+        let mark = self.u8()?;
+        let imports = match mark {
+            SAME => plain.clone(),
+            FOLLOWS => self.answered()?,
+            mark => return Err(format!("no mark of an answer: {mark}")),
+        };
+        if plain == imports && mark == FOLLOWS {
+            return Err("one answer stands twice".to_string());
+        }
+        Ok(Recorded {
+            name: name.iter().map(|b| char::from(*b)).collect(),
+            old,
+            new,
+            readings,
+            listings,
+            answers: [plain, imports],
+        })
+    }
+
+    fn answered(&mut self) -> Result<Answered, String> {
         let mut verdict = Vec::new();
         for selector in 0..SELECTORS {
             verdict.push(match selector {
@@ -127,15 +187,7 @@ impl<'a> File<'a> {
             0 => self.take(verdict[4] as usize)?.to_vec(),
             _ => Vec::new(),
         };
-        Ok(Recorded {
-            name: name.iter().map(|b| char::from(*b)).collect(),
-            old,
-            new,
-            readings,
-            listings,
-            verdict,
-            report,
-        })
+        Ok(Answered { verdict, report })
     }
 }
 
@@ -143,7 +195,7 @@ impl<'a> File<'a> {
 pub fn read(bytes: &[u8]) -> Result<Vec<Recorded>, String> {
     let mut file = File(bytes);
     if file.take(MAGIC.len())? != MAGIC {
-        return Err("the file does not start with VEXANSW2".to_string());
+        return Err("the file does not start with VEXANSW3".to_string());
     }
     let pairs = file.u32()?;
     let counts = file.u32()?;

@@ -1,7 +1,7 @@
 //! Making the recorded answers, and running them again.
 
 use crate::answer::judge;
-use crate::answers::{self, Recorded};
+use crate::answers::{self, Answered, Recorded};
 use crate::cases;
 use crate::commands::Outcome;
 use crate::coverage::Coverage;
@@ -29,6 +29,10 @@ pub fn generate(path: &str, seed: u64) -> Outcome {
     }
     let file = answers::write(&list);
     std::fs::write(path, &file).map_err(|error| format!("{path}: {error}"))?;
+    let other = list
+        .iter()
+        .filter(|pair| pair.answers[0] != pair.answers[1]);
+    println!("{} pairs with another answer with imports", other.count());
     println!("{} pairs, {} bytes, seed {seed}", list.len(), file.len());
     Ok(())
 }
@@ -55,12 +59,7 @@ pub fn verify(path: &str) -> Outcome {
 pub fn again(recorded: &Recorded) -> Option<String> {
     let pair = judge(&recorded.old, &recorded.new);
     let found = Recorded::of(&recorded.name, &recorded.old, &recorded.new, &pair);
-    let verdicts = recorded.verdict.iter().zip(&found.verdict);
-    let mut parts: Vec<String> = verdicts
-        .enumerate()
-        .filter(|(_, (recorded, found))| recorded != found)
-        .map(|(n, (recorded, found))| format!("selector {n} recorded {recorded}, found {found}"))
-        .collect();
+    let mut parts = Vec::new();
     if recorded.readings != found.readings {
         let (recorded, found) = (recorded.readings, found.readings);
         parts.push(format!("readings recorded {recorded:?}, found {found:?}"));
@@ -68,8 +67,23 @@ pub fn again(recorded: &Recorded) -> Option<String> {
     if recorded.listings != found.listings {
         parts.push("the listings differ".to_string());
     }
+    let answers = recorded.answers.iter().zip(&found.answers);
+    for (which, (recorded, found)) in ["", "with imports, "].iter().zip(answers) {
+        let differences = differences(recorded, found).into_iter();
+        parts.extend(differences.map(|difference| format!("{which}{difference}")));
+    }
+    (!parts.is_empty()).then(|| parts.join("; "))
+}
+
+fn differences(recorded: &Answered, found: &Answered) -> Vec<String> {
+    let verdicts = recorded.verdict.iter().zip(&found.verdict);
+    let mut parts: Vec<String> = verdicts
+        .enumerate()
+        .filter(|(_, (recorded, found))| recorded != found)
+        .map(|(n, (recorded, found))| format!("selector {n} recorded {recorded}, found {found}"))
+        .collect();
     if recorded.report != found.report {
         parts.push("the report differs".to_string());
     }
-    (!parts.is_empty()).then(|| parts.join("; "))
+    parts
 }

@@ -9,6 +9,7 @@ mod encodings;
 mod faults;
 mod front;
 mod ids;
+mod imports;
 mod kinds;
 mod marks;
 mod mixed;
@@ -64,6 +65,7 @@ pub fn all(seed: u64) -> Vec<Case> {
     randoms::add(&mut cases, &mut rng);
     refiled::add(&mut cases, seed);
     pinned::add(&mut cases);
+    imports::add(&mut cases, seed);
     cases.list
 }
 

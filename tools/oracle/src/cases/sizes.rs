@@ -118,7 +118,7 @@ fn full_images(cases: &mut Cases) {
 
 /// Variants of a long-named enum are gone, and a namespace whose length makes up
 /// what is missing to the report's length.
-fn reporting(length: usize) -> (Schema, Schema) {
+pub fn reporting(length: usize) -> (Schema, Schema) {
     let name = "E".repeat(150);
     let of = |variants: u32, segment: usize| {
         let list = (0..variants).map(|n| item(n, "v")).collect();

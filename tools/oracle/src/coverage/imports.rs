@@ -2,6 +2,7 @@
 //! with imports differs from that of 01.
 
 use super::ways::{all_ways, ways};
+use super::Rows;
 use crate::answer::{Answer, Pair};
 use crate::changes::{ChangeKind, CHANGE_KINDS, NEVER};
 use crate::imports::standing;
@@ -134,4 +135,9 @@ pub fn all_facts() -> Vec<String> {
 /// What can never be: what survives stands, so that 01's pair of aliases is one here.
 pub fn never() -> &'static str {
     ONLY_PLAIN
+}
+
+pub fn rows(rows: &mut Rows) {
+    all_facts().into_iter().for_each(|fact| rows.one(fact));
+    rows.never(never());
 }

@@ -103,6 +103,7 @@ impl Coverage {
         }
         self.neighbours(&mut facts, case, pair);
         self.filed.facts(&mut facts, pair);
+        facts.0.extend(imports::facts(pair));
         for fact in facts.0 {
             *self.seen.entry(fact).or_default() += 1;
         }
@@ -133,6 +134,7 @@ impl Coverage {
         typed::rows(&mut rows);
         refiled::rows(&mut rows);
         pinned::rows(&mut rows);
+        imports::rows(&mut rows);
         for fact in ["verdicts both ways", "verdicts along a chain"] {
             rows.one(fact);
         }

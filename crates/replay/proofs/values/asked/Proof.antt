@@ -8,14 +8,14 @@ use Rattle.replay.proofs.values.asked.Tie as tie
 returns : tie.Need-returns
 returns c = search needs
 
-slice-relend-prefix-vexil-compat-values : tie.Need-slice-relend-prefix-vexil-compat-values
-slice-relend-prefix-vexil-compat-values c = search needs
+slice-relend-prefix-all-values : tie.Need-slice-relend-prefix-all-values
+slice-relend-prefix-all-values c = search needs
 
-slice-aggregate-vexil-compat-values : tie.Need-slice-aggregate-vexil-compat-values
-slice-aggregate-vexil-compat-values c = simp length-take (omega arith)
+slice-aggregate-all-values : tie.Need-slice-aggregate-all-values
+slice-aggregate-all-values c = simp length-take (omega arith)
 
-vexil-compat-values-requires : tie.Need-vexil-compat-values-requires
-vexil-compat-values-requires c κs = search needs
+all-values-requires : tie.Need-all-values-requires
+all-values-requires c κs = search needs
 
 same-length : tie.Need-same-length
 same-length c = search needs
@@ -28,8 +28,8 @@ asked-spec =
     tie.close
     (tie.spec
     returns
-    slice-relend-prefix-vexil-compat-values
-    slice-aggregate-vexil-compat-values
-    vexil-compat-values-requires
+    slice-relend-prefix-all-values
+    slice-aggregate-all-values
+    all-values-requires
     same-length
     returns-2)

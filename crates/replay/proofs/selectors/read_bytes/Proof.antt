@@ -1,26 +1,26 @@
--- `replay::selectors::replay_bytes` is safe and ends: the selector rises to 4; the buffer keeps its length. Assumes nothing.
+-- `replay::selectors::read_bytes` is safe and ends: the selector rises to 4; the buffer keeps its length. Assumes nothing.
 use mathlib.Core.Path.{_≡_, refl}
 use borrow.Author.Needs.{needs}
 use Prim.Native.Nat.{_-_}
 use native.Mathlib.Omega.{arith}
 use lib.ListN.{length}
-use Rattle.replay.proofs.selectors.replay_bytes.Statement.{statement}
-use Rattle.replay.proofs.selectors.replay_bytes.Tie as tie
+use Rattle.replay.proofs.selectors.read_bytes.Statement.{statement}
+use Rattle.replay.proofs.selectors.read_bytes.Tie as tie
 
 abbrev Inv-loop : tie.InvT-loop
-Inv-loop fd old new values₀ next₀ selector₀ values next selector = length values ≡ length values₀
+Inv-loop fd values₀ selector₀ values selector = length values ≡ length values₀
 
 abbrev μ-loop : tie.MeasureT-loop
-μ-loop fd old new values₀ next₀ selector₀ values next selector = 4 - selector
+μ-loop fd values₀ selector₀ values selector = 4 - selector
 
 loop-holds : tie.Need-loop-holds Inv-loop μ-loop
 loop-holds c = refl
 
-replay-byte-requires : tie.Need-replay-byte-requires Inv-loop μ-loop
-replay-byte-requires c κs = tt
+read-u8-requires : tie.Need-read-u8-requires Inv-loop μ-loop
+read-u8-requires c κs = tt
 
-enum-known-step : tie.Need-enum-known-step Inv-loop μ-loop
-enum-known-step c = search needs
+enum-known-byte : tie.Need-enum-known-byte Inv-loop μ-loop
+enum-known-byte c = search needs
 
 enum-told : tie.Need-enum-told Inv-loop μ-loop
 enum-told c = search needs
@@ -30,6 +30,9 @@ same-length c = search needs
 
 returns : tie.Need-returns Inv-loop μ-loop
 returns c = tt
+
+keep-requires : tie.Need-keep-requires Inv-loop μ-loop
+keep-requires c κs = tt
 
 add-selector : tie.Need-add-selector Inv-loop μ-loop
 add-selector c = omega arith
@@ -46,18 +49,19 @@ same-length-2 c = search needs
 returns-2 : tie.Need-returns-2 Inv-loop μ-loop
 returns-2 c = tt
 
-pub replay-bytes-spec : {M : Type 1} → statement M
-replay-bytes-spec =
+pub read-bytes-spec : {M : Type 1} → statement M
+read-bytes-spec =
     tie.close
     (tie.spec
     Inv-loop
     μ-loop
     loop-holds
-    replay-byte-requires
-    enum-known-step
+    read-u8-requires
+    enum-known-byte
     enum-told
     same-length
     returns
+    keep-requires
     add-selector
     loop-less
     loop-again

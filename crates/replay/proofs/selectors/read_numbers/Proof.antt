@@ -1,16 +1,16 @@
--- `replay::selectors::replay_numbers` is safe and ends: fewer numbers are left with each turn; the buffer keeps its length. Assumes nothing.
+-- `replay::selectors::read_numbers` is safe and ends: fewer numbers are left with each turn; the buffer keeps its length. Assumes nothing.
 use mathlib.Core.Path.{_≡_, refl}
 use borrow.Author.Needs.{needs}
 use native.Mathlib.Omega.{arith}
 use lib.ListN.{length}
-use Rattle.replay.proofs.selectors.replay_numbers.Statement.{statement}
-use Rattle.replay.proofs.selectors.replay_numbers.Tie as tie
+use Rattle.replay.proofs.selectors.read_numbers.Statement.{statement}
+use Rattle.replay.proofs.selectors.read_numbers.Tie as tie
 
 abbrev Inv-loop : tie.InvT-loop
-Inv-loop fd old new counts values₀ next₀ selector₀ left₀ values next selector left = length values ≡ length values₀
+Inv-loop fd counts values₀ selector₀ left₀ values selector left = length values ≡ length values₀
 
 abbrev μ-loop : tie.MeasureT-loop
-μ-loop fd old new counts values₀ next₀ selector₀ left₀ values next selector left = left
+μ-loop fd counts values₀ selector₀ left₀ values selector left = left
 
 wrapping-add-usize-requires : tie.Need-wrapping-add-usize-requires Inv-loop μ-loop
 wrapping-add-usize-requires c κs = tt
@@ -36,9 +36,6 @@ returns c = tt
 keep-requires : tie.Need-keep-requires Inv-loop μ-loop
 keep-requires c κs = tt
 
-replay-value-requires : tie.Need-replay-value-requires Inv-loop μ-loop
-replay-value-requires c κs = tt
-
 more-requires : tie.Need-more-requires Inv-loop μ-loop
 more-requires c κs = tt
 
@@ -51,26 +48,14 @@ loop-less c = omega arith
 loop-again : tie.Need-loop-again Inv-loop μ-loop
 loop-again c = search needs
 
-replay-value-requires-2 : tie.Need-replay-value-requires-2 Inv-loop μ-loop
-replay-value-requires-2 c κs = tt
-
-more-requires-2 : tie.Need-more-requires-2 Inv-loop μ-loop
-more-requires-2 c κs = tt
-
-replay-value-requires-3 : tie.Need-replay-value-requires-3 Inv-loop μ-loop
-replay-value-requires-3 c κs = tt
-
-replay-value-requires-4 : tie.Need-replay-value-requires-4 Inv-loop μ-loop
-replay-value-requires-4 c κs = tt
-
 same-length-2 : tie.Need-same-length-2 Inv-loop μ-loop
 same-length-2 c = search needs
 
 returns-2 : tie.Need-returns-2 Inv-loop μ-loop
 returns-2 c = tt
 
-pub replay-numbers-spec : {M : Type 1} → statement M
-replay-numbers-spec =
+pub read-numbers-spec : {M : Type 1} → statement M
+read-numbers-spec =
     tie.close
     (tie.spec
     Inv-loop
@@ -83,14 +68,9 @@ replay-numbers-spec =
     same-length
     returns
     keep-requires
-    replay-value-requires
     more-requires
     sub-left
     loop-less
     loop-again
-    replay-value-requires-2
-    more-requires-2
-    replay-value-requires-3
-    replay-value-requires-4
     same-length-2
     returns-2)
