@@ -56,7 +56,7 @@ const USAGE: &str = "usage: oracle report [--imports] OLD NEW
 built with the library also:
        oracle-library bench FILE
        oracle-library hammer FILE SEED COUNT SECONDS FOLDER
-       oracle-library hammer --refiled SEED COUNT SECONDS FOLDER";
+       oracle-library hammer --refiled | --imports SEED COUNT SECONDS FOLDER";
 
 fn main() {
     let words: Vec<String> = std::env::args().skip(1).collect();
@@ -92,7 +92,7 @@ fn run(words: &[&str]) -> Outcome {
         ["bench", path] => library::bench::run(path),
         #[cfg(library)]
         ["hammer", what, seed, count, seconds, folder] => library::hammer::run(
-            (what != "--refiled").then_some(what),
+            what,
             number(seed)?,
             number(count)?,
             number(seconds)?,

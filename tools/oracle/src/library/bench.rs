@@ -41,7 +41,7 @@ impl Pair {
     /// A pair that gets a verdict, the same from the library as from the Rust.
     fn of(name: String, old: Vec<u8>, new: Vec<u8>) -> Option<Pair> {
         let pair = judge(&old, &new);
-        let found = super::verdict(&old, &new, BUMP);
+        let found = super::PLAIN.verdict(&old, &new, BUMP);
         assert_eq!(found, pair.answer.select(BUMP), "the bump of {name}");
         let (Ok(older), Ok(newer), 0) = (pair.old, pair.new, pair.answer.number) else {
             return None;
@@ -64,7 +64,7 @@ impl Pair {
 const SIDES: [fn(&Pair); 3] = [library_verdict, check_built, check_images];
 
 fn library_verdict(pair: &Pair) {
-    black_box(super::verdict(&pair.old, &pair.new, BUMP));
+    black_box(super::PLAIN.verdict(&pair.old, &pair.new, BUMP));
 }
 
 fn check_built(pair: &Pair) {

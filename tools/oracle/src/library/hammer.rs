@@ -1,12 +1,14 @@
-//! Many pairs through the library against the oracle: every selector, and the
-//! values and the report in buffers of several lengths, all against guard pages. Of
-//! pairs without repeats also copies that are filed anew, which must get the same
-//! answer.
+//! Many pairs through the library against the oracle, by both verdicts: every
+//! selector, and the values and the report in buffers of several lengths, all against
+//! guard pages. Of pairs without repeats also copies that are filed anew, which must
+//! get the same answer by 01.
 
 use super::guarded::Guarded;
-use crate::answer::{judge, Answer, SELECTORS};
+use super::Calls;
+use crate::answer::{judge, Answer, Verdict, SELECTORS};
 use crate::answers;
 use crate::commands::{random_pair, Outcome};
+use crate::imports::import_pair;
 use crate::refiling::filed_pair;
 use crate::rng::Rng;
 use std::fs::File;
@@ -25,8 +27,9 @@ const BEFORE: usize = 64;
 const UNTOUCHED_VALUE: u64 = u64::MAX / 3;
 /// So many places before a values buffer are watched.
 const PLACES_BEFORE: usize = 8;
-/// After so many random pairs one more is run, with its copies.
-const REFILED_ONCE_IN: u64 = 4;
+/// After so many random pairs two more are run: one with its copies, and one made for
+/// imports.
+const MORE_ONCE_IN: u64 = 4;
 
 /// The images that stand for each side of a pair: one, or one and its copies.
 type Sides = [Vec<Vec<u8>>; 2];
@@ -69,7 +72,8 @@ struct Hammer {
 
 impl Hammer {
     /// Judges the first image of each side and holds the library against that
-    /// answer on all pairs; an error says in what it differs.
+    /// answer on all pairs. With imports filing may matter, of two reached entries
+    /// with one name, so that each pair is judged. An error says in what it differs.
     fn pairs(&mut self, [olds, news]: &Sides) -> Outcome {
         let mut answer = None;
         for (old, new) in olds
@@ -79,26 +83,30 @@ impl Hammer {
             let kept = self.in_hand.keep([old, new, &olds[0], &news[0]]);
             kept.map_err(|error| error.to_string())?;
             let place = if answer.is_some() { "of a copy, " } else { "" };
-            let answer = answer.get_or_insert_with(|| judge(old, new).answer);
-            let held = self.pair(old, new, answer);
+            let pair = judge(old, new);
+            let answer = answer.get_or_insert_with(|| pair.answer.clone());
+            let held = self.pair(Verdict::Plain, old, new, answer);
             held.map_err(|difference| format!("{place}{difference}"))?;
+            let held = self.pair(Verdict::Imports, old, new, &pair.imports());
+            held.map_err(|difference| format!("{place}with imports, {difference}"))?;
+            self.passed += 1;
         }
         Ok(())
     }
 
-    fn pair(&mut self, old: &[u8], new: &[u8], answer: &Answer) -> Outcome {
-        let (old, new) = (self.old.lend(old), self.new.lend(new));
-        verdicts(old, new, answer)?;
+    fn pair(&mut self, of: Verdict, old: &[u8], new: &[u8], answer: &Answer) -> Outcome {
+        let images = [self.old.lend(old), self.new.lend(new)];
+        let calls = Calls::of(of);
+        verdicts(&calls, images, answer)?;
         let all = SELECTORS as usize;
         for places in [0, 1, 5, all, all + 1, all + 40] {
-            values(old, new, &mut self.out, places, answer)?;
+            values(&calls, images, &mut self.out, places, answer)?;
         }
         let length = answer.report.len();
         let less = length.saturating_sub(1);
         for room in [length, less, length + 1, length + 300, 0] {
-            report(old, new, &mut self.out, room, answer)?;
+            report(&calls, images, &mut self.out, room, answer)?;
         }
-        self.passed += 1;
         Ok(())
     }
 
@@ -116,9 +124,10 @@ impl Hammer {
 }
 
 /// Every selector, two beyond them and the last of all.
-fn verdicts(old: &[u8], new: &[u8], answer: &Answer) -> Outcome {
+fn verdicts(calls: &Calls, [old, new]: [&[u8]; 2], answer: &Answer) -> Outcome {
     for selector in (0..SELECTORS + 2).chain([u64::MAX]) {
-        let (found, wanted) = (super::verdict(old, new, selector), answer.select(selector));
+        let found = calls.verdict(old, new, selector);
+        let wanted = answer.select(selector);
         if found != wanted {
             return Err(format!("selector {selector} is {found}, wanted {wanted}"));
         }
@@ -128,10 +137,16 @@ fn verdicts(old: &[u8], new: &[u8], answer: &Answer) -> Outcome {
 
 /// The values in a buffer of so many places: the number is returned, each place has
 /// what its selector gives, and those before it stay.
-fn values(old: &[u8], new: &[u8], out: &mut Guarded, places: usize, answer: &Answer) -> Outcome {
+fn values(
+    calls: &Calls,
+    [old, new]: [&[u8]; 2],
+    out: &mut Guarded,
+    places: usize,
+    answer: &Answer,
+) -> Outcome {
     let memory = out.last_numbers(PLACES_BEFORE + places);
     memory.fill(UNTOUCHED_VALUE);
-    let number = super::values(old, new, &mut memory[PLACES_BEFORE..]);
+    let number = calls.values(old, new, &mut memory[PLACES_BEFORE..]);
     let mut wanted = vec![UNTOUCHED_VALUE; PLACES_BEFORE];
     wanted.extend((0..places as u64).map(|selector| answer.select(selector)));
     if number != answer.select(0) {
@@ -149,10 +164,16 @@ fn values(old: &[u8], new: &[u8], out: &mut Guarded, places: usize, answer: &Ans
 
 /// The report in a buffer of `room` bytes: its length and its bytes, and that all
 /// others stay, those past its end and, if it is refused, all.
-fn report(old: &[u8], new: &[u8], out: &mut Guarded, room: usize, answer: &Answer) -> Outcome {
+fn report(
+    calls: &Calls,
+    [old, new]: [&[u8]; 2],
+    out: &mut Guarded,
+    room: usize,
+    answer: &Answer,
+) -> Outcome {
     let memory = out.last(BEFORE + room);
     memory.fill(UNTOUCHED);
-    let length = super::report(old, new, &mut memory[BEFORE..]);
+    let length = calls.report(old, new, &mut memory[BEFORE..]);
     let written = answer.clone().within(room).report;
     let mut wanted = vec![UNTOUCHED; BEFORE + room];
     wanted[BEFORE..BEFORE + written.len()].copy_from_slice(&written);
@@ -179,30 +200,39 @@ fn with_copies(rng: &mut Rng) -> Sides {
     filed_pair(rng).map(Vec::from)
 }
 
-/// Random pairs, among them some with copies, from numbers of their own: the
-/// others are those of the seed alone.
+/// Random pairs, among them some with copies and some made for imports, each from
+/// numbers of their own: the others are those of the seed alone.
 fn random(seed: u64, count: u64) -> impl Iterator<Item = Sides> {
     let (mut rng, mut filing) = (Rng::new(seed), Rng::new(!seed));
+    let mut importing = Rng::new(seed.rotate_left(32));
     (0..count).flat_map(move |n| {
-        let more = n % REFILED_ONCE_IN == 0;
-        let pair = alone(random_pair(&mut rng));
-        [pair]
-            .into_iter()
-            .chain(more.then(|| with_copies(&mut filing)))
+        let mut pairs = vec![alone(random_pair(&mut rng))];
+        if n % MORE_ONCE_IN == 0 {
+            pairs.push(with_copies(&mut filing));
+            pairs.push(alone(import_pair(&mut importing)));
+        }
+        pairs
     })
 }
 
-/// The recorded pairs of a file, then random ones; without a file pairs with
-/// copies only.
-fn list(
-    recorded: Option<&str>,
+/// Pairs of one kind only.
+fn of_one_kind(
     seed: u64,
     count: u64,
-) -> Result<Box<dyn Iterator<Item = Sides>>, String> {
-    let Some(path) = recorded else {
-        let mut rng = Rng::new(seed);
-        return Ok(Box::new((0..count).map(move |_| with_copies(&mut rng))));
-    };
+    make: fn(&mut Rng) -> Sides,
+) -> Box<dyn Iterator<Item = Sides>> {
+    let mut rng = Rng::new(seed);
+    Box::new((0..count).map(move |_| make(&mut rng)))
+}
+
+/// The recorded pairs of a file, then random ones; `--refiled` in its place are pairs
+/// with copies only, `--imports` pairs made for imports only.
+fn list(path: &str, seed: u64, count: u64) -> Result<Box<dyn Iterator<Item = Sides>>, String> {
+    match path {
+        "--refiled" => return Ok(of_one_kind(seed, count, with_copies)),
+        "--imports" => return Ok(of_one_kind(seed, count, |rng| alone(import_pair(rng)))),
+        _ => {}
+    }
     let bytes = std::fs::read(path).map_err(|error| format!("{path}: {error}"))?;
     let recorded = answers::read(&bytes)?.into_iter();
     let recorded = recorded.map(|pair| alone((pair.old, pair.new)));
@@ -210,8 +240,8 @@ fn list(
 }
 
 /// Runs them for so many seconds at most.
-pub fn run(recorded: Option<&str>, seed: u64, count: u64, seconds: u64, folder: &str) -> Outcome {
-    let list = list(recorded, seed, count)?;
+pub fn run(path: &str, seed: u64, count: u64, seconds: u64, folder: &str) -> Outcome {
+    let list = list(path, seed, count)?;
     let in_hand = InHand::new(Path::new(folder)).map_err(|error| format!("{folder}: {error}"))?;
     let mut hammer = Hammer {
         in_hand,

@@ -8,64 +8,97 @@ pub mod hammer;
 #[cfg(vexil)]
 mod realistic;
 
-// As in include/vexil_compat.h.
-extern "C" {
-    fn vexil_compat_verdict(
-        old_image: *const u8,
-        old_len: usize,
-        new_image: *const u8,
-        new_len: usize,
-        selector: u64,
-    ) -> u64;
-    fn vexil_compat_values(
-        old_image: *const u8,
-        old_len: usize,
-        new_image: *const u8,
-        new_len: usize,
-        values: *mut u64,
-        values_len: usize,
-    ) -> u64;
-    fn vexil_compat_report(
-        old_image: *const u8,
-        old_len: usize,
-        new_image: *const u8,
-        new_len: usize,
-        out: *mut u8,
-        out_len: usize,
-    ) -> u64;
+use crate::answer::Verdict;
+
+type VerdictCall = unsafe extern "C" fn(*const u8, usize, *const u8, usize, u64) -> u64;
+type ValuesCall = unsafe extern "C" fn(*const u8, usize, *const u8, usize, *mut u64, usize) -> u64;
+type ReportCall = unsafe extern "C" fn(*const u8, usize, *const u8, usize, *mut u8, usize) -> u64;
+
+// As in include/vexil_compat.h: the images, and the selector or the buffer.
+macro_rules! calls {
+    ($calls:ident, $verdict:ident, $values:ident, $report:ident) => {
+        extern "C" {
+            fn $verdict(o: *const u8, m: usize, n: *const u8, k: usize, selector: u64) -> u64;
+            fn $values(
+                o: *const u8,
+                m: usize,
+                n: *const u8,
+                k: usize,
+                v: *mut u64,
+                p: usize,
+            ) -> u64;
+            fn $report(o: *const u8, m: usize, n: *const u8, k: usize, t: *mut u8, r: usize)
+                -> u64;
+        }
+
+        pub const $calls: Calls = Calls {
+            verdict: $verdict,
+            values: $values,
+            report: $report,
+        };
+    };
 }
 
-pub fn verdict(old: &[u8], new: &[u8], selector: u64) -> u64 {
-    // A slice's pointer is valid for its length and never null; the callee only reads.
-    unsafe { vexil_compat_verdict(old.as_ptr(), old.len(), new.as_ptr(), new.len(), selector) }
+/// The calls of one verdict.
+pub struct Calls {
+    verdict: VerdictCall,
+    values: ValuesCall,
+    report: ReportCall,
 }
 
-pub fn values(old: &[u8], new: &[u8], out: &mut [u64]) -> u64 {
-    let (place, room) = (out.as_mut_ptr(), out.len());
-    // As above; `out` overlaps neither image, for it is borrowed alone.
-    unsafe {
-        vexil_compat_values(
-            old.as_ptr(),
-            old.len(),
-            new.as_ptr(),
-            new.len(),
-            place,
-            room,
-        )
+calls!(
+    PLAIN,
+    vexil_compat_verdict,
+    vexil_compat_values,
+    vexil_compat_report
+);
+calls!(
+    IMPORTS,
+    vexil_compat_imports_verdict,
+    vexil_compat_imports_values,
+    vexil_compat_imports_report
+);
+
+impl Calls {
+    pub fn of(verdict: Verdict) -> Calls {
+        match verdict {
+            Verdict::Plain => PLAIN,
+            Verdict::Imports => IMPORTS,
+        }
     }
-}
 
-pub fn report(old: &[u8], new: &[u8], out: &mut [u8]) -> u64 {
-    let (place, room) = (out.as_mut_ptr(), out.len());
-    // As above.
-    unsafe {
-        vexil_compat_report(
-            old.as_ptr(),
-            old.len(),
-            new.as_ptr(),
-            new.len(),
-            place,
-            room,
-        )
+    pub fn verdict(&self, old: &[u8], new: &[u8], selector: u64) -> u64 {
+        // A slice's pointer is valid for its length and never null; the callee only reads.
+        unsafe { (self.verdict)(old.as_ptr(), old.len(), new.as_ptr(), new.len(), selector) }
+    }
+
+    pub fn values(&self, old: &[u8], new: &[u8], out: &mut [u64]) -> u64 {
+        let (place, room) = (out.as_mut_ptr(), out.len());
+        // As above; `out` overlaps neither image, for it is borrowed alone.
+        unsafe {
+            (self.values)(
+                old.as_ptr(),
+                old.len(),
+                new.as_ptr(),
+                new.len(),
+                place,
+                room,
+            )
+        }
+    }
+
+    pub fn report(&self, old: &[u8], new: &[u8], out: &mut [u8]) -> u64 {
+        let (place, room) = (out.as_mut_ptr(), out.len());
+        // As above.
+        unsafe {
+            (self.report)(
+                old.as_ptr(),
+                old.len(),
+                new.as_ptr(),
+                new.len(),
+                place,
+                room,
+            )
+        }
     }
 }
