@@ -13,7 +13,8 @@ pub fn candidate_count(image: &[u8], reached: &[bool]) -> usize
     requires { ⌜ Searchable (now image) (now reached) ⌝ }
     ensures { λ r. ⌜ r ≡ length (candidates (now (image .entry)) (now (reached .entry))) ⌝ }
 {
-    reached.len() + id_count(image)
+    let listed = id_count(image);
+    reached.len() + listed
 }
 
 // The entry at a position: unresolvable too where the set does not have an id.
