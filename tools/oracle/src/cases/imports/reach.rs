@@ -103,6 +103,13 @@ fn dead(cases: &mut Cases) {
     let alive = |code| of(union("A", vec![one(0), one(1)]), code);
     cases.both_ways("imports: the variant that survives", &alive(1), &alive(2));
     cases.both_ways("imports: a variant dies", &alive(1), &dead(1));
+    let last = |code| {
+        let fields = |id| vec![field(0, "f", primitive(0)), field(1, "g", named(id))];
+        let variants = vec![variant(0, "v", fields(0)), variant(1, "w", fields(1))];
+        of(union("A", variants), code)
+    };
+    let name = "imports: the last field of the last variant";
+    cases.both_ways(name, &last(1), &last(2));
     let lost = |code| {
         let entries = vec![naming("A", &[2]), config("A"), block("L", code)];
         schema(entries).listing(&[0, 1])

@@ -2,6 +2,7 @@
 
 use super::wrong::WRONG;
 use crate::answer::{judge, Answer, Pair, Side};
+use crate::cases;
 use crate::coverage::imports::{all_facts, facts, never};
 use crate::imports::{import_pair, longer, reached, standing};
 use crate::model::{alias_pair, check, surviving_declarations, Standing};
@@ -103,12 +104,18 @@ fn answer(old: &Schema, new: &Schema, standing: Standing) -> Answer {
     }
 }
 
+/// Random pairs tell each wrong reading often, and so does one of the recorded edges
+/// at least.
 fn told(tests: &mut Tests, pairs: &[Pair]) {
+    let edges = cases::all(SEED).into_iter();
+    let edges = edges.filter(|case| case.name.starts_with("imports: "));
+    let edges: Vec<Pair> = edges.map(|case| judge(&case.old, &case.new)).collect();
+    tests.holds("200 edges or more", edges.len() >= 200);
     for (name, wrong) in WRONG {
         let differs =
             |(old, new): &(&Schema, &Schema)| answer(old, new, wrong) != answer(old, new, standing);
-        let told = accepted(pairs).filter(differs).count();
-        let often = told >= 10;
-        tests.holds(&format!("10 pairs or more tell ({told}): {name}"), often);
+        let told = [pairs, &edges].map(|pairs| accepted(pairs).filter(differs).count());
+        let often = told[0] >= 10 && told[1] >= 1;
+        tests.holds(&format!("{told:?} pairs tell: {name}"), often);
     }
 }

@@ -3,7 +3,7 @@
 
 use crate::imports::{compared_types, named_ids, reached, standing};
 use crate::limits::ENTRIES;
-use crate::model::{by_name, surviving_declarations, survivors, ByName, Standing};
+use crate::model::{by_name, surviving_declarations, ByName, Standing};
 use crate::schema::*;
 use std::collections::BTreeSet;
 
@@ -18,7 +18,7 @@ pub const WRONG: [(&str, Standing); 16] = [
         reached_over_listed,
     ),
     ("what does not stand is not followed", standing_followed),
-    ("what has a survivor's name is not followed", free_followed),
+    ("the first compared type only", first_type),
     ("dead fields and variants are followed", dead_followed),
     (
         "declarations that lost their name are followed",
@@ -118,17 +118,10 @@ fn standing_followed(schema: &Schema) -> ByName<'_> {
     })
 }
 
-fn free_followed(schema: &Schema) -> ByName<'_> {
-    by_ids(schema, |schema, declaration| {
-        let survivor = surviving_declarations(schema)
-            .get(declaration.name.as_str())
-            .copied();
-        let free = survivor.is_none_or(|other| std::ptr::eq(other, declaration));
-        if free {
-            named_ids(declaration)
-        } else {
-            Vec::new()
-        }
+fn first_type(schema: &Schema) -> ByName<'_> {
+    by_ids(schema, |_, declaration| {
+        let types = compared_types(declaration).into_iter().take(1);
+        types.flat_map(|ty| entered_ids(ty, |_| 2)).collect()
     })
 }
 
@@ -184,12 +177,15 @@ fn entered(ty: &Type, enter: fn(&Type) -> usize, ids: &mut Vec<u32>) {
     }
 }
 
-fn ids_entered(declaration: &Declaration, enter: fn(&Type) -> usize) -> Vec<u32> {
+fn entered_ids(ty: &Type, enter: fn(&Type) -> usize) -> Vec<u32> {
     let mut ids = Vec::new();
-    for ty in compared_types(declaration) {
-        entered(ty, enter, &mut ids);
-    }
+    entered(ty, enter, &mut ids);
     ids
+}
+
+fn ids_entered(declaration: &Declaration, enter: fn(&Type) -> usize) -> Vec<u32> {
+    let types = compared_types(declaration).into_iter();
+    types.flat_map(|ty| entered_ids(ty, enter)).collect()
 }
 
 fn first_inner(schema: &Schema) -> ByName<'_> {
@@ -205,7 +201,7 @@ fn not_geometric(schema: &Schema) -> ByName<'_> {
 
 fn no_unions(schema: &Schema) -> ByName<'_> {
     by_ids(schema, |_, declaration| match &declaration.body {
-        Body::Union(variants) if survivors(variants).len() > 1 => Vec::new(),
+        Body::Union(_) => Vec::new(),
         _ => named_ids(declaration),
     })
 }
