@@ -42,6 +42,10 @@ def recorded():
         at += size
         return data[at - size : at]
 
+    def answer():
+        selectors = numbers(4, "B") + numbers(1 + counts)
+        return selectors, text(selectors[4])
+
     pairs, counts, *_ = numbers(6)
     for _ in range(pairs):
         name = text(numbers(1, "B")[0]).decode()
@@ -49,8 +53,10 @@ def recorded():
         numbers(2, "B")
         for _ in range(2):
             text(numbers(1)[0])  # the listings
-        selectors = numbers(4, "B") + numbers(1 + counts)
-        yield name, old, new, selectors, text(selectors[4])
+        selectors, report = answer()
+        if numbers(1, "B")[0]:
+            answer()  # the one with imports, where it is another
+        yield name, old, new, selectors, report
 
 
 def theorem(place, pair):
