@@ -1,5 +1,5 @@
-//! Times a verdict of the library beside the Rust on the same pairs, in markdown
-//! tables.
+//! Times a verdict of the library beside the Rust, and the one with imports beside
+//! it, on the same pairs, in markdown tables.
 
 use super::realistic::releases;
 use crate::answer::judge;
@@ -60,11 +60,15 @@ impl Pair {
     }
 }
 
-/// What is timed on a pair, in the order of the tables' columns.
-const SIDES: [fn(&Pair); 3] = [library_verdict, check_built, check_images];
+/// What is timed on a pair.
+type Side = fn(&Pair);
 
 fn library_verdict(pair: &Pair) {
     black_box(super::PLAIN.verdict(&pair.old, &pair.new, BUMP));
+}
+
+fn imports_verdict(pair: &Pair) {
+    black_box(super::IMPORTS.verdict(&pair.old, &pair.new, BUMP));
 }
 
 fn check_built(pair: &Pair) {
@@ -78,7 +82,7 @@ fn check_images(pair: &Pair) {
 }
 
 /// Nanoseconds a pair, of so many passes over all of them.
-fn time(side: fn(&Pair), pairs: &[&Pair], passes: usize) -> f64 {
+fn time(side: Side, pairs: &[&Pair], passes: usize) -> f64 {
     let start = Instant::now();
     for _ in 0..passes {
         pairs.iter().for_each(|pair| side(black_box(pair)));
@@ -88,15 +92,15 @@ fn time(side: fn(&Pair), pairs: &[&Pair], passes: usize) -> f64 {
 
 /// The median and the best of the runs, for each side. The sides take turns, so
 /// that other work on the machine meets all of them.
-fn measure(pairs: &[&Pair]) -> [(f64, f64); 3] {
-    let passes = SIDES.map(|side| {
+fn measure<const N: usize>(sides: [Side; N], pairs: &[&Pair]) -> [(f64, f64); N] {
+    let passes = sides.map(|side| {
         let pass = time(side, pairs, 1) * pairs.len() as f64;
         (RUN_NANOSECONDS / pass) as usize + 1
     });
-    let mut runs = [const { Vec::new() }; 3];
+    let mut runs = [const { Vec::new() }; N];
     for _ in 0..RUNS {
         for (side, times) in runs.iter_mut().enumerate() {
-            times.push(time(SIDES[side], pairs, passes[side]));
+            times.push(time(sides[side], pairs, passes[side]));
         }
     }
     runs.map(|mut times| {
@@ -107,7 +111,7 @@ fn measure(pairs: &[&Pair]) -> [(f64, f64); 3] {
 
 /// The rest of a row: how many pairs, the three times and the two ratios.
 fn print_times(pairs: &[&Pair]) {
-    let times = measure(pairs);
+    let times = measure([library_verdict, check_built, check_images], pairs);
     let shown = times.map(|(median, best)| format!("{median:.0} ({best:.0})"));
     let [verdict, built, images] = times.map(|(median, _)| median);
     println!(
@@ -147,15 +151,37 @@ fn print_slowest(pairs: &[Pair]) {
     println!("|---|---|---|---|---|---|");
     for (name, class) in classes(pairs) {
         let timed = class.iter().map(|pair| {
-            let [verdict, images] = [library_verdict, check_images].map(|side| {
-                let calls = (0..5).map(|_| time(side, &[pair], 1));
-                calls.fold(f64::INFINITY, f64::min)
-            });
+            let [verdict, images] = best([library_verdict, check_images], pair);
             (verdict / images, verdict, images, pair)
         });
         if let Some((ratio, verdict, images, pair)) = timed.max_by(|a, b| a.0.total_cmp(&b.0)) {
             let (slowest, bytes) = (&pair.name, pair.larger());
             println!("| {name} | {slowest} | {bytes} | {verdict:.0} | {images:.0} | {ratio:.2} |");
+        }
+    }
+}
+
+/// The best of five calls of each side on one pair.
+fn best<const N: usize>(sides: [Side; N], pair: &Pair) -> [f64; N] {
+    sides.map(|side| {
+        let calls = (0..5).map(|_| time(side, &[pair], 1));
+        calls.fold(f64::INFINITY, f64::min)
+    })
+}
+
+/// The verdict with imports beside that of 01, and in each class the pair on which
+/// it takes longest.
+fn print_imports(pairs: &[Pair]) {
+    let sides = [imports_verdict as Side, library_verdict];
+    println!("\n| larger image | pairs | with imports | of 01 | ratio | longest with imports | bytes | with imports | of 01 |");
+    println!("|---|---|---|---|---|---|---|---|---|");
+    for (name, class) in classes(pairs) {
+        let [imports, plain] = measure(sides, &class).map(|(median, _)| median);
+        let timed = class.iter().map(|pair| (best(sides, pair), pair));
+        if let Some(([most, beside], pair)) = timed.max_by(|a, b| a.0[0].total_cmp(&b.0[0])) {
+            let (count, ratio) = (class.len(), imports / plain);
+            let (longest, bytes) = (&pair.name, pair.larger());
+            println!("| {name} | {count} | {imports:.0} | {plain:.0} | {ratio:.2} | {longest} | {bytes} | {most:.0} | {beside:.0} |");
         }
     }
 }
@@ -201,5 +227,6 @@ pub fn run(path: &str) -> Outcome {
     all.extend(generated.into_iter().flatten());
     print_classes(&all);
     print_slowest(&all);
+    print_imports(&all);
     Ok(())
 }
