@@ -26,8 +26,8 @@ use Rattle.rules.proofs.Computed.{reports}
 """
 
 
-def recorded():
-    """Name, images, selectors and report of each pair of the recorded answers."""
+def recorded(imports=False):
+    """Name, images, selectors and report of each pair of the recorded answers, by the verdict of 01 or by the one with imports."""
     data = (ROOT / "crates" / "replay" / "data" / "answers.bin").read_bytes()
     at = 8
 
@@ -53,10 +53,9 @@ def recorded():
         numbers(2, "B")
         for _ in range(2):
             text(numbers(1)[0])  # the listings
-        selectors, report = answer()
-        if numbers(1, "B")[0]:
-            answer()  # the one with imports, where it is another
-        yield name, old, new, selectors, report
+        plain = answer()
+        other = answer() if numbers(1, "B")[0] else plain
+        yield name, old, new, *(other if imports else plain)
 
 
 def theorem(place, pair):
