@@ -3,7 +3,7 @@
 //! and every command of that README has its output.
 
 use super::{read_file, Tests, ROOT};
-use crate::answer::judge;
+use crate::answer::{judge, Verdict};
 use crate::reader::read_image;
 use crate::refiling::form;
 use crate::text;
@@ -98,7 +98,11 @@ fn commands(tests: &mut Tests, images: &Files, readme: &str) {
         let command = lines.next().unwrap_or_default();
         let printed = lines.map_while(|line| line.strip_prefix("    "));
         let wanted: String = printed.flat_map(|line| [line, "\n"]).collect();
-        let names: Vec<&str> = command
+        let (verdict, paths) = match command.strip_prefix("--imports ") {
+            Some(paths) => (Verdict::Imports, paths),
+            None => (Verdict::Plain, command),
+        };
+        let names: Vec<&str> = paths
             .split(' ')
             .map(|path| path.trim_start_matches("samples/").trim_end_matches(".img"))
             .collect();
@@ -106,7 +110,7 @@ fn commands(tests: &mut Tests, images: &Files, readme: &str) {
             tests.holds(&format!("the images of {command}"), false);
             continue;
         };
-        let found = judge(old, new).answer.printed();
+        let found = judge(old, new).by(verdict).printed();
         tests.equal(
             command,
             String::from_utf8_lossy(&found).into_owned(),
