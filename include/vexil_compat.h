@@ -1,6 +1,6 @@
 /*
- * Whether a new Vexil schema may be loaded where an old one runs: the verdict on two images, and its report; and the contents of one
- * image. The library is libvexil_compat.a, for x86-64: `rt staticlib vexil_compat` writes it to target/staticlib. docs/FORMAT.md
+ * Whether a new Vexil schema may be loaded where an old one runs: two verdicts on two images, each with its report; and the contents of
+ * one image. The library is libvexil_compat.a, for x86-64: `rt staticlib vexil_compat` writes it to target/staticlib. docs/FORMAT.md
  * describes images, refusals and reports.
  *
  * Any bytes may be lent as images: faulty ones are refused by number, and every call returns.
@@ -9,7 +9,7 @@
  *     length is 0.
  *   - Both images are only read. They may overlap each other, or be the same.
  *   - The buffer overlaps no image.
- *   - On all recorded pairs the verdict, the values and the report use less than 24 KiB of stack.
+ *   - On all recorded pairs the verdict, the values and the report use less than 28 KiB of stack.
  *   - Nothing is allocated and nothing is kept from one call to the next, so that threads may call at the same time.
  */
 #ifndef VEXIL_COMPAT_H
@@ -51,7 +51,7 @@ enum vexil_compat_refusal {
     VEXIL_COMPAT_CODE = 9,        /* another coded byte outside its values */
     VEXIL_COMPAT_DEEP = 10,       /* a 33rd node or a 9th delta */
     VEXIL_COMPAT_ALIAS_PAIR = 11, /* of the pair: one name is a generic alias in both images */
-    VEXIL_COMPAT_FULL = 12        /* a report or a listing is longer than its buffer. Of the two verdict calls only the listing's gives it. */
+    VEXIL_COMPAT_FULL = 12        /* a report or a listing is longer than its buffer. Of the verdict calls only the listing's gives it. */
 };
 
 enum vexil_compat_side {
@@ -98,12 +98,22 @@ enum vexil_compat_kind {
 #define VEXIL_COMPAT_VALUES ((size_t)VEXIL_COMPAT_COUNTS + (size_t)VEXIL_COMPAT_KINDS)
 
 /*
- * One value of the verdict on two images. Each call compares anew; for many values there is vexil_compat_values.
+ * There are two verdicts on two images, with three calls each. The first compares the declarations that the images list. The one with
+ * imports, `vexil_compat_imports_..`, also compares those that are not listed but reached: named in a type of a listed one, at any depth
+ * of that type, or in a type of a reached one, and so on. Each name is compared once, and a listed declaration stands before a reached
+ * one. VEXIL_COMPAT_ALIAS_PAIR is tested over all of them. Values, other refusals, lines and their order are the same in both.
+ */
+
+/*
+ * One value of the verdict. Each call compares anew; for many values there is the next call.
  * Of a refusal the bump is Major and the result Breaking; its length and counts are 0. A selector beyond the counts gives 0.
  */
 uint64_t vexil_compat_verdict(const uint8_t *old_image, size_t old_len,
                               const uint8_t *new_image, size_t new_len,
                               uint64_t selector);
+uint64_t vexil_compat_imports_verdict(const uint8_t *old_image, size_t old_len,
+                                      const uint8_t *new_image, size_t new_len,
+                                      uint64_t selector);
 
 /*
  * Every value of the verdict by one comparison: `values[i]` becomes what the call above gives for selector i, for each of the `values_len`
@@ -112,18 +122,24 @@ uint64_t vexil_compat_verdict(const uint8_t *old_image, size_t old_len,
 uint64_t vexil_compat_values(const uint8_t *old_image, size_t old_len,
                              const uint8_t *new_image, size_t new_len,
                              uint64_t *values, size_t values_len);
+uint64_t vexil_compat_imports_values(const uint8_t *old_image, size_t old_len,
+                                     const uint8_t *new_image, size_t new_len,
+                                     uint64_t *values, size_t values_len);
 
 /*
- * Writes the report at the start of `out` and returns its length; bytes past that length stay as they were. A report is
+ * Writes the verdict's report at the start of `out` and returns its length; bytes past that length stay as they were. A report is
  * never empty, and it is not ended by a zero byte.
  *
- * 0 is a refusal, and then `out` is as it was. VEXIL_COMPAT_NUMBER tells which; if it tells VEXIL_COMPAT_NOT_REFUSED, the
- * report is longer than `out_len`: that is VEXIL_COMPAT_FULL, of both sides. To size the buffer, ask VEXIL_COMPAT_LENGTH
- * first: names repeat in the lines, so that a report may be many times as long as the images.
+ * 0 is a refusal, and then `out` is as it was. VEXIL_COMPAT_NUMBER of the same verdict tells which; if it tells
+ * VEXIL_COMPAT_NOT_REFUSED, the report is longer than `out_len`: that is VEXIL_COMPAT_FULL, of both sides. To size the buffer, ask
+ * VEXIL_COMPAT_LENGTH of the same verdict first: names repeat in the lines, so that a report may be many times as long as the images.
  */
 uint64_t vexil_compat_report(const uint8_t *old_image, size_t old_len,
                              const uint8_t *new_image, size_t new_len,
                              uint8_t *out, size_t out_len);
+uint64_t vexil_compat_imports_report(const uint8_t *old_image, size_t old_len,
+                                     const uint8_t *new_image, size_t new_len,
+                                     uint8_t *out, size_t out_len);
 
 /*
  * The contents of one image: writes a line `id;kind;name` for each entry that is not empty at the start of `out`, each ended by byte 10,

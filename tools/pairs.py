@@ -25,11 +25,12 @@ def output(*words, **options) -> tuple[int, str]:
 
 
 class Suite:
-    """The tests of one tool, called as TOOL OLD NEW."""
+    """The tests of one tool, called as TOOL OLD NEW, or as TOOL --imports OLD NEW where `imports` holds."""
 
     TOOL: Path
 
     def __init__(self, folder: Path):
+        self.imports = False
         self.folder = folder
         self.passed = 0
         self.failed = 0
@@ -52,10 +53,15 @@ class Suite:
         """The tool's exit status after it printed this for --list."""
         raise NotImplementedError
 
+    def call(self, old, new) -> list:
+        """The words by which tool and oracle are asked for a report."""
+        return ["--imports", old, new] if self.imports else [old, new]
+
     def asked(self, old, new) -> tuple[int, str]:
         """What the tool has to answer, by the oracle."""
-        status, printed = output(ORACLE, "report", old, new)
-        assert status == 0, f"oracle report {old} {new}: exit status {status}"
+        words = self.call(old, new)
+        status, printed = output(ORACLE, "report", *words)
+        assert status == 0, f"oracle report {words}: exit status {status}"
         return self.status(printed), printed
 
     def equal(self, name: str, found, wanted):
@@ -63,12 +69,12 @@ class Suite:
             self.passed += 1
             return
         self.failed += 1
-        print(f"failed: {name}\n  found  {str(found)[:300]}\n  wanted {str(wanted)[:300]}")
+        print(f"failed: {name}{', with imports' if self.imports else ''}\n  found  {str(found)[:300]}\n  wanted {str(wanted)[:300]}")
 
     def files(self, name: str, old, new, text: str | None = None):
         """Two files: the answer is the oracle's, and this text if one is given."""
         wanted = self.asked(old, new)
-        self.equal(name, output(self.TOOL, old, new), wanted if text is None else (wanted[0], text))
+        self.equal(name, output(self.TOOL, *self.call(old, new)), wanted if text is None else (wanted[0], text))
         if text is not None:
             self.equal(f"{name}, by the oracle", wanted[1], text)
 
@@ -89,6 +95,17 @@ class Suite:
         return path
 
 
+def with_imports(tests):
+    """The same tests by the verdict with imports."""
+
+    def run(suite: Suite):
+        suite.imports = True
+        tests(suite)
+        suite.imports = False
+
+    return run
+
+
 def sample_files(*names: str) -> list[Path]:
     return [ROOT / "samples" / f"{name}.img" for name in names]
 
@@ -98,9 +115,12 @@ def samples(suite: Suite):
     suite.files("the sample", old, new, SAMPLE_REPORT)
     suite.files("the sample swapped", new, old)
     suite.files("the sample against itself", old, old, "Compatible;Patch;0\n")
-    for names in (("drive-1", "drive-2"), ("drive-2", "drive-3"), ("import-old", "import-new"), ("drive-1", "damaged")):
+    for names in (
+        ("drive-1", "drive-2"), ("drive-2", "drive-3"), ("import-old", "import-new"), ("drive-1", "damaged"),
+        ("carousel-1", "carousel-2"), ("carousel-2", "carousel-3"), ("carousel-1", "carousel-3"),
+    ):
         suite.files(" ".join(names), *sample_files(*names))
-    report = output(ORACLE, "report", *sample_files("drive-2", "drive-3"))[1]
+    report = suite.asked(*sample_files("drive-2", "drive-3"))[1]
     for names in (("drive-2-refiled", "drive-3-refiled"), ("drive-2-refiled", "drive-3"), ("drive-2", "drive-3-refiled")):
         suite.files(" ".join(names), *sample_files(*names), report)
 
@@ -124,15 +144,20 @@ def both_bad(suite: Suite):
     suite.images("both bad, swapped", other_format, short, "refused 3 old\n")
 
 
+def printed(selectors: list[int], report: bytes) -> str:
+    """What a tool prints of a recorded answer."""
+    number, side = selectors[:2]
+    return f"refused {number} {SIDES[side]}\n" if number else "refused 12 both\n" if len(report) > 65_536 else report.decode()
+
+
 def of_record(suite: Suite):
     """The first recorded pair of each refusal and side, of each bump, and those with long reports."""
     seen, texts = set(), set()
-    for name, old, new, selectors, report in recorded():
+    for name, old, new, selectors, report in recorded(suite.imports):
         number, side, bump = selectors[:3]
-        if name.startswith("report of ") or name == "11 before 12" or (number, side, bump) not in seen:
-            text = f"refused {number} {SIDES[side]}\n" if number else "refused 12 both\n" if len(report) > 65_536 else report.decode()
-            suite.images(name, old, new, text)
-            texts.add(text)
+        if "report of " in name or "11 before 12" in name or (number, side, bump) not in seen:
+            texts.add(printed(selectors, report))
+            suite.images(name, old, new, printed(selectors, report))
         seen.add((number, side, bump))
     refusals = {(number, side) for number in range(1, 11) for side in (1, 2)} | {(11, 3)}
     suite.equal("every refusal on every side", {(number, side) for number, side, _ in seen if number}, refusals)

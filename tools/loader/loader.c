@@ -1,9 +1,10 @@
 /*
  * The loading tool: compares two image files and prints the report or the refusal, or the contents of one.
  *
- *   loader [--counts] OLD NEW
+ *   loader [--imports] [--counts] OLD NEW
  *   loader --list IMAGE
  *
+ * --imports asks for the verdict with imports, and --counts prints the counts too; either may come first.
  * Exit status: 0 Compatible or listed, 1 Breaking or refused, 2 bad usage, or no memory or no output.
  */
 #define _DEFAULT_SOURCE /* MAP_ANONYMOUS */
@@ -29,6 +30,20 @@ struct image {
 struct pair {
     struct image old;
     struct image new;
+};
+
+/* The calls that answer by one verdict. */
+struct verdict {
+    uint64_t (*values)(const uint8_t *, size_t, const uint8_t *, size_t, uint64_t *, size_t);
+    uint64_t (*report)(const uint8_t *, size_t, const uint8_t *, size_t, uint8_t *, size_t);
+};
+
+static const struct verdict of_listed = {vexil_compat_values, vexil_compat_report};
+static const struct verdict with_imports = {vexil_compat_imports_values, vexil_compat_imports_report};
+
+struct options {
+    const struct verdict *verdict;
+    bool counts;
 };
 
 static void fail(const char *what)
@@ -68,10 +83,10 @@ static struct image read_image(const char *path)
 }
 
 /* The values of the verdict by their selectors, all of one comparison. */
-static const uint64_t *verdict(const struct pair *pair)
+static const uint64_t *values_of(const struct verdict *verdict, const struct pair *pair)
 {
     uint64_t *values = guarded(VEXIL_COMPAT_VALUES * sizeof *values);
-    vexil_compat_values(pair->old.bytes, pair->old.length, pair->new.bytes, pair->new.length, values, VEXIL_COMPAT_VALUES);
+    verdict->values(pair->old.bytes, pair->old.length, pair->new.bytes, pair->new.length, values, VEXIL_COMPAT_VALUES);
     return values;
 }
 
@@ -117,16 +132,17 @@ static void print_counts(const uint64_t *values)
     }
 }
 
-static int compare(const struct pair *pair, bool counts)
+static int compare(const struct pair *pair, const struct options *options)
 {
-    const uint64_t *values = verdict(pair);
+    const uint64_t *values = values_of(options->verdict, pair);
     if (values[VEXIL_COMPAT_NUMBER] != VEXIL_COMPAT_NOT_REFUSED)
         return refuse(values[VEXIL_COMPAT_NUMBER], values[VEXIL_COMPAT_SIDE]);
     uint8_t *out = guarded(REPORT_BYTES);
-    uint64_t length = vexil_compat_report(pair->old.bytes, pair->old.length, pair->new.bytes, pair->new.length, out, REPORT_BYTES);
+    uint64_t length =
+        options->verdict->report(pair->old.bytes, pair->old.length, pair->new.bytes, pair->new.length, out, REPORT_BYTES);
     if (length == 0)
         return refuse(VEXIL_COMPAT_FULL, VEXIL_COMPAT_BOTH);
-    if (counts)
+    if (options->counts)
         print_counts(values);
     fwrite(out, 1, length, stdout);
     return values[VEXIL_COMPAT_RESULT] == VEXIL_COMPAT_COMPATIBLE ? LOAD : DO_NOT_LOAD;
@@ -148,21 +164,35 @@ static bool is_option(const char *word)
     return word[0] == '-';
 }
 
+/* The place of the first word that is not one of these options, or that is there a second time. */
+static int take_options(int count, char **words, struct options *options)
+{
+    int place = 1;
+    for (; place < count; place++) {
+        if (strcmp(words[place], "--imports") == 0 && options->verdict != &with_imports)
+            options->verdict = &with_imports;
+        else if (strcmp(words[place], "--counts") == 0 && !options->counts)
+            options->counts = true;
+        else
+            break;
+    }
+    return place;
+}
+
 static int run(int count, char **words)
 {
-    const char *option = count > 1 ? words[1] : "";
-    bool counts = strcmp(option, "--counts") == 0;
-    int first = counts ? 2 : 1;
-    if (count == 3 && strcmp(option, "--list") == 0 && !is_option(words[2])) {
+    if (count == 3 && strcmp(words[1], "--list") == 0 && !is_option(words[2])) {
         struct image image = read_image(words[2]);
         return list(&image);
     }
+    struct options options = {&of_listed, false};
+    int first = take_options(count, words, &options);
     if (count - first != 2 || is_option(words[first]) || is_option(words[first + 1])) {
-        fputs("usage: loader [--counts] OLD NEW\n       loader --list IMAGE\n", stderr);
+        fputs("usage: loader [--imports] [--counts] OLD NEW\n       loader --list IMAGE\n", stderr);
         return FAILED;
     }
     struct pair pair = {read_image(words[first]), read_image(words[first + 1])};
-    return compare(&pair, counts);
+    return compare(&pair, &options);
 }
 
 int main(int count, char **words)

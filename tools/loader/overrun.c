@@ -24,6 +24,16 @@ uint64_t vexil_compat_report(const uint8_t *old_image, size_t old_len, const uin
     return 0;
 }
 
+uint64_t vexil_compat_imports_values(const uint8_t *old_image, size_t old_len, const uint8_t *new_image, size_t new_len, uint64_t *values, size_t values_len)
+{
+    return vexil_compat_values(old_image, old_len, new_image, new_len, values, values_len);
+}
+
+uint64_t vexil_compat_imports_report(const uint8_t *old_image, size_t old_len, const uint8_t *new_image, size_t new_len, uint8_t *out, size_t out_len)
+{
+    return vexil_compat_report(old_image, old_len, new_image, new_len, out, out_len);
+}
+
 uint64_t vexil_compat_listing(const uint8_t *image, size_t len, uint8_t *out, size_t out_len)
 {
     (void)image, (void)len, (void)out, (void)out_len;

@@ -1,7 +1,7 @@
 /*
- * Calls the library on a stack of 64 KiB with a page below it that nobody may touch, and prints how many bytes of it were used at most. The
- * values call is also held against the verdict call, and must leave what stands before and past its buffer.
- * The pairs come from standard input: each image as its length, four bytes from the lowest on, and its bytes.
+ * stack [--imports]: makes the calls of one verdict on a stack of 64 KiB with a page below it that nobody may touch, and prints how many
+ * bytes of it they used at most. The values call is also held against the verdict call, and must leave what stands before and past its
+ * buffer. The pairs come from standard input: each image as its length, four bytes from the lowest on, and its bytes.
  */
 #define _DEFAULT_SOURCE /* MAP_ANONYMOUS */
 
@@ -22,11 +22,22 @@ struct image {
     size_t length;
 };
 
+struct verdict {
+    uint64_t (*value)(const uint8_t *, size_t, const uint8_t *, size_t, uint64_t);
+    uint64_t (*values)(const uint8_t *, size_t, const uint8_t *, size_t, uint64_t *, size_t);
+    uint64_t (*report)(const uint8_t *, size_t, const uint8_t *, size_t, uint8_t *, size_t);
+};
+
 struct told {
     unsigned pairs;
     unsigned differences;
+    const uint8_t *caller; /* what stands on the stack from here on was there before the calls */
 };
 
+static const struct verdict of_listed = {vexil_compat_verdict, vexil_compat_values, vexil_compat_report};
+static const struct verdict with_imports = {vexil_compat_imports_verdict, vexil_compat_imports_values, vexil_compat_imports_report};
+
+static const struct verdict *verdict = &of_listed;
 static struct image old, new;
 static uint8_t out[REPORT_BYTES];
 static uint64_t memory[1 + MOST_VALUES + 1];
@@ -40,18 +51,13 @@ static bool next_image(struct image *image)
     return image->length <= sizeof image->bytes && fread(image->bytes, 1, image->length, stdin) == image->length;
 }
 
-static uint64_t verdict(uint64_t selector)
-{
-    return vexil_compat_verdict(old.bytes, old.length, new.bytes, new.length, selector);
-}
-
 /* Whether the values call, lent so many places, answers anything else than the verdict call does by these values. */
 static bool differs(const uint64_t *wanted, size_t places)
 {
     uint64_t *values = memory + 1, untouched;
     memset(&untouched, UNUSED, sizeof untouched);
     memset(memory, UNUSED, sizeof memory);
-    uint64_t number = vexil_compat_values(old.bytes, old.length, new.bytes, new.length, values, places);
+    uint64_t number = verdict->values(old.bytes, old.length, new.bytes, new.length, values, places);
     return number != wanted[VEXIL_COMPAT_NUMBER] || memcmp(values, wanted, places * sizeof *values) != 0 || memory[0] != untouched
         || values[places] != untouched;
 }
@@ -61,19 +67,24 @@ static void *call_all(void *told)
     static const size_t places[] = {0, 1, VEXIL_COMPAT_COUNTS, VEXIL_COMPAT_VALUES, MOST_VALUES};
     static uint64_t wanted[MOST_VALUES];
     struct told *t = told;
+    t->caller = (const uint8_t *)&t;
     while (next_image(&old) && next_image(&new)) {
         for (uint64_t selector = 0; selector < MOST_VALUES; selector++)
-            wanted[selector] = verdict(selector);
+            wanted[selector] = verdict->value(old.bytes, old.length, new.bytes, new.length, selector);
         for (size_t i = 0; i < sizeof places / sizeof *places; i++)
             t->differences += differs(wanted, places[i]);
-        vexil_compat_report(old.bytes, old.length, new.bytes, new.length, out, sizeof out);
+        verdict->report(old.bytes, old.length, new.bytes, new.length, out, sizeof out);
         t->pairs++;
     }
     return NULL;
 }
 
-int main(void)
+int main(int count, char **words)
 {
+    if (count == 2 && strcmp(words[1], "--imports") == 0)
+        verdict = &with_imports;
+    else if (count != 1)
+        return 1;
     size_t page = (size_t)sysconf(_SC_PAGESIZE);
     uint8_t *start = mmap(NULL, page + STACK_BYTES, PROT_READ | PROT_WRITE, MAP_PRIVATE | MAP_ANONYMOUS, -1, 0);
     if (start == MAP_FAILED || mprotect(start, page, PROT_NONE) != 0)
@@ -81,7 +92,7 @@ int main(void)
     uint8_t *stack = start + page;
     memset(stack, UNUSED, STACK_BYTES);
 
-    struct told told = {0, 0};
+    struct told told = {0, 0, NULL};
     pthread_t thread;
     pthread_attr_t attributes;
     if (pthread_attr_init(&attributes) != 0 || pthread_attr_setstack(&attributes, stack, STACK_BYTES) != 0
@@ -91,6 +102,6 @@ int main(void)
     size_t unused = 0;
     while (unused < STACK_BYTES && stack[unused] == UNUSED)
         unused++;
-    printf("%u pairs, %u differences, %zu bytes of stack\n", told.pairs, told.differences, STACK_BYTES - unused);
+    printf("%u pairs, %u differences, %zu bytes of stack\n", told.pairs, told.differences, (size_t)(told.caller - (stack + unused)));
     return 0;
 }

@@ -1,6 +1,6 @@
 #!/usr/bin/env python3
-"""Tests of the loading tool on named pairs. What it prints is what `oracle report` and `oracle list` print, and its exit status
-follows from that.
+"""Tests of the loading tool on named pairs, by both verdicts. What it prints is what `oracle report` and `oracle list` print, and its exit
+status follows from that.
 
 It needs target/loader/loader (build.sh) and target/oracle/oracle. The last line is `N passed, M failed`.
 """
@@ -16,10 +16,18 @@ from pathlib import Path
 ROOT = Path(__file__).resolve().parents[2]
 sys.path.append(str(ROOT / "tools"))
 import pairs  # noqa: E402
-from pairs import ORACLE, SAMPLE, SAMPLE_REPORT, both_bad, files, listings, of_record, output, recorded, samples  # noqa: E402
+from pairs import (  # noqa: E402
+    ORACLE, SAMPLE, SAMPLE_REPORT, both_bad, files, listings, of_record, output, printed, recorded, sample_files, samples, with_imports,
+)
 
 HERE = ROOT / "tools" / "loader"
 LOADER = ROOT / "target" / "loader" / "loader"
+HEADER = ROOT / "include" / "vexil_compat.h"
+IMPORT_REPORT = """\
+FieldAdded;Major;Limits;+speed;field 'speed' @1 was added
+FieldRenamed;Patch;Limits;+ramp;field @0 renamed from 'speed' to 'ramp'
+Breaking;Major;2
+"""
 KINDS = (
     "FieldAdded FieldRemoved FieldTypeChanged FieldOrdinalChanged FieldRenamed FieldDeprecated FieldEncodingChanged"
     " VariantAdded VariantRemoved VariantOrdinalChanged DeclarationAdded DeclarationRemoved DeclarationKindChanged"
@@ -37,16 +45,35 @@ class Suite(pairs.Suite):
         return 1 if printed.startswith("refused ") else 0
 
 
+def imported(suite: Suite):
+    """The named pairs that get another answer with imports."""
+    tried = 0
+    for (name, old, new, *plain), (*_, selectors, report) in zip(recorded(), recorded(imports=True), strict=True):
+        if name.startswith("imports: ") and plain != [selectors, report]:
+            suite.images(name, old, new, printed(selectors, report))
+            tried += 1
+    suite.equal("100 pairs or more", tried >= 100, True)
+
+
 def counts(suite: Suite):
     old, new = next((old, new) for name, old, new, *_ in recorded() if name == "every kind of change twice")
     old, new = suite.image("old", old), suite.image("new", new)
-    values = [int(line.split()[1]) for line in output(ORACLE, "verdict", old, new)[1].splitlines()][5:]
+    values = [int(line.split()[1]) for line in output(ORACLE, "verdict", *suite.call(old, new))[1].splitlines()][5:]
     lines = "".join(f"{kind} {value}\n" for kind, value in zip(KINDS, values, strict=True) if value)
     suite.equal("15 kinds are there", lines.count("\n"), 15)
     status, report = suite.asked(old, new)
-    suite.equal("counts", output(LOADER, "--counts", old, new), (status, lines + report))
-    suite.equal("no counts", output(LOADER, "--counts", old, old), suite.asked(old, old))
-    suite.equal("no counts of a refusal", output(LOADER, "--counts", old, "/dev/null"), (1, "refused 2 new\n"))
+    suite.equal("counts", output(LOADER, "--counts", *suite.call(old, new)), (status, lines + report))
+    suite.equal("no counts", output(LOADER, "--counts", *suite.call(old, old)), suite.asked(old, old))
+    suite.equal("no counts of a refusal", output(LOADER, "--counts", *suite.call(old, "/dev/null")), (1, "refused 2 new\n"))
+
+
+def counts_of_imports(suite: Suite):
+    """They are those of the verdict that is asked, whichever option comes first."""
+    old, new = sample_files("carousel-1", "carousel-3")
+    suite.equal("counts of what is listed", output(LOADER, "--counts", old, new)[1].splitlines()[0], "DeclarationAdded 1")
+    for options in (["--imports", "--counts"], ["--counts", "--imports"]):
+        found = output(LOADER, *options, old, new)[1].splitlines()[:2]
+        suite.equal(" ".join(options), found, ["FieldTypeChanged 1", "FlagsBitAdded 1"])
 
 
 def usage(suite: Suite):
@@ -54,6 +81,10 @@ def usage(suite: Suite):
     for words in (
         [], [old], [old, new, new], ["--counts"], ["--counts", old], ["--counts", old, new, new], ["--list"], ["--list", old, new],
         ["--verbose", new], [old, "--verbose"], ["--counts", old, "-"], ["--list", "--counts"], ["--counts", "--list", old],
+        ["--verbose", old, new], ["--counts", "--counts", old, new], ["--imports"], ["--imports", old], ["--imports", old, new, new],
+        ["--imports", "--imports", old, new], ["--imports", "--counts", "--imports", old, new], ["--imports", "--verbose", old, new],
+        ["--imports", "--list", old], ["--list", "--imports", old], ["--list", "--imports"], ["--imports", "--counts"],
+        [old, new, "--imports"], [old, "--imports", new], ["--import", old, new],
     ):
         suite.equal(f"usage: {words}", output(LOADER, *words), (2, ""))
     with open("/dev/full", "w") as full:
@@ -70,7 +101,13 @@ def script(suite: Suite):
         suite.equal(f"the sample pair by {name.name}", output(name, **elsewhere), (1, SAMPLE_REPORT))
     suite.equal("the script lists", output(tool, "--list", SAMPLE[0]), (0, "0;message;Drive\n"))
     suite.equal("the script refuses", output(tool, suite.folder / "nothing", SAMPLE[1]), (1, "refused 2 old\n"))
-    for words in ([SAMPLE[0]], [*SAMPLE, SAMPLE[0]], ["--counts", SAMPLE[0]], ["--list", "--list"]):
+    suite.equal("the script with imports", output(tool, "--imports", *sample_files("import-old", "import-new")), (1, IMPORT_REPORT))
+    suite.equal("the script refuses with imports", output(tool, "--imports", SAMPLE[0], suite.folder), (1, "refused 2 new\n"))
+    for words in (
+        [SAMPLE[0]], [*SAMPLE, SAMPLE[0]], ["--counts", SAMPLE[0]], ["--counts", *SAMPLE], ["--list"], ["--list", "--list"],
+        ["--list", *SAMPLE], ["--imports"], ["--imports", SAMPLE[0]], ["--imports", *SAMPLE, SAMPLE[0]], ["--imports", "--imports", *SAMPLE],
+        ["--imports", "--list", SAMPLE[0]], ["--list", "--imports", SAMPLE[0]], [*SAMPLE, "--imports"],
+    ):
         suite.equal(f"the script's usage: {words}", output(tool, *words), (2, ""))
 
 
@@ -79,23 +116,40 @@ def build(program: Path, *words) -> int:
     return output("gcc", "-std=c11", "-Wall", "-Wextra", "-Werror", "-I", ROOT / "include", "-o", program, *words)[0]
 
 
+def library() -> Path:
+    """The archive that the loading tool was built with."""
+    return Path((ROOT / "target" / "loader" / "library").read_text().strip()) / "libvexil_compat.a"
+
+
 def stack(suite: Suite):
-    """All recorded pairs on a stack of 64 KiB, with the values call against the verdict call; the archive has the calls of the header, no
-    heap and no statics."""
-    program, library = suite.folder / "stack", Path((ROOT / "target" / "loader" / "library").read_text().strip()) / "libvexil_compat.a"
-    suite.equal("stack.c builds", build(program, HERE / "stack.c", library, "-pthread"), 0)
+    """All recorded pairs on a stack of 64 KiB, by both verdicts, with the values call against the verdict call."""
+    program, framed = suite.folder / "stack", suite.folder / "pairs"
+    suite.equal("stack.c builds", build(program, HERE / "stack.c", library(), "-pthread"), 0)
     images = [image for _, old, new, *_ in recorded() for image in (old, new)]
-    framed = b"".join(len(image).to_bytes(4, "little") + image for image in images)
-    done = subprocess.run([program], input=framed, stdout=subprocess.PIPE)
-    print(f"the library on a stack of 64 KiB: {done.stdout.decode().strip()}")
-    suite.equal("a stack of 64 KiB is enough", (done.returncode, done.stdout.split()[:1]), (0, [str(len(images) // 2).encode()]))
-    suite.equal("the values are those of the verdict call", b" 0 differences," in done.stdout, True)
-    declared = set(re.findall(r"^uint64_t (\w+)\(", (ROOT / "include" / "vexil_compat.h").read_text(), re.MULTILINE))
-    defined = {line.split()[-1] for line in output("nm", "-g", "--defined-only", library)[1].splitlines() if " T " in line}
+    framed.write_bytes(b"".join(len(image).to_bytes(4, "little") + image for image in images))
+    promised = int(re.search(r"less than (\d+) KiB of stack", HEADER.read_text())[1]) * 1024
+    runs = []
+    for options in ([], ["--imports"]):
+        with open(framed, "rb") as pairs_file:
+            runs.append(subprocess.Popen([program, *options], stdin=pairs_file, stdout=subprocess.PIPE, text=True))
+    for run in runs:
+        told = run.communicate()[0].strip()
+        name = " ".join(["the library on a stack of 64 KiB", *run.args[1:]])
+        print(f"{name}: {told}")
+        called, differences, used = map(int, re.findall(r"\d+", told) or [0, 0, 0])
+        suite.equal(f"{name} is enough", (run.returncode, called), (0, len(images) // 2))
+        suite.equal(f"{name}: the values are those of the verdict call", differences, 0)
+        suite.equal(f"{name}: less than the header says", used < promised, True)
+
+
+def archive(suite: Suite):
+    """It has the calls of the header, no heap and no statics."""
+    declared = set(re.findall(r"^uint64_t (\w+)\(", HEADER.read_text(), re.MULTILINE))
+    defined = {line.split()[-1] for line in output("nm", "-g", "--defined-only", library())[1].splitlines() if " T " in line}
     suite.equal("the archive has the calls of the header", defined, declared)
-    undefined = {line.split()[-1] for line in output("nm", "-u", library)[1].splitlines() if " U " in line}
+    undefined = {line.split()[-1] for line in output("nm", "-u", library())[1].splitlines() if " U " in line}
     suite.equal("it calls nothing but memcpy, memmove and memset", undefined - {"memcpy", "memmove", "memset"}, set())
-    _, data, bss, *_ = output("size", library)[1].splitlines()[1].split()
+    _, data, bss, *_ = output("size", library())[1].splitlines()[1].split()
     suite.equal("no statics", (data, bss), ("0", "0"))
 
 
@@ -105,18 +159,20 @@ def overruns(suite: Suite):
     for place in ("OLD_IMAGE", "NEW_IMAGE", "VALUES_BUFFER", "REPORT_BUFFER"):
         words = (f"-DOVERRUN={place}", HERE / "loader.c", HERE / "overrun.c")
         suite.equal(f"overrun.c at {place} builds", build(program, *words), 0)
-        suite.equal(f"a byte past {place}", output(program, *SAMPLE)[0], -signal.SIGSEGV)
-        suite.equal(f"a byte past {place}, empty images", output(program, "/dev/null", "/dev/null")[0], -signal.SIGSEGV)
+        for words in (SAMPLE, ["/dev/null", "/dev/null"], ["--imports", *SAMPLE], ["--imports", "/dev/null", "/dev/null"]):
+            suite.equal(f"a byte past {place}: {words}", output(program, *words)[0], -signal.SIGSEGV)
 
 
 def under_valgrind(suite: Suite):
     if not shutil.which("valgrind"):
         print("left out: the loading tool under valgrind, which is not here")
         return
-    for old, new in (SAMPLE, ["/dev/null", SAMPLE[1]]):
-        found = output("valgrind", "-q", "--error-exitcode=99", LOADER, "--counts", old, new)
-        suite.equal(f"valgrind {old} {new}", found, output(LOADER, "--counts", old, new))
+    for words in (SAMPLE, ["/dev/null", SAMPLE[1]], ["--imports", *SAMPLE], ["--imports", *sample_files("carousel-1", "carousel-3")]):
+        found = output("valgrind", "-q", "--error-exitcode=99", LOADER, "--counts", *words)
+        suite.equal(f"valgrind {words}", found, output(LOADER, "--counts", *words))
 
 
 if __name__ == "__main__":
-    sys.exit(Suite.run(samples, files, both_bad, of_record, counts, listings, usage, script, overruns, stack, under_valgrind))
+    by_both = (samples, files, both_bad, of_record, counts)
+    with_options = (with_imports(imported), counts_of_imports, listings, usage, script)
+    sys.exit(Suite.run(*by_both, *map(with_imports, by_both), *with_options, overruns, stack, archive, under_valgrind))
