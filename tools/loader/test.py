@@ -108,7 +108,9 @@ def script(suite: Suite):
         ["--list", *SAMPLE], ["--imports"], ["--imports", SAMPLE[0]], ["--imports", *SAMPLE, SAMPLE[0]], ["--imports", "--imports", *SAMPLE],
         ["--imports", "--list", SAMPLE[0]], ["--list", "--imports", SAMPLE[0]], [*SAMPLE, "--imports"],
     ):
-        suite.equal(f"the script's usage: {words}", output(tool, *words), (2, ""))
+        done = subprocess.run([tool, *words], capture_output=True, text=True)
+        told = (done.returncode, done.stdout, done.stderr.partition(" [")[0])
+        suite.equal(f"the script's usage: {words}", told, (2, "", "usage: ./vexil-compat"))
 
 
 def build(program: Path, *words) -> int:
