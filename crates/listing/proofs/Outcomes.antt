@@ -7,7 +7,7 @@ use Prim.Native.Nat.{ℕ, _≤_, _<_}
 use native.Mathlib.Omega.{arith}
 use borrow.Author.Tests.{le-leb, lt-leb, leb-true, leb-false}
 use lib.Dec.{leb}
-use lib.ListN.{length, replicate}
+use lib.ListN.{length}
 use Rattle.parts.specs.Promise.{Accepted, schemaOf}
 use Rattle.parts.proofs.Promise.{accepted-read, read-accepted}
 use Rattle.text.specs.Text.{Space, Puts}

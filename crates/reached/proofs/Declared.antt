@@ -6,8 +6,6 @@ use mathlib.Core.Option.{some}
 use Prim.Native.Nat.{ℕ, zero, suc, _<_}
 use borrow.Author.Tests.{eqb-true}
 use lib.Dec.{eqb}
-use Rattle.maps.specs.Keyed.{lookup}
-use Rattle.maps.specs.Orders.{before}
 use Rattle.maps.specs.Compare.{between}
 use Rattle.maps.proofs.Tests.{no-both}
 use Rattle.image.specs.Schema.{Name, Decl}
@@ -18,7 +16,7 @@ use Rattle.parts.specs.declared.Entry.{Entry}
 use Rattle.parts.specs.declared.Run.{Run}
 use Rattle.parts.specs.declared.Shape.{Shape}
 use Rattle.parts.proofs.Promise.{message-listed, union-listed, inner-here, inner-tree, resolved-body, resolved-none}
-use Rattle.rules.specs.Survivors.{standsFor, nameOf, declarations, viewOf}
+use Rattle.rules.specs.Survivors.{standsFor, declarations, viewOf}
 use Rattle.rules.specs.Clauses.{typesOf}
 use Rattle.rules.specs.Reached.{namedIn, namedOf, namedBy, namedFrom, IdSet}
 use Rattle.rules.specs.Imports.{standingWith}

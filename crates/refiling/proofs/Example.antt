@@ -15,7 +15,6 @@ use Rattle.image.specs.Image.{readImage}
 use Rattle.rules.specs.Equal.{sameName}
 use Rattle.rules.specs.Survivors.{Registry, standsFor}
 use Rattle.rules.specs.Outcome.{written}
-use Rattle.rules.specs.Answer.{checked}
 use Rattle.rules.specs.Edges.{named as namedType, around, u8, impl}
 use Rattle.rules.specs.Pinned.{told}
 use Rattle.rules.proofs.Equal.{names}

@@ -13,7 +13,7 @@ use Rattle.image.specs.Words.{bytes}
 use Rattle.rules.specs.Survivors.{standsFor}
 use Rattle.rules.specs.Edges.{told}
 use Rattle.rules.proofs.Computed.{reports}
-use Rattle.refiling.specs.Refiling.{Impls, NamesOnce, NumbersOnce, entries, RefiledId, Refiled}
+use Rattle.refiling.specs.Refiling.{Impls, NamesOnce, entries, RefiledId, Refiled}
 use Rattle.refiling.specs.Example.{listing, twoMessages, unnamed, twice, turned, Readings, Needed}
 use Rattle.refiling.proofs.Relation.{refilings}
 use Rattle.refiling.proofs.Tables.{Rows, renumbered-by, moved-id, primitive-anew, field-anew, decl-anew}

@@ -1,5 +1,5 @@
 -- `compat::policies::walk_of` meets its contract. Assumes nothing.
-use mathlib.Core.Path.{_≡_, ap}
+use mathlib.Core.Path.{ap}
 use Rattle.types.specs.declared.Reading.{Reading}
 use Rattle.items.specs.declared.Walk.{Walk}
 use Rattle.compat.specs.Policies.{walkOf}

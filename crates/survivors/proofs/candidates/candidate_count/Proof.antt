@@ -1,10 +1,7 @@
 -- `survivors::candidates::candidate_count` meets its contract. Assumes nothing.
-use mathlib.Core.Path.{sym, ap, _∙_}
-use Prim.Native.Nat.{_+_}
 use native.Mathlib.Omega.{arith}
 use Rattle.parts.proofs.Promise.{accepted-most, ids-most}
 use Rattle.survivors.proofs.Laws.Candidates.{candidates-length}
-use borrow.Author.Needs.{needs}
 use Rattle.survivors.proofs.candidates.candidate_count.Statement.{statement}
 use Rattle.survivors.proofs.candidates.candidate_count.Tie as tie
 
