@@ -98,10 +98,11 @@ enum vexil_compat_kind {
 #define VEXIL_COMPAT_VALUES ((size_t)VEXIL_COMPAT_COUNTS + (size_t)VEXIL_COMPAT_KINDS)
 
 /*
- * There are two verdicts on two images, with three calls each. The first compares the declarations that the images list. The one with
- * imports, `vexil_compat_imports_..`, also compares those that are not listed but reached: named in a type of a listed one, at any depth
- * of that type, or in a type of a reached one, and so on. Each name is compared once, and a listed declaration stands before a reached
- * one. VEXIL_COMPAT_ALIAS_PAIR is tested over all of them. Values, other refusals, lines and their order are the same in both.
+ * There are two verdicts on two images, with three calls each. The first compares the declarations that the images list, of one name the
+ * last. The one with imports, `vexil_compat_imports_..`, also compares those that are reached: named in a compared type of such a
+ * declaration, at any depth of that type, or in a compared type of a reached one, and so on. Each name is compared once: the listed
+ * declaration stands before a reached one, and of reached ones that with the highest id. VEXIL_COMPAT_ALIAS_PAIR is tested over all that
+ * stand. Values, other refusals, lines and their order are the same in both.
  */
 
 /*
