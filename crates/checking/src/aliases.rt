@@ -21,7 +21,7 @@ fn is_alias(image: &[u8], at: Entry) -> bool
     decl_kind(image, body) == ALIAS
 }
 
-// Whether the survivors of a name are generic aliases in both images.
+// Whether what stands under a name is a generic alias in both images.
 fn aliases_at(old: &[u8], new: &[u8], old_reached: &[bool], new_reached: &[bool], at: usize) -> bool
     requires { ⌜ BothSearchable (now old) (now new) (now «old_reached») (now «new_reached») × DeclHere (now old) at ⌝ }
     ensures { λ r. ⌜ r ≡ aliasesAt (now (old .entry)) (now (new .entry)) (now («old_reached» .entry)) (now («new_reached» .entry)) (declIn (now (old .entry)) at .name) ⌝ }
@@ -33,7 +33,7 @@ fn aliases_at(old: &[u8], new: &[u8], old_reached: &[bool], new_reached: &[bool]
     is_alias(new, survivor(new, new_reached, name))
 }
 
-// Whether an entry of the old image is a generic alias, and so are the survivors of its name in both images. Its kind is looked at before
+// Whether an entry of the old image is a generic alias, and so is what stands under its name in both images. Its kind is looked at before
 // any name.
 fn aliases_of(old: &[u8], new: &[u8], old_reached: &[bool], new_reached: &[bool], at: Entry) -> bool
     requires { ⌜ BothSearchable (now old) (now new) (now «old_reached») (now «new_reached») × EntryHere (now old) at ⌝ }
@@ -48,7 +48,7 @@ fn aliases_of(old: &[u8], new: &[u8], old_reached: &[bool], new_reached: &[bool]
     aliases_at(old, new, old_reached, new_reached, body)
 }
 
-// Whether the survivors of some name are generic aliases in both images.
+// Whether what stands under some name is a generic alias in both images.
 pub fn alias_pair(old: &[u8], new: &[u8], old_reached: &[bool], new_reached: &[bool]) -> bool
     requires { ⌜ BothSearchable (now old) (now new) (now «old_reached») (now «new_reached») ⌝ }
     ensures { λ r. ⌜ r ≡ bothAliases (now (old .entry)) (now (new .entry)) (now («old_reached» .entry)) (now («new_reached» .entry)) ⌝ }

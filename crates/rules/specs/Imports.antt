@@ -23,7 +23,7 @@ unfoldable pub markedIds : ℕ → IdSet → List ℕ
 markedIds id [] = []
 markedIds id (m ∷ ms) = cond m (id ∷ markedIds (suc id) ms) (markedIds (suc id) ms)
 
--- of one name the last of these, if none of the listed declarations has it: the ids of a set, rising, and after them the listed ids
+-- the survivors of one longer list: the ids of a set, rising, and after them the listed ids; of one name the last stands
 unfoldable pub standingWith : IdSet → Schema → List Decl
 standingWith m s = survivors nameOf before (listed (s .registry) (markedIds 0 m ++ s .ids))
 

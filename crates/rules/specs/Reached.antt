@@ -94,7 +94,7 @@ rounds R (suc n) m = rounds R n (round R m)
 unfoldable pub firstSet : Schema → IdSet
 firstSet s = markAll (s .registry) (replicate (length (s .registry)) false) (namedFrom (viewOf s))
 
--- as many rounds as the registry has entries: each but the last reaches one more, or none reaches any more
+-- as many rounds as the registry has entries: a round reaches one entry more at least, or it and all after it reach none
 unfoldable pub reachedSet : Schema → IdSet
 reachedSet s = rounds (s .registry) (length (s .registry)) (firstSet s)
 
