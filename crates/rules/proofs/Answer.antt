@@ -184,10 +184,6 @@ module _ (view : Schema → View) where
   unfolding firstFault aliasCheck orElse
   alias-fault x y e = rw e
 
-  pub no-alias-fault : (x y : Schema) → aliasPair (view x) (view y) ≡ false → firstFault (aliasCheck view ∷ []) x y ≡ none
-  unfolding firstFault aliasCheck orElse
-  no-alias-fault x y e = rw e
-
 pub usual-numbered : (view : Schema → View) (reading : Reading) → Numbered (usual view reading)
 usual-numbered view reading = record {
   alone = λ x k e. absurd (Option·none-ne-some k e);

@@ -3,17 +3,22 @@
 use mathlib.Core.Path.{_≡_, refl, ap, _∙_}
 use mathlib.Core.Bool.{true}
 use mathlib.Core.Option.{some}
-use mathlib.Core.List.{[], flatMap}
+use mathlib.Core.List.{[], _∷_, flatMap}
 use Prim.Native.Nat.{ℕ, zero, suc, _+_, _≤_, _<_}
 use native.Mathlib.Omega.{arith}
 use Rattle.maps.specs.Lists.{pass}
 use Rattle.maps.specs.Keyed.{insert, survivors}
 use Rattle.maps.specs.Walk.{isSome}
+use Rattle.maps.proofs.Tests.{no-both}
+use Rattle.image.specs.Schema.{Schema}
 use Rattle.image.specs.Kinds.{kindOf}
 use Rattle.rules.specs.Survivors.{standsFor, resolved, listed, declarations, viewOf}
 use Rattle.rules.specs.Clauses.{typesOf, comparedTypes}
-use Rattle.rules.specs.Reached.{namedLabel, namedIn, namedOf, namedFrom, member, resolvable, Reached, by-survivor, by-reached}
-use Rattle.rules.specs.ImportEdges.{told, under, link, links, chain, ImportEdges}
+use Rattle.rules.specs.Reached.{namedLabel, namedIn, namedOf, namedFrom, member, resolvable, Reached, by-survivor, by-reached, has, reachedSet, ReachedIs}
+use Rattle.rules.specs.Imports.{OnlyListed}
+use Rattle.rules.specs.Edges.{u8}
+use Rattle.rules.specs.ImportEdges.{told, entry, naming, listing, under, link, links, chain, ImportEdges}
+use Rattle.rules.proofs.Reached.{reached-is}
 use Rattle.rules.proofs.ReachedSets.{member-here}
 use Rattle.rules.proofs.Computed.{reports}
 
@@ -49,6 +54,24 @@ steps : (n id : ℕ) → 1 ≤ id → id ≤ n → Reached (chain n) id
 steps n zero l h = absurd (omega arith)
 steps n (suc id) l h = chain-reached n id h
 
+-- ---- an entry that is reached and listed
+
+abbrev listedToo : Schema
+listedToo = listing (naming (entry "B" u8 ∷ [])) (1 ∷ [])
+
+reached-listed : Reached listedToo 1
+unfolding reports
+reached-listed = by-survivor refl refl
+
+only-listed : OnlyListed listedToo
+unfolding reports
+only-listed id q = go id (reached-is listedToo .exactly id .1 q)
+  where
+    go : (id : ℕ) → has (reachedSet listedToo) id ≡ true → member id (listedToo .ids) ≡ true
+    go zero e = no-both e refl
+    go (suc zero) e = refl
+    go (suc (suc id)) e = no-both e refl
+
 -- ---- the rest by computation
 
 pub import-edges : ImportEdges
@@ -57,6 +80,7 @@ import-edges = record {
   inside = refl;
   insidePlain = refl;
   itself = refl;
+  itselfInside = refl;
   eachOther = refl;
   keptField = refl;
   lostField = refl;
@@ -87,6 +111,8 @@ import-edges = record {
   reachedImpl = refl;
   moved = refl;
   movedPlain = refl;
+  reachedListed = reached-listed;
+  onlyListed = only-listed;
   falling = refl;
   steps = steps;
   fiveHundred = steps 500 500 (omega arith) (omega arith);

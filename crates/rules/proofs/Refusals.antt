@@ -71,8 +71,8 @@ module _ (view : Schema → View) (rise : (s : Schema) → Rising nameOf before 
       let f = found-alias (t .0 .name) (view y .standing) (b .1) in
       record {
         name = t .0 .name;
-        inOld = record { survivor = t .0; stands = t .1; generic = eqb-true (t .0 .kind) 6 (b .0) };
-        inNew = record { survivor = f .0; stands = f .1; generic = f .2 };
+        inOld = record { decl = t .0; stands = t .1; generic = eqb-true (t .0 .kind) 6 (b .0) };
+        inNew = record { decl = f .0; stands = f .1; generic = f .2 };
       }
 
   pair-given : AliasPair view x y → aliasPair (view x) (view y) ≡ true
@@ -85,20 +85,20 @@ module _ (view : Schema → View) (rise : (s : Schema) → Rising nameOf before 
       test : Decl → Bool
       test d = alias d && isAlias (lookup nameOf before (d .name) (view y .standing))
 
-      passes : test (old .survivor) ≡ true
+      passes : test (old .decl) ≡ true
       passes =
           rw (
-            eq-eqb (old .survivor .kind) 6 (old .generic),
-            lookup-key nameOf byName (a .name) (view x .standing) (old .survivor)
+            eq-eqb (old .decl .kind) 6 (old .generic),
+            lookup-key nameOf byName (a .name) (view x .standing) (old .decl)
                 (old .stands),
             a .inNew .stands,
           )
-          (eq-eqb (a .inNew .survivor .kind) 6 (a .inNew .generic))
+          (eq-eqb (a .inNew .decl .kind) 6 (a .inNew .generic))
 
       go : (u : Bool) → aliasPair (view x) (view y) ≡ u → u ≡ true
       go true e = refl
       go false e =
-          no-both passes (all-lookup nameOf before (λ d. test d ≡ false) (a .name) (view x .standing) (old .survivor)
+          no-both passes (all-lookup nameOf before (λ d. test d ≡ false) (a .name) (view x .standing) (old .decl)
           (any-false test (view x .standing) e) (old .stands))
 
 -- ---- of any verdict

@@ -107,7 +107,7 @@ module _ (p : Policy) where
   abbrev pub leavesBy : List ℕ → List ℕ → List ℕ → List ℕ
   leavesBy old new out = written (reportBy old new (length out)) out
 
--- ---- the verdict of document 01
+-- ---- a verdict whose one check is 11
 
 -- 11: "survivors of one name are generic aliases in both images", of what stands in a view
 unfoldable pub aliasCheck : (Schema → View) → Check
@@ -116,6 +116,8 @@ aliasCheck view x y = cond (aliasPair (view x) (view y)) (some (fault (number al
 -- no check of one image alone; 11 of the pair
 abbrev pub usual : (Schema → View) → Reading → Policy
 usual view reading = record { alone = λ s. none; pair = aliasCheck view ∷ []; view = view; reading = reading }
+
+-- ---- the verdict of document 01
 
 -- types are read as document 01 says
 abbrev pub plainReading : Reading

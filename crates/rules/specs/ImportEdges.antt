@@ -12,7 +12,7 @@ use Rattle.text.specs.Decimal.{decimal}
 use Rattle.rules.specs.Outcome.{selected, written}
 use Rattle.rules.specs.Answer.{Policy, comparePair, plain}
 use Rattle.rules.specs.Reached.{Reached}
-use Rattle.rules.specs.Imports.{imports}
+use Rattle.rules.specs.Imports.{imports, OnlyListed}
 use Rattle.rules.specs.Edges.{newtype, named, around, u8, f32, impl, field, message, union, variant, silent}
 
 -- the report of two schemas, empty if they are refused
@@ -95,6 +95,8 @@ pub record ImportEdges : Type 0 where
   -- a type that names itself is compared once
   pub itself : told imports (newtype (optional (named 0)) []) (newtype (array (named 0)) [])
       ≡ bytes "FieldTypeChanged;Major;A;-;newtype 'A' inner type changed from optional<A> to array<A>\nBreaking;Major;1\n"
+  pub itselfInside : told imports (naming (entry "B" (optional (named 1)) ∷ [])) (naming (entry "B" (array (named 1)) ∷ []))
+      ≡ bytes "FieldTypeChanged;Major;B;-;newtype 'B' inner type changed from optional<B> to array<B>\nBreaking;Major;1\n"
   -- so are two that name each other
   pub eachOther : told imports (naming (entry "B" (optional (named 0)) ∷ [])) (naming (entry "B" (array (named 0)) ∷ []))
       ≡ bytes "FieldTypeChanged;Major;B;-;newtype 'B' inner type changed from optional<A> to array<A>\nBreaking;Major;1\n"
@@ -143,6 +145,9 @@ pub record ImportEdges : Type 0 where
   pub moved : told imports (listing (naming (entry "B" u8 ∷ [])) (1 ∷ [])) (naming (entry "B" u8 ∷ [])) ≡ silent
   pub movedPlain : told plain (listing (naming (entry "B" u8 ∷ [])) (1 ∷ [])) (naming (entry "B" u8 ∷ []))
       ≡ bytes "DeclarationRemoved;Major;B;-;newtype 'B' was removed\nBreaking;Major;1\n"
+  -- B is listed and reached: nothing is reached but what is listed
+  pub reachedListed : Reached (listing (naming (entry "B" u8 ∷ [])) (1 ∷ [])) 1
+  pub onlyListed : OnlyListed (listing (naming (entry "B" u8 ∷ [])) (1 ∷ []))
   -- over three steps to falling ids
   pub falling : changing imports (λ b. newtype (named 3) (b ∷ entry "C" (named 1) ∷ entry "D" (named 2) ∷ [])) ≡ seen
   -- every entry of a chain of any length is reached, also the one after 500 steps

@@ -98,9 +98,9 @@ pub record NewRefused (old new : List ℕ) (k : ℕ) : Type 0 where
 module _ (view : Schema → View) where
   -- what stands of a name is a generic alias
   pub record Alias (name : Name) (s : Schema) : Type 0 where
-    pub survivor : Decl
-    pub stands : lookup nameOf before name (view s .standing) ≡ some survivor
-    pub generic : survivor .kind ≡ number aliasKind
+    pub decl : Decl
+    pub stands : lookup nameOf before name (view s .standing) ≡ some decl
+    pub generic : decl .kind ≡ number aliasKind
 
   -- "survivors of one name are generic aliases in both images"
   pub record AliasPair (old new : Schema) : Type 0 where

@@ -5,9 +5,7 @@ use mathlib.Core.List.{List}
 use Prim.Native.Nat.{ℕ}
 use Rattle.maps.specs.Orders.{before}
 use Rattle.maps.specs.Keyed.{lookup}
-use Rattle.maps.specs.Walk.{Rising, following}
-use Rattle.maps.proofs.Names.{byName}
-use Rattle.maps.proofs.Walking.{turn}
+use Rattle.maps.specs.Walk.{following}
 use Rattle.image.specs.Schema.{Name, Decl}
 use Rattle.parts.specs.Promise.{DeclHere, declIn}
 use Rattle.parts.specs.declared.Entry.{Entry}
@@ -43,10 +41,3 @@ module _ {m : List Decl} (s : List ℕ) (after : Entry) {r : Entry} (h : Follows
 
     pub follows-here : DeclHere s at
     follows-here = entry-here s e (h .here)
-
-    -- it is the survivor of its name
-    pub follows-survives : Rising nameOf before m → Survives m s (declIn s at .name) r
-    follows-survives R = record {
-      value = decl-body s e ∙ sym (turn nameOf byName (named s after) (declIn s at) m R follows-body .found);
-      here = h .here;
-    }
