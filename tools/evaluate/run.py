@@ -1,9 +1,9 @@
 #!/usr/bin/env python3
-"""run.py [FIRST [COUNT]]: holds the definitions of crates/rules against recorded answers of the Rust, by computation.
+"""run.py [--imports] [FIRST [COUNT]]: holds the definitions of crates/rules against recorded answers, by computation.
 
 Of each recorded pair that is small enough it writes two theorems: the selectors, and the report, that the definitions give for these bytes
 are the recorded ones, by `refl`. The theorems are checked in a temporary repository, 20 to a file. Not part of the gate: some hundred
-pairs take a minute.
+pairs take a minute. The answers are those of the Rust; with --imports those of the model with imports, of the pairs on which it has another.
 """
 
 import shutil
@@ -20,8 +20,11 @@ PER_FILE = 20
 # `reports` unfolds all that a report is computed by.
 USES = """use mathlib.Core.Path.{_≡_, refl}
 use mathlib.Core.List.{[], _∷_}
-use Rattle.rules.specs.Answer.{checked, selected}
+use Rattle.rules.specs.Outcome.{selected}
+use Rattle.rules.specs.Answer.{outcome, checked}
+use Rattle.rules.specs.Imports.{imports}
 use Rattle.rules.specs.Pinned.{hex, told}
+use Rattle.rules.specs.PinnedImports.{importsTold}
 use Rattle.rules.proofs.Computed.{reports}
 """
 
@@ -58,18 +61,19 @@ def recorded(imports=False):
         yield name, old, new, *(other if imports else plain)
 
 
-def theorem(place, pair):
+def theorem(place, pair, imports):
     name, old, new, selectors, report = pair
+    checked, told, more = ("outcome imports", "importsTold", " importsTold") if imports else ("checked", "told", "")
     old, new, report = ('(hex "' + data.hex(" ") + '")' for data in (old, new, report))
     if selectors[0] != 0:
         selectors = selectors[:4]
     wanted = " ∷ ".join(map(str, selectors)) + " ∷ []"
-    claims = {"selected": f"selected (checked {old} {new}) ≡ {wanted}", "told": f"told {old} {new} ≡ {report}"}
-    proved = (f"{part}-{place} : {claim}\nunfolding reports\n{part}-{place} = refl\n" for part, claim in claims.items())
+    claims = {"selected": f"selected ({checked} {old} {new}) ≡ {wanted}", "told": f"{told} {old} {new} ≡ {report}"}
+    proved = (f"{part}-{place} : {claim}\nunfolding reports{more}\n{part}-{place} = refl\n" for part, claim in claims.items())
     return f"-- {name}\n" + "\n".join(proved)
 
 
-def write(folder, pairs):
+def write(folder, pairs, imports):
     """A repository with the definitions and a crate of theorems."""
     for crate in CRATES:
         shutil.copytree(ROOT / "crates" / crate, folder / "crates" / crate)
@@ -81,17 +85,22 @@ def write(folder, pairs):
     (folder / "crates.txt").write_text("\n".join(listed) + f"\nevaluated: {' '.join(CRATES)}\n")
     files = range(0, len(pairs), PER_FILE)
     for number, first in enumerate(files):
-        theorems = (theorem(place, pair) for place, pair in enumerate(pairs[first : first + PER_FILE]))
+        theorems = (theorem(place, pair, imports) for place, pair in enumerate(pairs[first : first + PER_FILE]))
         (proofs / f"Pairs{number}.antt").write_text(USES + "\n" + "\n".join(theorems))
     (proofs / "Lib.antt").write_text("".join(f"pub mod Pairs{number}\n" for number in range(len(files))))
 
 
 def main():
-    first, count = (int(word) for word in (sys.argv[1:] + ["0", "300"][len(sys.argv) - 1 :])[:2])
-    small = [pair for pair in recorded() if len(pair[1]) + len(pair[2]) < IMAGES and len(pair[4]) < REPORT]
+    imports = sys.argv[1:2] == ["--imports"]
+    words = sys.argv[2:] if imports else sys.argv[1:]
+    first, count = (int(word) for word in (words + ["0", "300"][len(words) :])[:2])
+    answers = recorded()
+    if imports:
+        answers = (with_imports for plain, with_imports in zip(recorded(), recorded(True)) if plain != with_imports)
+    small = [pair for pair in answers if len(pair[1]) + len(pair[2]) < IMAGES and len(pair[4]) < REPORT]
     pairs = small[first : first + count]
     with tempfile.TemporaryDirectory() as folder:
-        write(Path(folder), pairs)
+        write(Path(folder), pairs, imports)
         run = subprocess.run(["rt", "check", "evaluated"], cwd=folder, stdout=subprocess.PIPE, stderr=subprocess.STDOUT, text=True)
     errors = [line for line in run.stdout.splitlines() if ": error:" in line]
     print("\n".join(errors))

@@ -1,11 +1,17 @@
-//! What crates/rules/specs/Pinned.antt pins, read as data: images in hexadecimal,
-//! and what is said of pairs of them.
+//! What crates/rules/specs/Pinned.antt and PinnedImports.antt pin, read as data:
+//! images in hexadecimal, and what is said of pairs of them by which verdict.
 
+use crate::answer::Verdict;
 use crate::changes::{ChangeKind, CHANGE_KINDS};
 use std::collections::BTreeMap;
 use std::sync::OnceLock;
 
-const TEXT: &str = include_str!("../../../crates/rules/specs/Pinned.antt");
+/// The second has images of the first.
+const TEXT: &str = concat!(
+    include_str!("../../../crates/rules/specs/Pinned.antt"),
+    include_str!("../../../crates/rules/specs/PinnedImports.antt")
+);
+const RECORDS: [&str; 2] = ["Pinned", "PinnedImports"];
 
 /// What is said of a pair.
 #[derive(Clone, PartialEq, Debug)]
@@ -24,37 +30,49 @@ pub enum Said {
 pub struct Pin {
     pub names: [String; 2],
     pub images: [Vec<u8>; 2],
+    pub verdict: Verdict,
     pub said: Said,
 }
 
 /// All that is pinned, in the order of the file.
 pub fn pins() -> &'static [Pin] {
     static PINS: OnceLock<Vec<Pin>> = OnceLock::new();
-    PINS.get_or_init(|| read(TEXT).unwrap_or_else(|fault| panic!("Pinned.antt: {fault}")))
+    PINS.get_or_init(|| {
+        let read = read(TEXT, &RECORDS);
+        read.unwrap_or_else(|fault| panic!("Pinned.antt, PinnedImports.antt: {fault}"))
+    })
 }
 
-/// The pins of a text; nothing is passed over.
-pub fn read(text: &str) -> Result<Vec<Pin>, String> {
+/// The pins of a text with these records; nothing in them is passed over.
+pub fn read(text: &str, records: &[&str]) -> Result<Vec<Pin>, String> {
     let words = words(text);
     let words: Vec<&str> = words.iter().map(String::as_str).collect();
     let images = images(&words)?;
-    let record = words.windows(2).position(|w| w == ["record", "Pinned"]);
-    let record = &words[record.ok_or("no record Pinned")?..];
     let mut pins = Vec::new();
-    for field in record.split(|word| *word == "pub").skip(1) {
-        let said = said(field).map_err(|fault| format!("{fault}: {}", field.join(" ")))?;
-        for (names, said) in said {
-            let image = |name: &str| images.get(name).cloned().ok_or(format!("no image {name}"));
-            let images = [image(names[0])?, image(names[1])?];
-            let names = names.map(str::to_string);
-            pins.push(Pin {
-                names,
-                images,
-                said,
-            });
+    for record in records {
+        for field in fields(&words, record)? {
+            let said = said(field).map_err(|fault| format!("{fault}: {}", field.join(" ")))?;
+            for (names, verdict, said) in said {
+                let image = |n: &str| images.get(n).cloned().ok_or(format!("no image {n}"));
+                pins.push(Pin {
+                    images: [image(names[0])?, image(names[1])?],
+                    names: names.map(str::to_string),
+                    verdict,
+                    said,
+                });
+            }
         }
     }
     Ok(pins)
+}
+
+/// The fields of a record, which goes on to the next file, if there is one.
+fn fields<'a, 'b>(words: &'b [&'a str], record: &str) -> Result<Vec<&'b [&'a str]>, String> {
+    let start = words.windows(2).position(|w| w == ["record", record]);
+    let rest = &words[start.ok_or(format!("no record {record}"))?..];
+    let end = rest.iter().position(|word| *word == "use");
+    let fields = rest[..end.unwrap_or(rest.len())].split(|word| *word == "pub");
+    Ok(fields.skip(1).collect())
 }
 
 /// Words, parentheses and texts, each text after a quotation mark; no comments.
@@ -92,36 +110,55 @@ fn images(words: &[&str]) -> Result<BTreeMap<String, Vec<u8>>, String> {
     Ok(images)
 }
 
-/// What a field of the record says, by pairs of names.
-fn said<'a>(field: &[&'a str]) -> Result<Vec<([&'a str; 2], Said)>, String> {
+/// What a field of the record says, by pairs of names and by a verdict.
+fn said<'a>(field: &[&'a str]) -> Result<Vec<([&'a str; 2], Verdict, Said)>, String> {
     let [_, ":", field @ ..] = field else {
         return Err("no field".to_string());
     };
-    let (pair, said) = match field {
-        ["told", old, new, "≡", "lines", "(", lines @ ..] => {
+    let (pair, verdict, said) = match field {
+        [call @ ("told" | "importsTold"), old, new, "≡", "lines", "(", lines @ ..] => {
             let lines: Result<Vec<&str>, String> = list(lines)?.into_iter().map(text).collect();
             let lines = lines?.into_iter().map(str::to_string).collect();
-            ([*old, *new], Said::Report(lines))
+            ([*old, *new], asked(call)?, Said::Report(lines))
         }
         ["selected", "(", "checked", old, new, ")", "≡", values @ ..] => {
-            let values: Result<_, String> = list(values)?.into_iter().map(number).collect();
-            ([*old, *new], Said::Values(values?))
+            ([*old, *new], Verdict::Plain, Said::Values(numbers(values)?))
         }
-        ["distance", "verdictOf", old, new, "≡", distance] => {
-            ([*old, *new], Said::Distance(number(distance)?))
+        ["selected", "(", "outcome", "imports", old, new, ")", "≡", values @ ..] => {
+            let values = Said::Values(numbers(values)?);
+            ([*old, *new], Verdict::Imports, values)
         }
-        ["countBetween", "verdictOf", "(", "kindAt", name, ")", old, new, "≡", count] => {
-            ([*old, *new], Said::Count(kind(name)?, number(count)?))
+        ["distance", call, old, new, "≡", distance] => {
+            let distance = Said::Distance(number(distance)?);
+            ([*old, *new], asked(call)?, distance)
         }
-        ["Verdict", "verdictOf", old, new] => ([*old, *new], Said::Verdict),
-        ["Steps", "verdictOf", first, "(", rest @ ..] => {
+        ["countBetween", call, "(", "kindAt", name, ")", old, new, "≡", count] => {
+            let count = Said::Count(kind(name)?, number(count)?);
+            ([*old, *new], asked(call)?, count)
+        }
+        ["Verdict", call, old, new] => ([*old, *new], asked(call)?, Said::Verdict),
+        ["Steps", call, first, "(", rest @ ..] => {
+            let verdict = asked(call)?;
             let chain: Vec<&str> = [*first].into_iter().chain(list(rest)?).collect();
             let pairs = chain.windows(2).map(|pair| [pair[0], pair[1]]);
-            return Ok(pairs.map(|pair| (pair, Said::Verdict)).collect());
+            return Ok(pairs.map(|pair| (pair, verdict, Said::Verdict)).collect());
         }
         _ => return Err("not understood".to_string()),
     };
-    Ok(vec![(pair, said)])
+    Ok(vec![(pair, verdict, said)])
+}
+
+/// The verdict of a call.
+fn asked(call: &str) -> Result<Verdict, String> {
+    match call {
+        "told" | "verdictOf" => Ok(Verdict::Plain),
+        "importsTold" | "importsOf" => Ok(Verdict::Imports),
+        _ => Err(format!("{call} is no call")),
+    }
+}
+
+fn numbers(words: &[&str]) -> Result<Vec<u64>, String> {
+    list(words)?.into_iter().map(number).collect()
 }
 
 /// The items of `a ∷ b ∷ []`, after which at most a parenthesis stands that closes.

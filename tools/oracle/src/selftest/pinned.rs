@@ -2,13 +2,14 @@
 //! text is read whole or not at all.
 
 use super::Tests;
-use crate::answer::{judge, Answer, SELECTORS};
+use crate::answer::{judge, Answer, Verdict, SELECTORS};
 use crate::pinned::{pins, read, Pin, Said};
 
 pub fn run(tests: &mut Tests) {
     for pin in pins() {
         let [old, new] = &pin.images;
-        let (name, answer) = (pin.names.join(" "), judge(old, new).answer);
+        let answer = judge(old, new).by(pin.verdict);
+        let name = format!("{} {:?}", pin.names.join(" "), pin.verdict);
         tests.equal(&name, found(&answer, &pin.said), pin.said.clone());
     }
     tests.holds("20 pins or more", pins().len() >= 20);
@@ -50,7 +51,7 @@ pub record Pinned : Type 0 where
   pub ";
 
 /// Fields, and the pins of each; none of one that is not understood.
-const FIELDS: [(&str, &str); 14] = [
+const FIELDS: [(&str, &str); 20] = [
     (
         "f : told a b ≡ lines (\"x (y)\" ∷ \"z\" ∷ [])",
         "a b Report([\"x (y)\", \"z\"])",
@@ -72,6 +73,24 @@ const FIELDS: [(&str, &str); 14] = [
         "f : Verdict verdictOf a b\n  -- more\n  pub g : Verdict verdictOf b b",
         "a b Verdict, b b Verdict",
     ),
+    (
+        "f : importsTold a b ≡ lines (\"x\" ∷ [])",
+        "a b with imports Report([\"x\"])",
+    ),
+    (
+        "f : selected (outcome imports a a) ≡ 11 ∷ 3 ∷ []",
+        "a a with imports Values([11, 3])",
+    ),
+    (
+        "f : distance importsOf b a ≡ 2\nuse x.{y}\n  pub g : 1 ≡ 1",
+        "b a with imports Distance(2)",
+    ),
+    (
+        "f : Steps importsOf a (b ∷ [])",
+        "a b with imports Verdict",
+    ),
+    ("f : distance otherOf a b ≡ 2", ""),
+    ("f : selected (outcome plain a a) ≡ 11 ∷ []", ""),
     ("f : told a c ≡ lines (\"x\" ∷ [])", ""),
     ("f : told a b ≡ lines (\"x\" ∷", ""),
     ("f : told a b ≡ lines (x ∷ [])", ""),
@@ -84,20 +103,25 @@ const FIELDS: [(&str, &str); 14] = [
 
 /// The pins of a text with this field, shown; none of one that is not understood.
 fn shown(field: &str) -> String {
-    let pins = read(&format!("{START}{field}")).unwrap_or_default();
-    let show = |pin: &Pin| format!("{} {:?}", pin.names.join(" "), pin.said);
+    let pins = read(&format!("{START}{field}"), &["Pinned"]).unwrap_or_default();
+    let by = |pin: &Pin| match pin.verdict {
+        Verdict::Plain => "",
+        Verdict::Imports => " with imports",
+    };
+    let show = |pin: &Pin| format!("{}{} {:?}", pin.names.join(" "), by(pin), pin.said);
     pins.iter().map(show).collect::<Vec<_>>().join(", ")
 }
 
 /// Texts with one field.
 fn form(tests: &mut Tests) {
-    let images =
-        read(&format!("{START}f : Verdict verdictOf a b")).map(|pins| pins[0].images.clone());
+    let pins = read(&format!("{START}f : Verdict verdictOf a b"), &["Pinned"]);
+    let images = pins.map(|pins| pins[0].images.clone());
     tests.equal("two images", images, Ok([vec![1, 255, 2], vec![10]]));
     for (field, wanted) in FIELDS {
         tests.equal(field, shown(field), wanted.to_string());
     }
     let other = START.replace("0a", "0g");
-    tests.holds("an image that is none", read(&other).is_err());
-    tests.holds("no record", read("a = image (\"01\" ∷ [])").is_err());
+    tests.holds("an image that is none", read(&other, &["Pinned"]).is_err());
+    let none = read("a = image (\"01\" ∷ [])", &["Pinned"]);
+    tests.holds("no record", none.is_err());
 }
