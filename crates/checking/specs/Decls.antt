@@ -1,5 +1,5 @@
--- The declarations of two images, compared by name: what is reported of them, part by part. With each image goes a set of its ids that stand
--- before the listed ones. Assumes nothing.
+-- The declarations of two images, compared by name: what is reported of them, part by part. With each image goes a set of its ids that may
+-- stand besides the listed ones. Assumes nothing.
 use mathlib.Core.Bool.{Bool, false, _&&_}
 use mathlib.Core.Option.{Option, none, some}
 use mathlib.Core.List.{List}

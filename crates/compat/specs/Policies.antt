@@ -32,7 +32,7 @@ unfoldable pub readingIn : Policy → Reading
 readingIn policy.Plain = Reading.Plain
 readingIn policy.Imports = Reading.Plain
 
--- the ids of a schema that stand before the listed ones
+-- the ids of a schema that may stand besides the listed ones
 unfoldable pub idsBy : Policy → Schema → IdSet
 idsBy policy.Plain x = []
 idsBy policy.Imports x = reachedSet x

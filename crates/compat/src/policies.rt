@@ -47,7 +47,7 @@ pub fn walk_of(policy: Policy, mode: Mode) -> Walk
     }
 }
 
-// The ids of an image that stand before the listed ones.
+// The ids of an image that may stand besides the listed ones.
 pub fn ids_of(policy: Policy, image: &[u8]) -> Reached
     requires { ⌜ Accepted (now image) ⌝ }
     ensures { λ r. ⌜ HasIds policy (now (image .entry)) r ⌝ }

@@ -1,4 +1,5 @@
-// Declarations by their names: "Of declarations with one name the last listed stands." Reached ids stand before the listed ones.
+// Declarations by their names: "Of declarations with one name the last listed stands." Ids of a set may stand
+// too: they are met as if they were listed first.
 use crate::candidates::candidate;
 use crate::candidates::candidate_count;
 use maps::Order;
