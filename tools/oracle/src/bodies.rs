@@ -4,21 +4,17 @@ use crate::cursor::Cursor;
 use crate::limits::{DELTAS, NODES};
 use crate::refusal::{Read, Refusal, BODY, CODE, DEEP, KIND};
 use crate::schema::*;
+use std::ops::Range;
 
-pub fn read_body(bytes: &[u8]) -> Read<Declaration> {
-    let mut body = Cursor::new(bytes, BODY);
+/// The body that stands in this part of the image.
+pub fn read_body(image: &[u8], part: Range<usize>) -> Read<Declaration> {
+    let start = part.start;
+    let mut body = Cursor::of_part(image, part, BODY);
     let kind = body.u8("kind")?;
     if kind > IMPL {
-        return Err(Refusal::new(KIND, "kind", u64::from(kind)));
+        return Err(Refusal::new(KIND, "kind", u64::from(kind)).at(start));
     }
-    let whole = read_declaration(&mut body, kind).and_then(|declaration| match body.left() {
-        0 => Ok(declaration),
-        left => Err(Refusal::new(BODY, "left over", left as u64)),
-    });
-    whole.map_err(|refusal| Refusal {
-        kind: Some(kind),
-        ..refusal
-    })
+    read_declaration(&mut body, kind).map_err(|refusal| refusal.of_kind(kind))
 }
 
 fn read_declaration(body: &mut Cursor, kind: u8) -> Read<Declaration> {
@@ -26,7 +22,15 @@ fn read_declaration(body: &mut Cursor, kind: u8) -> Read<Declaration> {
         IMPL => String::new(),
         _ => body.name("declaration name")?,
     };
-    let body = match kind {
+    match read_rest(body, kind) {
+        Ok(body) => Ok(Declaration { name, body }),
+        Err(refusal) => Err(refusal.of_name(name)),
+    }
+}
+
+/// What follows the name, up to the body's end.
+fn read_rest(body: &mut Cursor, kind: u8) -> Read<Body> {
+    let read = match kind {
         0 => Body::Message(read_marks(body, "marks")?, read_fields(body)?),
         1 => Body::Enum(
             read_marks(body, "marks")?,
@@ -40,7 +44,10 @@ fn read_declaration(body: &mut Cursor, kind: u8) -> Read<Declaration> {
         7 => Body::Trait,
         _ => Body::Impl,
     };
-    Ok(Declaration { name, body })
+    match body.left() {
+        0 => Ok(read),
+        left => Err(Refusal::new(BODY, "left over", left as u64).at(body.at())),
+    }
 }
 
 fn read_list<T>(
@@ -93,9 +100,10 @@ fn read_code(
     what: &'static str,
     values: std::ops::RangeInclusive<u8>,
 ) -> Read<u8> {
+    let at = body.at();
     match body.u8(what)? {
         code if values.contains(&code) => Ok(code),
-        code => Err(Refusal::new(CODE, what, u64::from(code))),
+        code => Err(Refusal::new(CODE, what, u64::from(code)).at(at)),
     }
 }
 
@@ -111,8 +119,9 @@ fn read_encoding(body: &mut Cursor) -> Read<Encoding> {
         } else {
             "inner encoding"
         };
+        let at = body.at();
         match read_code(body, what, 0..=3)? {
-            3 if deltas == DELTAS => return Err(Refusal::new(DEEP, "delta", 9)),
+            3 if deltas == DELTAS => return Err(Refusal::new(DEEP, "delta", 9).at(at)),
             3 => deltas += 1,
             base => return Ok(Encoding { deltas, base }),
         }
@@ -147,7 +156,7 @@ fn read_type(body: &mut Cursor, node: usize) -> Read<Type> {
 /// A node too many is refused before its tag is read.
 fn read_inner(body: &mut Cursor, outer: u8, node: usize) -> Read<Type> {
     if node > NODES {
-        return Err(Refusal::new(DEEP, "node under tag", u64::from(outer)));
+        return Err(Refusal::new(DEEP, "node under tag", u64::from(outer)).at(body.at()));
     }
     read_type(body, node)
 }

@@ -1,8 +1,11 @@
 //! Reading numbers and names from left to right out of a part of an image.
 
 use crate::refusal::{Read, Refusal, NAME};
+use std::ops::Range;
 
 pub struct Cursor<'a> {
+    /// From the image's first byte to the part's end, so that a place in them is one
+    /// in the image.
     bytes: &'a [u8],
     at: usize,
     /// The refusal for a part that ends early: 2 in front of the bodies, 8 in one.
@@ -11,13 +14,18 @@ pub struct Cursor<'a> {
 
 impl<'a> Cursor<'a> {
     pub fn new(bytes: &'a [u8], early: u8) -> Cursor<'a> {
+        Cursor::of_part(bytes, 0..bytes.len(), early)
+    }
+
+    pub fn of_part(image: &'a [u8], part: Range<usize>, early: u8) -> Cursor<'a> {
         Cursor {
-            bytes,
-            at: 0,
+            bytes: &image[..part.end],
+            at: part.start,
             early,
         }
     }
 
+    /// The next byte, from the image's first.
     pub fn at(&self) -> usize {
         self.at
     }
@@ -29,7 +37,7 @@ impl<'a> Cursor<'a> {
     pub fn take(&mut self, count: usize, what: &'static str) -> Read<&'a [u8]> {
         if self.left() < count {
             let missing = count - self.left();
-            return Err(Refusal::new(self.early, what, missing as u64));
+            return Err(Refusal::new(self.early, what, missing as u64).at(self.at));
         }
         let taken = &self.bytes[self.at..self.at + count];
         self.at += count;
@@ -61,9 +69,10 @@ impl<'a> Cursor<'a> {
     /// A name. Its length is held against what is left before its bytes are judged.
     pub fn name(&mut self, what: &'static str) -> Read<String> {
         let length = self.u8("name length")?;
+        let start = self.at;
         let bytes = self.take(usize::from(length), what)?;
-        match bytes.iter().find(|b| !allowed(**b)) {
-            Some(byte) => Err(Refusal::new(NAME, what, u64::from(*byte))),
+        match (start..).zip(bytes).find(|(_, b)| !allowed(**b)) {
+            Some((at, byte)) => Err(Refusal::new(NAME, what, u64::from(*byte)).at(at)),
             None => Ok(bytes.iter().map(|b| char::from(*b)).collect()),
         }
     }

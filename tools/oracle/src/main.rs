@@ -51,6 +51,7 @@ const USAGE: &str = "usage: oracle report [--imports] OLD NEW
        oracle list IMAGE
        oracle generate FILE [--seed N]
        oracle verify FILE
+       oracle places FILE
        oracle random [--imports] SEED COUNT
        oracle selftest
 built with the library also:
@@ -83,6 +84,7 @@ fn run(words: &[&str]) -> Outcome {
         ["generate", path] => record::generate(path, record::SEED),
         ["generate", path, "--seed", seed] => record::generate(path, number(seed)?),
         ["verify", path] => record::verify(path),
+        ["places", path] => record::places(path),
         ["random", "--imports", seed, count] => {
             commands::random_imports(number(seed)?, number(count)?)
         }

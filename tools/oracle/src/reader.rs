@@ -3,7 +3,7 @@
 
 use crate::bodies::read_body;
 use crate::cursor::Cursor;
-use crate::limits::{ENTRIES, FORMAT, HEAD_BYTES, IDS, IMAGE_BYTES, SEGMENTS};
+use crate::limits::{ENTRIES, ENTRY_BYTES, FORMAT, HEAD_BYTES, IDS, IMAGE_BYTES, SEGMENTS};
 use crate::refusal::{self, Read, Refusal, CONTENTS, CROWDED, LONG, SHORT_HEAD};
 use crate::schema::Schema;
 
@@ -40,7 +40,7 @@ pub fn read_image(image: &[u8]) -> Read<Schema> {
         .zip(&contents)
         .map(|(id, entry)| match entry.is_empty() {
             true => Ok(None),
-            false => read_body(&image[entry.offset..entry.offset + entry.length])
+            false => read_body(image, entry.offset..entry.offset + entry.length)
                 .map(Some)
                 .map_err(|refusal| refusal.of_entry(id)),
         })
@@ -57,11 +57,14 @@ fn read_head(front: &mut Cursor) -> Read<Head> {
     let mut head = Cursor::new(front.take(HEAD_BYTES, "head")?, SHORT_HEAD);
     let format = head.u16("format")?;
     if format != FORMAT {
-        return Err(Refusal::new(refusal::FORMAT, "format", u64::from(format)));
+        return Err(Refusal::new(refusal::FORMAT, "format", u64::from(format)).at(0));
     }
-    let mut count = |what, most| match head.u16(what)? {
-        count if count > most => Err(Refusal::new(CROWDED, what, u64::from(count))),
-        count => Ok(count),
+    let mut count = |what, most| {
+        let at = head.at();
+        match head.u16(what)? {
+            count if count > most => Err(Refusal::new(CROWDED, what, u64::from(count)).at(at)),
+            count => Ok(count),
+        }
     };
     Ok(Head {
         entries: count("N", ENTRIES)?,
@@ -71,7 +74,7 @@ fn read_head(front: &mut Cursor) -> Read<Head> {
 }
 
 fn read_contents(front: &mut Cursor, entries: u16) -> Read<Vec<Entry>> {
-    let bytes = front.take(4 * usize::from(entries), "contents")?;
+    let bytes = front.take(ENTRY_BYTES * usize::from(entries), "contents")?;
     let mut pairs = Cursor::new(bytes, SHORT_HEAD);
     (0..entries)
         .map(|_| {
@@ -89,12 +92,13 @@ fn read_ids(front: &mut Cursor, ids: u16) -> Read<Vec<u32>> {
 }
 
 /// The bodies stand in contents order without gaps from the names' end to the
-/// image's end.
+/// image's end. A fault of an entry stands at its pair.
 fn judge_contents(contents: &[Entry], names_end: usize, image_end: usize) -> Read<()> {
     let refusal = |what, value: usize| Refusal::new(CONTENTS, what, value as u64);
     let mut end = names_end;
     for (id, entry) in (0..).zip(contents).filter(|(_, entry)| !entry.is_empty()) {
-        let refused = |what, value| Err(refusal(what, value).of_entry(id));
+        let at = HEAD_BYTES + ENTRY_BYTES * id;
+        let refused = |what, value| Err(refusal(what, value).of_entry(id).at(at));
         if entry.length == 0 {
             return refused("entry of no length", entry.offset);
         }
@@ -111,7 +115,7 @@ fn judge_contents(contents: &[Entry], names_end: usize, image_end: usize) -> Rea
     }
     match image_end - end {
         0 => Ok(()),
-        left if end == names_end => Err(refusal("left after the names", left)),
-        left => Err(refusal("left after the last body", left)),
+        left if end == names_end => Err(refusal("left after the names", left).at(end)),
+        left => Err(refusal("left after the last body", left).at(end)),
     }
 }

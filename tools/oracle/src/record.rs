@@ -5,6 +5,8 @@ use crate::answers::{self, Answered, Recorded};
 use crate::cases;
 use crate::commands::Outcome;
 use crate::coverage::Coverage;
+use crate::reader::read_image;
+use std::io::Write;
 
 /// The seed of the committed file.
 pub const SEED: u64 = 20_261_115;
@@ -37,10 +39,26 @@ pub fn generate(path: &str, seed: u64) -> Outcome {
     Ok(())
 }
 
+fn recorded(path: &str) -> Result<Vec<Recorded>, String> {
+    let bytes = std::fs::read(path).map_err(|error| format!("{path}: {error}"))?;
+    answers::read(&bytes).map_err(|error| format!("{path}: {error}"))
+}
+
+/// What the reader says of every recorded image, a line each.
+pub fn places(path: &str) -> Outcome {
+    let list = recorded(path)?;
+    let images = list.iter().flat_map(|pair| [&pair.old, &pair.new]);
+    let lines = images.map(|image| match read_image(image) {
+        Ok(_) => "accepted\n".to_string(),
+        Err(refusal) => format!("{refusal}\n"),
+    });
+    let written = std::io::stdout().write_all(lines.collect::<String>().as_bytes());
+    written.map_err(|error| error.to_string())
+}
+
 /// Runs every recorded pair again and compares every member of its answer.
 pub fn verify(path: &str) -> Outcome {
-    let bytes = std::fs::read(path).map_err(|error| format!("{path}: {error}"))?;
-    let list = answers::read(&bytes).map_err(|error| format!("{path}: {error}"))?;
+    let list = recorded(path)?;
     let mut differing = 0;
     for recorded in &list {
         if let Some(difference) = again(recorded) {

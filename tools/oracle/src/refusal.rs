@@ -2,7 +2,7 @@
 //! coverage table.
 
 use crate::limits::IMAGE_BYTES;
-use crate::schema::KIND_NAMES;
+use crate::schema::{IMPL, KIND_NAMES};
 use std::fmt;
 
 #[derive(Clone, PartialEq, Debug)]
@@ -16,6 +16,10 @@ pub struct Refusal {
     pub entry: Option<usize>,
     /// The kind of the body it stands in.
     pub kind: Option<u8>,
+    /// The name of the declaration it stands in; empty for an impl.
+    pub name: Option<String>,
+    /// The first byte of what was being read or judged, from the image's first.
+    pub at: Option<usize>,
 }
 
 impl Refusal {
@@ -26,6 +30,15 @@ impl Refusal {
             value,
             entry: None,
             kind: None,
+            name: None,
+            at: None,
+        }
+    }
+
+    pub fn at(self, byte: usize) -> Refusal {
+        Refusal {
+            at: Some(byte),
+            ..self
         }
     }
 
@@ -36,13 +49,37 @@ impl Refusal {
         }
     }
 
-    /// The entry and its kind, as far as they are known.
+    pub fn of_kind(self, kind: u8) -> Refusal {
+        Refusal {
+            kind: Some(kind),
+            ..self
+        }
+    }
+
+    pub fn of_name(self, name: String) -> Refusal {
+        Refusal {
+            name: Some(name),
+            ..self
+        }
+    }
+
+    /// The entry, its declaration and the byte, as far as they are known.
     fn place(&self) -> String {
-        let kind = self.kind.map(|kind| KIND_NAMES[usize::from(kind)]);
-        match (self.entry, kind) {
-            (Some(id), Some(kind)) => format!("entry {id}, {kind}: "),
-            (Some(id), None) => format!("entry {id}: "),
-            (None, _) => String::new(),
+        let parts = [
+            self.entry.map(|id| format!("entry {id}")),
+            self.kind.map(|kind| self.declaration(kind)),
+            self.at.map(|byte| format!("at byte {byte}")),
+        ];
+        let parts = parts.into_iter().flatten();
+        parts.collect::<Vec<_>>().join(", ")
+    }
+
+    /// The kind's word, and the name once it is read; an impl has none.
+    fn declaration(&self, kind: u8) -> String {
+        let word = KIND_NAMES[usize::from(kind)];
+        match &self.name {
+            Some(name) if kind != IMPL => format!("{word} '{name}'"),
+            _ => word.to_string(),
         }
     }
 
@@ -55,10 +92,12 @@ impl Refusal {
         match (self.number, what) {
             // A longer file is not read to its end.
             (LONG, _) => format!("over {IMAGE_BYTES} bytes"),
-            (CONTENTS, "entry of no length") => format!("{what} at byte {value}"),
+            (CONTENTS, "entry of no length") => {
+                format!("{what}, its offset is {value}")
+            }
             (CONTENTS, _) | (BODY, "left over") => format!("{what}, {bytes}"),
             (SHORT_HEAD | BODY, _) => format!("{what}, {bytes} missing"),
-            (NAME, _) => format!("{what}, byte {value}"),
+            (NAME, _) => format!("{what}, byte value {value}"),
             _ => format!("{what} {value}"),
         }
     }
@@ -68,8 +107,11 @@ impl Refusal {
 impl fmt::Display for Refusal {
     fn fmt(&self, f: &mut fmt::Formatter<'_>) -> fmt::Result {
         let word = WORDS[usize::from(self.number) - 1];
-        let (place, found) = (self.place(), self.found());
-        write!(f, "refused {}: {word}: {place}{found}", self.number)
+        write!(f, "refused {}: {word}: ", self.number)?;
+        match self.place().as_str() {
+            "" => write!(f, "{}", self.found()),
+            place => write!(f, "{place}: {}", self.found()),
+        }
     }
 }
 

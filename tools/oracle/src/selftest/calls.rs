@@ -1,7 +1,10 @@
 //! The commands on files as they are called: what they print, what they write,
 //! and their exit status.
 
+use super::reading::RIDE;
 use super::{Tests, ROOT};
+use crate::answer::judge;
+use crate::answers::{self, Recorded};
 use std::path::Path;
 use std::process::Command;
 
@@ -39,6 +42,7 @@ pub fn run(tests: &mut Tests) {
     make(tests, &folder);
     refile(tests, &folder);
     refile_refuses(tests, &folder);
+    places(tests, &folder);
     let removed = std::fs::remove_dir_all(&folder);
     tests.holds("the folder is removed", removed.is_ok());
 }
@@ -46,6 +50,9 @@ pub fn run(tests: &mut Tests) {
 fn sample(name: &str) -> String {
     format!("{ROOT}/samples/{name}")
 }
+
+/// What the reader says of samples/damaged.img.
+const DAMAGED: &str = "refused 9: code: entry 3, message 'Status', at byte 260: bits 71";
 
 fn show(tests: &mut Tests) {
     let shown = call(&["show", &sample("ride-new.img")]);
@@ -56,7 +63,7 @@ fn show(tests: &mut Tests) {
     let refused = call(&["show", &damaged]);
     tests.equal("show refuses", refused.printed.as_str(), "refused 9\n");
     tests.equal("show refuses, status", refused.status, Some(1));
-    let why = format!("oracle: {damaged}: refused 9: code: entry 3, message: bits 71\n");
+    let why = format!("oracle: {damaged}: {DAMAGED}\n");
     tests.holds("show says why", refused.complaint.ends_with(&why));
 }
 
@@ -128,7 +135,7 @@ fn refile_refuses(tests: &mut Tests, folder: &Path) {
     let damaged = sample("damaged.img");
     let faults = [
         (&twice, "repeated: declarations 0 and 1: both are 'A'"),
-        (&damaged, "refused 9: code: entry 3, message: bits 71"),
+        (&damaged, DAMAGED),
     ];
     for (image, why) in faults {
         let refused = call(&["refile", image, "7", &out]);
@@ -140,4 +147,25 @@ fn refile_refuses(tests: &mut Tests, folder: &Path) {
         let written = Path::new(&out).exists();
         tests.holds("refile writes nothing then", !written);
     }
+}
+
+fn places(tests: &mut Tests, folder: &Path) {
+    let path = folder.join("answers.bin").to_string_lossy().into_owned();
+    let damaged = std::fs::read(sample("damaged.img")).unwrap_or_default();
+    let pairs = [("a", &RIDE[..], &damaged[..]), ("b", &[0; 8], &RIDE)];
+    let list = pairs.map(|(name, old, new)| Recorded::of(name, old, new, &judge(old, new)));
+    let written = std::fs::write(&path, answers::write(&list));
+    tests.holds("a file of answers", written.is_ok());
+    let told = call(&["places", &path]);
+    tests.equal("places, status", told.status, Some(0));
+    let wanted = [
+        "accepted",
+        DAMAGED,
+        "refused 3: format: at byte 0: format 0",
+        "accepted",
+        "",
+    ];
+    tests.equal("places", told.printed, wanted.join("\n"));
+    let none = call(&["places", &sample("damaged.img")]);
+    tests.equal("places of no answers", none.status, Some(1));
 }

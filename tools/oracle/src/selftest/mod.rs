@@ -13,6 +13,7 @@ mod recording;
 mod refiling;
 mod samples;
 mod texts;
+mod words;
 
 use crate::commands::Outcome;
 use std::fmt::Debug;
@@ -49,6 +50,7 @@ impl Tests {
 pub fn run() -> Outcome {
     let mut tests = Tests::default();
     reading::run(&mut tests);
+    words::run(&mut tests);
     clauses::run(&mut tests);
     listing::run(&mut tests);
     against_check::run(&mut tests);

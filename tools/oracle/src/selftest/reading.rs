@@ -39,7 +39,6 @@ pub fn run(tests: &mut Tests) {
     bodies(tests);
     fields(tests);
     types(tests);
-    words(tests);
     answers(tests);
 }
 
@@ -201,37 +200,6 @@ fn types(tests: &mut Tests) {
     for tag in 0..=16 {
         ty("each tag", &writer::ty(&of_tag(tag)), 0);
     }
-}
-
-fn words(tests: &mut Tests) {
-    let mut told = |image: &[u8], wanted: &str| {
-        let found = read_image(image).map_err(|refusal| format!("{refusal}"));
-        tests.equal("in words", found.map(|_| ()), Err(wanted.to_string()));
-    };
-    told(&[0; 32_769], "refused 1: long: over 32768 bytes");
-    told(&[], "refused 2: short head: head, 8 bytes missing");
-    told(&[2, 0, 0, 0, 0, 0, 0, 0], "refused 3: format: format 2");
-    told(&[1, 0, 1, 2, 0, 0, 0, 0], "refused 4: crowded: N 513");
-    let mut contents = |entry: [u8; 4], wanted: &str| {
-        let image = [&[1, 0, 1, 0, 0, 0, 0, 0], &entry[..], &[8, 8]].concat();
-        told(&image, &format!("refused 5: contents: {wanted}"));
-    };
-    contents([0, 0, 0, 0], "left after the names, 2 bytes");
-    contents([13, 0, 1, 0], "entry 0: gap before entry, 1 byte");
-    contents([12, 0, 0, 0], "entry 0: entry of no length at byte 12");
-    let mut body = |bytes: &[u8], wanted: &str| {
-        let image = Parts::around(&[], &[], vec![None, Some(bytes.to_vec())]).bytes();
-        told(&image, wanted);
-    };
-    body(&[9], "refused 6: kind: entry 1: kind 9");
-    let wanted = "refused 7: name: entry 1, config: declaration name, byte 47";
-    body(&[5, 1, b'/'], wanted);
-    let wanted = "refused 8: body: entry 1, message: count, 2 bytes missing";
-    body(&[0, 0, 3], wanted);
-    body(&[8, 0], "refused 8: body: entry 1, impl: left over, 1 byte");
-    body(&[0, 0, 4], "refused 9: code: entry 1, message: marks 4");
-    let wanted = "refused 10: deep: entry 1, newtype: node under tag 4";
-    body(&[&[4, 0], &[4; 32][..]].concat(), wanted);
 }
 
 fn answers(tests: &mut Tests) {
