@@ -76,14 +76,18 @@ impl Answer {
 
     /// What the small program prints.
     pub fn printed(self) -> Vec<u8> {
-        let answer = self.within(REPORT_BYTES);
-        let side = match answer.side {
-            Side::None => return answer.report,
+        self.within(REPORT_BYTES).whole()
+    }
+
+    /// The same of any length: the report, or the refusal in a line.
+    pub fn whole(self) -> Vec<u8> {
+        let side = match self.side {
+            Side::None => return self.report,
             Side::Old => "old",
             Side::New => "new",
             Side::Both => "both",
         };
-        format!("refused {} {side}\n", answer.number).into_bytes()
+        format!("refused {} {side}\n", self.number).into_bytes()
     }
 }
 

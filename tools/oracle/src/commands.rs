@@ -38,8 +38,13 @@ fn answer(verdict: Verdict, old: &str, new: &str) -> Answer {
     judge(&read_or_empty(old), &read_or_empty(new)).by(verdict)
 }
 
-pub fn report(verdict: Verdict, old: &str, new: &str) -> Outcome {
-    let printed = answer(verdict, old, new).printed();
+/// What the small program prints, or with `whole` a report of any length.
+pub fn report(verdict: Verdict, whole: bool, old: &str, new: &str) -> Outcome {
+    let answer = answer(verdict, old, new);
+    let printed = match whole {
+        true => answer.whole(),
+        false => answer.printed(),
+    };
     let written = std::io::stdout().write_all(&printed);
     written.map_err(|error| error.to_string())
 }

@@ -43,7 +43,7 @@ mod vexil;
 use answer::Verdict;
 use commands::{number, Outcome};
 
-const USAGE: &str = "usage: oracle report [--imports] OLD NEW
+const USAGE: &str = "usage: oracle report [--whole] [--imports] OLD NEW
        oracle verdict [--imports] OLD NEW [SELECTOR]
        oracle show IMAGE
        oracle make TEXT IMAGE
@@ -73,8 +73,7 @@ fn main() {
 
 fn run(words: &[&str]) -> Outcome {
     match *words {
-        ["report", "--imports", old, new] => commands::report(Verdict::Imports, old, new),
-        ["report", old, new] => commands::report(Verdict::Plain, old, new),
+        ["report", ref options @ .., old, new] => report(options, old, new),
         ["verdict", "--imports", ref words @ ..] => verdict(Verdict::Imports, words),
         ["verdict", ref words @ ..] => verdict(Verdict::Plain, words),
         ["show", image] => commands::show(image),
@@ -102,6 +101,18 @@ fn run(words: &[&str]) -> Outcome {
         ),
         _ => Err(USAGE.to_string()),
     }
+}
+
+/// The options may stand in either order.
+fn report(options: &[&str], old: &str, new: &str) -> Outcome {
+    let (verdict, whole) = match *options {
+        [] => (Verdict::Plain, false),
+        ["--whole"] => (Verdict::Plain, true),
+        ["--imports"] => (Verdict::Imports, false),
+        ["--whole", "--imports"] | ["--imports", "--whole"] => (Verdict::Imports, true),
+        _ => return Err(USAGE.to_string()),
+    };
+    commands::report(verdict, whole, old, new)
 }
 
 fn verdict(verdict: Verdict, words: &[&str]) -> Outcome {

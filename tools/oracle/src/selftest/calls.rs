@@ -43,6 +43,8 @@ pub fn run(tests: &mut Tests) {
     refile(tests, &folder);
     refile_refuses(tests, &folder);
     places(tests, &folder);
+    whole_report(tests, &folder);
+    options_of_report(tests);
     let removed = std::fs::remove_dir_all(&folder);
     tests.holds("the folder is removed", removed.is_ok());
 }
@@ -168,4 +170,57 @@ fn places(tests: &mut Tests, folder: &Path) {
     tests.equal("places", told.printed, wanted.join("\n"));
     let none = call(&["places", &sample("damaged.img")]);
     tests.equal("places of no answers", none.status, Some(1));
+}
+
+/// A recorded report of one byte too many for the small program.
+fn whole_report(tests: &mut Tests, folder: &Path) {
+    let file = answers::read(&super::read_file("crates/replay/data/answers.bin"));
+    let list = file.unwrap_or_default();
+    let case = list
+        .iter()
+        .find(|pair| pair.name == "report of 65537 bytes");
+    let Some(case) = case else {
+        tests.holds("a report of 65537 bytes is recorded", false);
+        return;
+    };
+    let path = |name: &str| folder.join(name).to_string_lossy().into_owned();
+    let (old, new) = (path("long-old.img"), path("long-new.img"));
+    let written =
+        [(&old, &case.old), (&new, &case.new)].map(|(to, image)| std::fs::write(to, image));
+    tests.holds("its images", written.iter().all(Result::is_ok));
+    let mut report = |options: &[&str], wanted: &[u8]| {
+        let words = [&["report"], options, &[old.as_str(), new.as_str()]].concat();
+        let found = call(&words);
+        let named = words[..words.len() - 2].join(" ");
+        tests.equal(&named, found.printed.as_bytes(), wanted);
+        tests.equal(&named, found.status, Some(0));
+    };
+    let [plain, imports] = case
+        .answers
+        .each_ref()
+        .map(|answer| answer.report.as_slice());
+    report(&[], b"refused 12 both\n");
+    report(&["--imports"], b"refused 12 both\n");
+    report(&["--whole"], plain);
+    report(&["--whole", "--imports"], imports);
+    report(&["--imports", "--whole"], imports);
+    let length = (plain.len(), imports.len());
+    tests.equal("their length", length, (65_537, 65_537));
+    let none = call(&["report", "--whole", &path("none.img"), &old]);
+    tests.equal("a refusal, whole", none.printed.as_str(), "refused 2 old\n");
+}
+
+fn options_of_report(tests: &mut Tests) {
+    let (old, new) = (sample("import-old.img"), sample("import-new.img"));
+    let report = |options: &[&str]| call(&[&["report"], options, &[&old, &new]].concat());
+    let (plain, imports) = (report(&[]).printed, report(&["--imports"]).printed);
+    tests.holds("an import's report is another", plain != imports);
+    tests.equal("whole", report(&["--whole"]).printed, plain);
+    for options in [["--whole", "--imports"], ["--imports", "--whole"]] {
+        let found = report(&options).printed;
+        tests.equal("whole, with imports", &found, &imports);
+    }
+    for options in [["--whole", "--whole"], ["--imports", "--imports"]] {
+        tests.equal("an option twice", report(&options).status, Some(1));
+    }
 }
