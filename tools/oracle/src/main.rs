@@ -54,6 +54,7 @@ const USAGE: &str = "usage: oracle report [--whole] [--imports] OLD NEW
        oracle places FILE
        oracle random [--imports] SEED COUNT
        oracle selftest
+       oracle --help
 built with the library also:
        oracle-library bench FILE
        oracle-library hammer FILE SEED COUNT SECONDS FOLDER
@@ -73,6 +74,10 @@ fn main() {
 
 fn run(words: &[&str]) -> Outcome {
     match *words {
+        ["--help"] => {
+            println!("{USAGE}");
+            Ok(())
+        }
         ["report", ref options @ .., old, new] => report(options, old, new),
         ["verdict", "--imports", ref words @ ..] => verdict(Verdict::Imports, words),
         ["verdict", ref words @ ..] => verdict(Verdict::Plain, words),

@@ -37,6 +37,7 @@ pub fn run(tests: &mut Tests) {
         tests.equal("a folder to write to", Some(error.to_string()), None);
         return;
     }
+    help(tests);
     show(tests);
     missing(tests, &folder);
     make(tests, &folder);
@@ -47,6 +48,23 @@ pub fn run(tests: &mut Tests) {
     options_of_report(tests);
     let removed = std::fs::remove_dir_all(&folder);
     tests.holds("the folder is removed", removed.is_ok());
+}
+
+/// Asked for, the usage is printed; of a call that is none it is a complaint.
+fn help(tests: &mut Tests) {
+    let asked = call(&["--help"]);
+    tests.equal("help, status", asked.status, Some(0));
+    let usage = asked.printed.trim_end();
+    tests.holds("help", usage.starts_with("usage: oracle report "));
+    let lines = usage.lines().filter(|line| line.contains("       oracle"));
+    tests.holds("help has the subcommands", lines.count() > 10);
+    for words in [&[][..], &["reports"], &["show"], &["--help", "show"]] {
+        let bad = call(words);
+        tests.equal("bad usage, status", bad.status, Some(1));
+        tests.equal("bad usage, printed", bad.printed.as_str(), "");
+        let told = bad.complaint.ends_with(&format!("oracle: {usage}\n"));
+        tests.holds("bad usage is told", told);
+    }
 }
 
 fn sample(name: &str) -> String {
