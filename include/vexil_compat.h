@@ -1,113 +1,130 @@
 /*
  * Whether a new Vexil schema may be loaded where an old one runs: two verdicts on two images, each with its report; and the contents of
- * one image. The library is libvexil_compat.a, for x86-64: `rt staticlib vexil_compat` writes it to target/staticlib. docs/FORMAT.md
- * describes images, refusals and reports.
+ * one image. docs/FORMAT.md describes images, refusals and reports.
+ *
+ * Who only wants to know whether to load asks vexil_compat_may_load: true is Compatible, and everything else is false.
+ *
+ * The library is libvexil_compat.a, for x86-64: `make` proves and builds it, and `make install PREFIX=..` installs it with this header and
+ * a file for pkg-config, `vexil_compat`.
  *
  * Any bytes may be lent as images: faulty ones are refused by number, and every call returns.
  *
- *   - Lengths are in bytes, but `values_len` is in values. Every pointer is aligned, valid for its length and not NULL, even where its
+ *   - Lengths are in bytes, but `values_len` is in values. Every pointer is aligned and valid for its length; it may be NULL where its
  *     length is 0.
  *   - Both images are only read. They may overlap each other, or be the same.
  *   - The buffer overlaps no image.
- *   - On all recorded pairs the verdict, the values and the report use less than 28 KiB of stack.
+ *   - Every call, of one image too, uses less than 28 KiB of stack: measured on all recorded pairs, and not proved.
+ *   - A comparison takes microseconds to some milliseconds for images of a few KiB, and grows with the square of what one declaration
+ *     holds. TIMES; docs/BENCHMARKS.md has both.
  *   - Nothing is allocated and nothing is kept from one call to the next, so that threads may call at the same time.
+ *
+ * Each number has a name with the prefix of what it is: VEXIL_COMPAT_SELECT_.. is asked for; VEXIL_COMPAT_REFUSAL_.., _SIDE_.., _BUMP_.. and
+ * _RESULT_.. are answered; VEXIL_COMPAT_KIND_.. is a kind of change.
  */
 #ifndef VEXIL_COMPAT_H
 #define VEXIL_COMPAT_H
 
 #include <stddef.h>
 #include <stdint.h>
+#ifndef __cplusplus
+#include <stdbool.h>
+#endif
 
 #ifdef __cplusplus
 extern "C" {
 #endif
 
-/* The longest image that is not refused by VEXIL_COMPAT_LONG. */
+/* The version of this header: the first number rises if a program may have to change, the second if something is added. */
+#define VEXIL_COMPAT_VERSION_MAJOR 1
+#define VEXIL_COMPAT_VERSION_MINOR 0
+#define VEXIL_COMPAT_VERSION "1.0"
+
+/* The toolchain that the library is proved with, as `rt version` names it. */
+#define VEXIL_COMPAT_KIT "rattle-kit-5b-plain logic 097e4c862dff5811"
+
+/* The longest image that is not refused by VEXIL_COMPAT_REFUSAL_LONG. */
 #define VEXIL_COMPAT_IMAGE_BYTES 32768
 
 /* What the verdict is asked for. */
 enum vexil_compat_selector {
-    VEXIL_COMPAT_NUMBER = 0, /* the refusal, VEXIL_COMPAT_NOT_REFUSED if there is a verdict */
-    VEXIL_COMPAT_SIDE = 1,   /* the image that is refused */
-    VEXIL_COMPAT_BUMP = 2,   /* the largest bump of a change */
-    VEXIL_COMPAT_RESULT = 3, /* whether the new schema may be loaded */
-    VEXIL_COMPAT_LENGTH = 4, /* the length of the report */
-    VEXIL_COMPAT_COUNTS = 5  /* the first of the counts: VEXIL_COMPAT_COUNT_OF(kind) */
+    VEXIL_COMPAT_SELECT_NUMBER = 0, /* the refusal, VEXIL_COMPAT_REFUSAL_NONE if there is a verdict */
+    VEXIL_COMPAT_SELECT_SIDE = 1,   /* the image that is refused */
+    VEXIL_COMPAT_SELECT_BUMP = 2,   /* the largest bump of a change */
+    VEXIL_COMPAT_SELECT_RESULT = 3, /* whether the new schema may be loaded, if there is a verdict */
+    VEXIL_COMPAT_SELECT_LENGTH = 4, /* the length of the report */
+    VEXIL_COMPAT_SELECT_COUNTS = 5  /* the first of the counts: vexil_compat_count_of(kind) */
 };
 
-/* The selector for how many changes there are of a kind. */
-#define VEXIL_COMPAT_COUNT_OF(kind) ((uint64_t)VEXIL_COMPAT_COUNTS + (uint64_t)(kind))
-
 enum vexil_compat_refusal {
-    VEXIL_COMPAT_NOT_REFUSED = 0,
-    VEXIL_COMPAT_LONG = 1,        /* image over 32,768 bytes */
-    VEXIL_COMPAT_SHORT_HEAD = 2,  /* head, contents, ids or namespace run past the end */
-    VEXIL_COMPAT_FORMAT = 3,      /* not 1 */
-    VEXIL_COMPAT_CROWDED = 4,     /* over 512 entries or ids, or over 16 namespace segments */
-    VEXIL_COMPAT_CONTENTS = 5,    /* an entry that is not laid out as it must be, or bytes after the last body */
-    VEXIL_COMPAT_KIND = 6,        /* a declaration's kind over 8 */
-    VEXIL_COMPAT_NAME = 7,        /* a byte in a name that is not allowed */
-    VEXIL_COMPAT_BODY = 8,        /* a body that ends early or has bytes left */
-    VEXIL_COMPAT_CODE = 9,        /* another coded byte outside its values */
-    VEXIL_COMPAT_DEEP = 10,       /* a 33rd node or a 9th delta */
-    VEXIL_COMPAT_ALIAS_PAIR = 11, /* of the pair: one name is a generic alias in both images */
-    VEXIL_COMPAT_FULL = 12        /* a report or a listing is longer than its buffer. Of the verdict calls only the listing's gives it. */
+    VEXIL_COMPAT_REFUSAL_NONE = 0,
+    VEXIL_COMPAT_REFUSAL_LONG = 1,        /* image over 32,768 bytes */
+    VEXIL_COMPAT_REFUSAL_SHORT_HEAD = 2,  /* head, contents, ids or namespace run past the end */
+    VEXIL_COMPAT_REFUSAL_FORMAT = 3,      /* not 1 */
+    VEXIL_COMPAT_REFUSAL_CROWDED = 4,     /* over 512 entries or ids, or over 16 namespace segments */
+    VEXIL_COMPAT_REFUSAL_CONTENTS = 5,    /* an entry that is not laid out as it must be, or bytes after the last body */
+    VEXIL_COMPAT_REFUSAL_KIND = 6,        /* a declaration's kind over 8 */
+    VEXIL_COMPAT_REFUSAL_NAME = 7,        /* a byte in a name that is not allowed */
+    VEXIL_COMPAT_REFUSAL_BODY = 8,        /* a body that ends early or has bytes left */
+    VEXIL_COMPAT_REFUSAL_CODE = 9,        /* another coded byte outside its values */
+    VEXIL_COMPAT_REFUSAL_DEEP = 10,       /* a 33rd node or a 9th delta */
+    VEXIL_COMPAT_REFUSAL_ALIAS_PAIR = 11, /* of the pair: one name is a generic alias in both images */
+    VEXIL_COMPAT_REFUSAL_FULL = 12        /* a report or a listing is longer than its buffer; of the verdict calls only the listing's gives it */
 };
 
 enum vexil_compat_side {
-    VEXIL_COMPAT_NO_SIDE = 0,
-    VEXIL_COMPAT_OLD = 1, /* also if both images are faulty */
-    VEXIL_COMPAT_NEW = 2,
-    VEXIL_COMPAT_BOTH = 3 /* of VEXIL_COMPAT_ALIAS_PAIR, and of a report's VEXIL_COMPAT_FULL */
+    VEXIL_COMPAT_SIDE_NONE = 0,
+    VEXIL_COMPAT_SIDE_OLD = 1, /* also if both images are faulty */
+    VEXIL_COMPAT_SIDE_NEW = 2,
+    VEXIL_COMPAT_SIDE_BOTH = 3 /* of VEXIL_COMPAT_REFUSAL_ALIAS_PAIR, and of a report's VEXIL_COMPAT_REFUSAL_FULL */
 };
 
 enum vexil_compat_bump {
-    VEXIL_COMPAT_PATCH = 0,
-    VEXIL_COMPAT_MINOR = 1,
-    VEXIL_COMPAT_MAJOR = 2
+    VEXIL_COMPAT_BUMP_PATCH = 0,
+    VEXIL_COMPAT_BUMP_MINOR = 1,
+    VEXIL_COMPAT_BUMP_MAJOR = 2
 };
 
 enum vexil_compat_result {
-    VEXIL_COMPAT_COMPATIBLE = 0,
-    VEXIL_COMPAT_BREAKING = 1
+    VEXIL_COMPAT_RESULT_COMPATIBLE = 0,
+    VEXIL_COMPAT_RESULT_BREAKING = 1
 };
 
 enum vexil_compat_kind {
-    VEXIL_COMPAT_FIELD_ADDED = 0,
-    VEXIL_COMPAT_FIELD_REMOVED = 1,
-    VEXIL_COMPAT_FIELD_TYPE_CHANGED = 2,
-    VEXIL_COMPAT_FIELD_ORDINAL_CHANGED = 3, /* always 0 */
-    VEXIL_COMPAT_FIELD_RENAMED = 4,
-    VEXIL_COMPAT_FIELD_DEPRECATED = 5,
-    VEXIL_COMPAT_FIELD_ENCODING_CHANGED = 6,
-    VEXIL_COMPAT_VARIANT_ADDED = 7,
-    VEXIL_COMPAT_VARIANT_REMOVED = 8,
-    VEXIL_COMPAT_VARIANT_ORDINAL_CHANGED = 9, /* always 0 */
-    VEXIL_COMPAT_DECLARATION_ADDED = 10,
-    VEXIL_COMPAT_DECLARATION_REMOVED = 11,
-    VEXIL_COMPAT_DECLARATION_KIND_CHANGED = 12,
-    VEXIL_COMPAT_NAMESPACE_CHANGED = 13,
-    VEXIL_COMPAT_NON_EXHAUSTIVE_CHANGED = 14,
-    VEXIL_COMPAT_FLAGS_BIT_ADDED = 15,
-    VEXIL_COMPAT_FLAGS_BIT_REMOVED = 16,
-    VEXIL_COMPAT_FLAGS_BIT_ORDINAL_CHANGED = 17, /* always 0 */
-    VEXIL_COMPAT_KINDS = 18                      /* how many kinds there are */
+    VEXIL_COMPAT_KIND_FIELD_ADDED = 0,
+    VEXIL_COMPAT_KIND_FIELD_REMOVED = 1,
+    VEXIL_COMPAT_KIND_FIELD_TYPE_CHANGED = 2,
+    VEXIL_COMPAT_KIND_FIELD_ORDINAL_CHANGED = 3, /* always 0 */
+    VEXIL_COMPAT_KIND_FIELD_RENAMED = 4,
+    VEXIL_COMPAT_KIND_FIELD_DEPRECATED = 5,
+    VEXIL_COMPAT_KIND_FIELD_ENCODING_CHANGED = 6,
+    VEXIL_COMPAT_KIND_VARIANT_ADDED = 7,
+    VEXIL_COMPAT_KIND_VARIANT_REMOVED = 8,
+    VEXIL_COMPAT_KIND_VARIANT_ORDINAL_CHANGED = 9, /* always 0 */
+    VEXIL_COMPAT_KIND_DECLARATION_ADDED = 10,
+    VEXIL_COMPAT_KIND_DECLARATION_REMOVED = 11,
+    VEXIL_COMPAT_KIND_DECLARATION_KIND_CHANGED = 12,
+    VEXIL_COMPAT_KIND_NAMESPACE_CHANGED = 13,
+    VEXIL_COMPAT_KIND_NON_EXHAUSTIVE_CHANGED = 14,
+    VEXIL_COMPAT_KIND_FLAGS_BIT_ADDED = 15,
+    VEXIL_COMPAT_KIND_FLAGS_BIT_REMOVED = 16,
+    VEXIL_COMPAT_KIND_FLAGS_BIT_ORDINAL_CHANGED = 17 /* always 0 */
 };
 
-/* How many selectors there are that may give anything but 0. */
-#define VEXIL_COMPAT_VALUES ((size_t)VEXIL_COMPAT_COUNTS + (size_t)VEXIL_COMPAT_KINDS)
+/* How many kinds of change there are, and how many selectors that may give anything but 0. */
+#define VEXIL_COMPAT_KINDS 18
+#define VEXIL_COMPAT_VALUES 23
 
 /*
  * There are two verdicts on two images, with three calls each. The first compares the declarations that the images list, of one name the
  * last. The one with imports, `vexil_compat_imports_..`, also compares those that are reached: named in a compared type of such a
  * declaration, at any depth of that type, or in a compared type of a reached one, and so on. Each name is compared once: the listed
- * declaration stands before a reached one, and of reached ones that with the highest id. VEXIL_COMPAT_ALIAS_PAIR is tested over all that
- * stand. Values, other refusals, lines and their order are the same in both.
+ * declaration stands before a reached one, and of reached ones that with the highest id. VEXIL_COMPAT_REFUSAL_ALIAS_PAIR is tested over
+ * all that stand. Values, other refusals, lines and their order are the same in both.
  */
 
 /*
- * One value of the verdict. Each call compares anew; for many values there is the next call.
- * Of a refusal the bump is Major and the result Breaking; its length and counts are 0. A selector beyond the counts gives 0.
+ * The verdict: of all that the new schema changes, the value that `selector` asks for; 0 beyond the counts. A refusal has bump Major,
+ * result Breaking, length and counts 0. Only where the number is VEXIL_COMPAT_REFUSAL_NONE is there a verdict to ask for.
  */
 uint64_t vexil_compat_verdict(const uint8_t *old_image, size_t old_len,
                               const uint8_t *new_image, size_t new_len,
@@ -117,8 +134,8 @@ uint64_t vexil_compat_imports_verdict(const uint8_t *old_image, size_t old_len,
                                       uint64_t selector);
 
 /*
- * Every value of the verdict by one comparison: `values[i]` becomes what the call above gives for selector i, for each of the `values_len`
- * places, and so 0 from VEXIL_COMPAT_VALUES on. The number is returned too. The buffer is written whole, also on a refusal.
+ * All values by one comparison, where each call above makes one: `values[i]` becomes what the verdict answers to selector i, for every
+ * place of the buffer, of a refusal too. VEXIL_COMPAT_VALUES places hold all that may differ from 0. Returns the number.
  */
 uint64_t vexil_compat_values(const uint8_t *old_image, size_t old_len,
                              const uint8_t *new_image, size_t new_len,
@@ -131,9 +148,10 @@ uint64_t vexil_compat_imports_values(const uint8_t *old_image, size_t old_len,
  * Writes the verdict's report at the start of `out` and returns its length; bytes past that length stay as they were. A report is
  * never empty, and it is not ended by a zero byte.
  *
- * 0 is a refusal, and then `out` is as it was. VEXIL_COMPAT_NUMBER of the same verdict tells which; if it tells
- * VEXIL_COMPAT_NOT_REFUSED, the report is longer than `out_len`: that is VEXIL_COMPAT_FULL, of both sides. To size the buffer, ask
- * VEXIL_COMPAT_LENGTH of the same verdict first: names repeat in the lines, so that a report may be many times as long as the images.
+ * 0 is a refusal, and then `out` is as it was. VEXIL_COMPAT_SELECT_NUMBER of the same verdict tells which; if it tells
+ * VEXIL_COMPAT_REFUSAL_NONE, the report is longer than `out_len`: that is VEXIL_COMPAT_REFUSAL_FULL, of both sides. To size the buffer, ask
+ * VEXIL_COMPAT_SELECT_LENGTH of the same verdict first: names repeat in the lines, so that a report may be many times as long as the
+ * images.
  */
 uint64_t vexil_compat_report(const uint8_t *old_image, size_t old_len,
                              const uint8_t *new_image, size_t new_len,
@@ -146,16 +164,90 @@ uint64_t vexil_compat_imports_report(const uint8_t *old_image, size_t old_len,
  * The contents of one image: writes a line `id;kind;name` for each entry that is not empty at the start of `out`, each ended by byte 10,
  * and returns their length; bytes past that length stay as they were.
  *
- * 0 is a refusal, and then `out` is as it was, or an image without an entry: VEXIL_COMPAT_NUMBER of the verdict below tells which.
+ * 0 is a refusal, and then `out` is as it was, or an image without an entry: VEXIL_COMPAT_SELECT_NUMBER of the verdict below tells which.
  */
 uint64_t vexil_compat_listing(const uint8_t *image, size_t len, uint8_t *out, size_t out_len);
 
 /*
- * What the call above answers for a buffer of `out_len` bytes: VEXIL_COMPAT_NUMBER (VEXIL_COMPAT_FULL too), VEXIL_COMPAT_SIDE
- * (VEXIL_COMPAT_OLD of every refusal) or VEXIL_COMPAT_LENGTH. Of a refusal VEXIL_COMPAT_BUMP is Major and VEXIL_COMPAT_RESULT Breaking, as
- * of two images; every other selector gives 0. With UINT64_MAX bytes the length says how large a buffer is needed.
+ * What the call above answers for a buffer of `out_len` bytes: VEXIL_COMPAT_SELECT_NUMBER (VEXIL_COMPAT_REFUSAL_FULL too),
+ * VEXIL_COMPAT_SELECT_SIDE (VEXIL_COMPAT_SIDE_OLD of every refusal) or VEXIL_COMPAT_SELECT_LENGTH. Of a refusal VEXIL_COMPAT_SELECT_BUMP is
+ * Major and VEXIL_COMPAT_SELECT_RESULT Breaking, as of two images; every other selector gives 0. With UINT64_MAX bytes the length says how
+ * large a buffer is needed.
  */
 uint64_t vexil_compat_listing_verdict(const uint8_t *image, size_t len, uint64_t out_len, uint64_t selector);
+
+/* From here on, in C alone: what follows from the calls above, and the words for their numbers. */
+
+/* Whether the number and the result of a verdict on two images say that the new schema may be loaded. */
+static inline bool vexil_compat_is_compatible(uint64_t number, uint64_t result)
+{
+    return number == VEXIL_COMPAT_REFUSAL_NONE && result == VEXIL_COMPAT_RESULT_COMPATIBLE;
+}
+
+/*
+ * Whether the new schema may be loaded where the old one runs, by either verdict. False of Breaking and of every refusal: 0 is the answer to
+ * many a selector, and here none of them reads as Compatible by mistake.
+ */
+static inline bool vexil_compat_may_load(const uint8_t *old_image, size_t old_len,
+                                         const uint8_t *new_image, size_t new_len)
+{
+    uint64_t values[VEXIL_COMPAT_SELECT_RESULT + 1];
+    uint64_t number = vexil_compat_values(old_image, old_len, new_image, new_len, values, VEXIL_COMPAT_SELECT_RESULT + 1);
+    return vexil_compat_is_compatible(number, values[VEXIL_COMPAT_SELECT_RESULT]);
+}
+
+static inline bool vexil_compat_imports_may_load(const uint8_t *old_image, size_t old_len,
+                                                 const uint8_t *new_image, size_t new_len)
+{
+    uint64_t values[VEXIL_COMPAT_SELECT_RESULT + 1];
+    uint64_t number = vexil_compat_imports_values(old_image, old_len, new_image, new_len, values, VEXIL_COMPAT_SELECT_RESULT + 1);
+    return vexil_compat_is_compatible(number, values[VEXIL_COMPAT_SELECT_RESULT]);
+}
+
+/* The selector for how many changes there are of a kind. */
+static inline uint64_t vexil_compat_count_of(enum vexil_compat_kind kind)
+{
+    uint64_t first = VEXIL_COMPAT_SELECT_COUNTS;
+    return first + kind;
+}
+
+/* The words for numbers, as reports and tools have them; "unknown" for a number that has none. */
+static inline const char *vexil_compat_refusal_name(uint64_t number)
+{
+    static const char *const names[] = {
+        "none", "long", "short head", "format", "crowded", "contents", "kind", "name", "body", "code", "deep", "alias pair", "full",
+    };
+    return number < sizeof names / sizeof *names ? names[number] : "unknown";
+}
+
+static inline const char *vexil_compat_side_name(uint64_t side)
+{
+    static const char *const names[] = {"none", "old", "new", "both"};
+    return side < sizeof names / sizeof *names ? names[side] : "unknown";
+}
+
+static inline const char *vexil_compat_bump_name(uint64_t bump)
+{
+    static const char *const names[] = {"Patch", "Minor", "Major"};
+    return bump < sizeof names / sizeof *names ? names[bump] : "unknown";
+}
+
+static inline const char *vexil_compat_result_name(uint64_t result)
+{
+    static const char *const names[] = {"Compatible", "Breaking"};
+    return result < sizeof names / sizeof *names ? names[result] : "unknown";
+}
+
+static inline const char *vexil_compat_kind_name(uint64_t kind)
+{
+    static const char *const names[VEXIL_COMPAT_KINDS] = {
+        "FieldAdded",           "FieldRemoved",     "FieldTypeChanged",       "FieldOrdinalChanged",   "FieldRenamed",
+        "FieldDeprecated",      "FieldEncodingChanged", "VariantAdded",       "VariantRemoved",        "VariantOrdinalChanged",
+        "DeclarationAdded",     "DeclarationRemoved",   "DeclarationKindChanged", "NamespaceChanged",  "NonExhaustiveChanged",
+        "FlagsBitAdded",        "FlagsBitRemoved",      "FlagsBitOrdinalChanged",
+    };
+    return kind < VEXIL_COMPAT_KINDS ? names[kind] : "unknown";
+}
 
 #ifdef __cplusplus
 }

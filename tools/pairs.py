@@ -18,16 +18,22 @@ SAMPLE_REPORT = "FieldAdded;Major;Drive;+limit;field 'limit' @1 was added\nBreak
 SIDES = ("none", "old", "new", "both")
 
 
+def told(*words, **options) -> tuple[int, str, str]:
+    """The exit status of a command, what it printed, and what it said on standard error."""
+    done = subprocess.run([str(word) for word in words], stdout=subprocess.PIPE, stderr=subprocess.PIPE, text=True, **options)
+    return done.returncode, done.stdout, done.stderr
+
+
 def output(*words, **options) -> tuple[int, str]:
     """The exit status of a command and what it printed."""
-    done = subprocess.run([str(word) for word in words], stdout=subprocess.PIPE, stderr=subprocess.DEVNULL, text=True, **options)
-    return done.returncode, done.stdout
+    return told(*words, **options)[:2]
 
 
 class Suite:
     """The tests of one tool, called as TOOL OLD NEW, or as TOOL --imports OLD NEW where `imports` holds."""
 
     TOOL: Path
+    REPORT_BYTES: int | None = None  # the longest report that it prints, if there is one
 
     def __init__(self, folder: Path):
         self.imports = False
@@ -59,10 +65,17 @@ class Suite:
 
     def asked(self, old, new) -> tuple[int, str]:
         """What the tool has to answer, by the oracle."""
-        words = self.call(old, new)
+        words = ([] if self.REPORT_BYTES else ["--whole"]) + self.call(old, new)
         status, printed = output(ORACLE, "report", *words)
         assert status == 0, f"oracle report {words}: exit status {status}"
         return self.status(printed), printed
+
+    def printed(self, selectors: list[int], report: bytes) -> str:
+        """What the tool prints of a recorded answer."""
+        number, side = selectors[:2]
+        if number:
+            return f"refused {number} {SIDES[side]}\n"
+        return "refused 12 both\n" if self.REPORT_BYTES and len(report) > self.REPORT_BYTES else report.decode()
 
     def equal(self, name: str, found, wanted):
         if found == wanted:
@@ -144,24 +157,19 @@ def both_bad(suite: Suite):
     suite.images("both bad, swapped", other_format, short, "refused 3 old\n")
 
 
-def printed(selectors: list[int], report: bytes) -> str:
-    """What a tool prints of a recorded answer."""
-    number, side = selectors[:2]
-    return f"refused {number} {SIDES[side]}\n" if number else "refused 12 both\n" if len(report) > 65_536 else report.decode()
-
-
 def of_record(suite: Suite):
     """The first recorded pair of each refusal and side, of each bump, and those with long reports."""
     seen, texts = set(), set()
     for name, old, new, selectors, report in recorded(suite.imports):
         number, side, bump = selectors[:3]
         if "report of " in name or "11 before 12" in name or (number, side, bump) not in seen:
-            texts.add(printed(selectors, report))
-            suite.images(name, old, new, printed(selectors, report))
+            texts.add(suite.printed(selectors, report))
+            suite.images(name, old, new, suite.printed(selectors, report))
         seen.add((number, side, bump))
     refusals = {(number, side) for number in range(1, 11) for side in (1, 2)} | {(11, 3)}
     suite.equal("every refusal on every side", {(number, side) for number, side, _ in seen if number}, refusals)
-    suite.equal("a report that is too long", "refused 12 both\n" in texts, True)
+    suite.equal("a report that is too long is refused", "refused 12 both\n" in texts, bool(suite.REPORT_BYTES))
+    suite.equal("a report of 80,000 bytes is printed", any(len(text) == 80_000 for text in texts), not suite.REPORT_BYTES)
     suite.equal("every bump", {bump for number, _, bump in seen if not number}, {0, 1, 2})
 
 

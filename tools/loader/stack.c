@@ -1,7 +1,8 @@
 /*
- * stack [--imports]: makes the calls of one verdict on a stack of 64 KiB with a page below it that nobody may touch, and prints how many
- * bytes of it they used at most. The values call is also held against the verdict call, and must leave what stands before and past its
- * buffer. The pairs come from standard input: each image as its length, four bytes from the lowest on, and its bytes.
+ * stack [--imports | --list]: makes the calls of one verdict, or those on one image, on a stack of 64 KiB with a page below it that nobody
+ * may touch, and prints how many bytes of it they used at most. The values call is also held against the verdict call, and must leave what
+ * stands before and past its buffer; the listing against its verdict. The pairs come from standard input: each image as its length, four
+ * bytes from the lowest on, and its bytes.
  */
 #define _DEFAULT_SOURCE /* MAP_ANONYMOUS */
 
@@ -37,7 +38,7 @@ struct told {
 static const struct verdict of_listed = {vexil_compat_verdict, vexil_compat_values, vexil_compat_report};
 static const struct verdict with_imports = {vexil_compat_imports_verdict, vexil_compat_imports_values, vexil_compat_imports_report};
 
-static const struct verdict *verdict = &of_listed;
+static const struct verdict *verdict = &of_listed; /* NULL: the calls on one image */
 static struct image old, new;
 static uint8_t out[REPORT_BYTES];
 static uint64_t memory[1 + MOST_VALUES + 1];
@@ -58,22 +59,39 @@ static bool differs(const uint64_t *wanted, size_t places)
     memset(&untouched, UNUSED, sizeof untouched);
     memset(memory, UNUSED, sizeof memory);
     uint64_t number = verdict->values(old.bytes, old.length, new.bytes, new.length, values, places);
-    return number != wanted[VEXIL_COMPAT_NUMBER] || memcmp(values, wanted, places * sizeof *values) != 0 || memory[0] != untouched
+    return number != wanted[VEXIL_COMPAT_SELECT_NUMBER] || memcmp(values, wanted, places * sizeof *values) != 0 || memory[0] != untouched
         || values[places] != untouched;
+}
+
+/* Makes all calls of the verdict; how often they differ. */
+static unsigned call_pair(void)
+{
+    static const size_t places[] = {0, 1, VEXIL_COMPAT_SELECT_COUNTS, VEXIL_COMPAT_VALUES, MOST_VALUES};
+    static uint64_t wanted[MOST_VALUES];
+    unsigned differences = 0;
+    for (uint64_t selector = 0; selector < MOST_VALUES; selector++)
+        wanted[selector] = verdict->value(old.bytes, old.length, new.bytes, new.length, selector);
+    for (size_t i = 0; i < sizeof places / sizeof *places; i++)
+        differences += differs(wanted, places[i]);
+    verdict->report(old.bytes, old.length, new.bytes, new.length, out, sizeof out);
+    return differences;
+}
+
+/* The same of one image. */
+static unsigned call_one(const struct image *image)
+{
+    static uint64_t wanted[MOST_VALUES];
+    for (uint64_t selector = 0; selector < MOST_VALUES; selector++)
+        wanted[selector] = vexil_compat_listing_verdict(image->bytes, image->length, sizeof out, selector);
+    return vexil_compat_listing(image->bytes, image->length, out, sizeof out) != wanted[VEXIL_COMPAT_SELECT_LENGTH];
 }
 
 static void *call_all(void *told)
 {
-    static const size_t places[] = {0, 1, VEXIL_COMPAT_COUNTS, VEXIL_COMPAT_VALUES, MOST_VALUES};
-    static uint64_t wanted[MOST_VALUES];
     struct told *t = told;
     t->caller = (const uint8_t *)&t;
     while (next_image(&old) && next_image(&new)) {
-        for (uint64_t selector = 0; selector < MOST_VALUES; selector++)
-            wanted[selector] = verdict->value(old.bytes, old.length, new.bytes, new.length, selector);
-        for (size_t i = 0; i < sizeof places / sizeof *places; i++)
-            t->differences += differs(wanted, places[i]);
-        verdict->report(old.bytes, old.length, new.bytes, new.length, out, sizeof out);
+        t->differences += verdict != NULL ? call_pair() : call_one(&old) + call_one(&new);
         t->pairs++;
     }
     return NULL;
@@ -83,6 +101,8 @@ int main(int count, char **words)
 {
     if (count == 2 && strcmp(words[1], "--imports") == 0)
         verdict = &with_imports;
+    else if (count == 2 && strcmp(words[1], "--list") == 0)
+        verdict = NULL;
     else if (count != 1)
         return 1;
     size_t page = (size_t)sysconf(_SC_PAGESIZE);

@@ -25,6 +25,7 @@ RIDE = bytes.fromhex(
 
 class Suite(pairs.Suite):
     TOOL = PROGRAM
+    REPORT_BYTES = 65_536
 
     def status(self, printed: str) -> int:
         return 0
