@@ -3,6 +3,7 @@
 mod against_check;
 mod calls;
 mod clauses;
+mod documents;
 #[cfg(vexil)]
 mod exporting;
 mod imports;
@@ -60,6 +61,7 @@ pub fn run() -> Outcome {
     pinned::run(&mut tests);
     texts::run(&mut tests);
     samples::run(&mut tests);
+    documents::run(&mut tests);
     calls::run(&mut tests);
     #[cfg(vexil)]
     exporting::run(&mut tests);
