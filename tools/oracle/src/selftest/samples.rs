@@ -1,6 +1,7 @@
 //! samples/: every text makes its image, an image without a text is damaged as
 //! the README there says, one that is filed anew has its original's answers,
-//! and every command of that README has its output.
+//! every image stands in a command of that README, and every command there and
+//! in the README of the repository has its output.
 
 use super::{read_file, Tests, ROOT};
 use crate::answer::{judge, Verdict};
@@ -16,8 +17,7 @@ type Files = BTreeMap<String, Vec<u8>>;
 
 pub fn run(tests: &mut Tests) {
     let (images, texts) = (files(".img"), files(".txt"));
-    let readme = read_file(&format!("{FOLDER}/README.md"));
-    let readme = String::from_utf8_lossy(&readme);
+    let [readme, root] = [&format!("{FOLDER}/README.md"), "README.md"].map(page);
     tests.holds("8 images or more", images.len() >= 8);
     for (name, text) in &texts {
         let text = String::from_utf8_lossy(text).into_owned();
@@ -33,7 +33,15 @@ pub fn run(tests: &mut Tests) {
         tests.holds(&format!("the damage to {name} is described"), described);
     }
     copies(tests, &images);
-    commands(tests, &images, &readme);
+    let used = commands(tests, &images, &readme);
+    let kept = images.keys().cloned().collect();
+    tests.equal("every image stands in a command", used, kept);
+    let named = commands(tests, &images, &root);
+    tests.holds("10 images or more in README.md", named.len() >= 10);
+}
+
+fn page(path: &str) -> String {
+    String::from_utf8_lossy(&read_file(path)).into_owned()
 }
 
 /// An image `X-refiled` is `X` filed anew, and beside every other image both
@@ -90,8 +98,9 @@ fn damages(images: &Files, name: &str) -> Vec<String> {
         .collect()
 }
 
-/// Each command line of the README and the lines printed below it.
-fn commands(tests: &mut Tests, images: &Files, readme: &str) {
+/// Each command line of a README and the lines printed below it; the images that
+/// stand in them.
+fn commands(tests: &mut Tests, images: &Files, readme: &str) -> BTreeSet<String> {
     let mut used = BTreeSet::new();
     for block in readme.split("    $ ./vexil-compat ").skip(1) {
         let mut lines = block.lines();
@@ -116,8 +125,7 @@ fn commands(tests: &mut Tests, images: &Files, readme: &str) {
             String::from_utf8_lossy(&found).into_owned(),
             wanted,
         );
-        used.extend(names);
+        used.extend(names.into_iter().map(str::to_string));
     }
-    let kept: BTreeSet<&str> = images.keys().map(String::as_str).collect();
-    tests.equal("every image stands in a command", used, kept);
+    used
 }
