@@ -16,6 +16,8 @@ ORACLE = ROOT / "target" / "oracle" / "oracle"
 SAMPLE = [ROOT / "samples" / name for name in ("ride-old.img", "ride-new.img")]
 SAMPLE_REPORT = "FieldAdded;Major;Drive;+limit;field 'limit' @1 was added\nBreaking;Major;1\n"
 SIDES = ("none", "old", "new", "both")
+# Pairs of samples whose difference neither verdict sees.
+NOT_SEEN = ("unresolved", "twice", "width", "silent")
 
 
 def told(*words, **options) -> tuple[int, str, str]:
@@ -133,6 +135,10 @@ def samples(suite: Suite):
         ("carousel-1", "carousel-2"), ("carousel-2", "carousel-3"), ("carousel-1", "carousel-3"),
     ):
         suite.files(" ".join(names), *sample_files(*names))
+    for name in NOT_SEEN:
+        old, new = sample_files(f"{name}-old", f"{name}-new")
+        suite.files(name, old, new)
+        suite.equal(f"{name} is Compatible", suite.asked(old, new)[1].splitlines()[-1].partition(";")[0], "Compatible")
     report = suite.asked(*sample_files("drive-2", "drive-3"))[1]
     for names in (("drive-2-refiled", "drive-3-refiled"), ("drive-2-refiled", "drive-3"), ("drive-2", "drive-3-refiled")):
         suite.files(" ".join(names), *sample_files(*names), report)

@@ -4,6 +4,7 @@
 It needs target/bin/vexil_compat (build.sh) and target/oracle/oracle. The last line is `N passed, M failed`.
 """
 
+import re
 import subprocess
 import sys
 from pathlib import Path
@@ -11,7 +12,7 @@ from pathlib import Path
 ROOT = Path(__file__).resolve().parents[2]
 sys.path.append(str(ROOT / "tools"))
 import pairs  # noqa: E402
-from pairs import SAMPLE, SAMPLE_REPORT, both_bad, files, listings, of_record, output, samples  # noqa: E402
+from pairs import SAMPLE, SAMPLE_REPORT, both_bad, files, listings, of_record, output, samples, told  # noqa: E402
 
 CRATE = ROOT / "crates" / "program"
 PROGRAM = ROOT / "target" / "bin" / "vexil_compat"
@@ -41,11 +42,11 @@ class Suite(pairs.Suite):
         self.equal(name, output(PROGRAM, cwd=folder), (0, text))
         self.equal(f"{name}, by the oracle", self.asked(folder / "old.img", folder / "new.img")[1], text)
 
-    def on_standard_error(self, name: str, start: str, *words, stdout=subprocess.PIPE):
-        """Nothing is printed but one line on standard error, which starts so."""
+    def on_standard_error(self, name: str, start: str, lines: int, *words, stdout=subprocess.PIPE):
+        """Nothing is printed but so many lines on standard error, which start so."""
         done = subprocess.run([PROGRAM, *words], stdout=stdout, stderr=subprocess.PIPE, text=True, cwd=CRATE / "data")
-        line = done.stderr
-        self.equal(name, (done.stdout or "", line[: len(start)], line.count("\n"), line[-1:]), ("", start, 1, "\n"))
+        said = done.stderr
+        self.equal(name, (done.stdout or "", said[: len(start)], said.count("\n"), said[-1:]), ("", start, lines, "\n"))
 
 
 def of_the_gate(suite: Suite):
@@ -111,16 +112,28 @@ def usage(suite: Suite):
         "--list and an option": ["--list", "--list"],
     }
     for name, words in calls.items():
-        suite.on_standard_error(name, "usage: vexil_compat ", *words)
+        suite.on_standard_error(name, "usage: vexil_compat ", 2, *words)
+
+
+def asked_for_help(suite: Suite):
+    """Who may take the status for an answer is told that it is none, with the usage and in the README."""
+    usage_text = told(PROGRAM, "--counts")[2]
+    suite.equal("--help", told(PROGRAM, "--help"), (0, usage_text, ""))
+    suite.equal("its usage tells of its status", "The exit status is always 0 and means nothing" in usage_text, True)
+    readme = " ".join((ROOT / "README.md").read_text().split())
+    suite.equal("so does the README", "Its exit status is always 0 and means nothing" in readme, True)
+    header = (ROOT / "include" / "vexil_compat.h").read_text()
+    version = re.search(r'VEXIL_COMPAT_VERSION "(.*)"', header)[1]
+    suite.equal("--version", told(PROGRAM, "--version"), (0, f"vexil_compat {version}\n", ""))
 
 
 def without_output(suite: Suite):
     """An answer that can't be printed is told on standard error."""
-    for name, words in (("report", SAMPLE), ("refusal", ["/dev/null", "/dev/null"])):
+    for name, words in (("report", SAMPLE), ("refusal", ["/dev/null", "/dev/null"]), ("help", ["--help"]), ("version", ["--version"])):
         with open("/dev/full", "w") as full:
-            suite.on_standard_error(f"a {name} that can't be printed", "vexil_compat: standard output: ", *words, stdout=full)
+            suite.on_standard_error(f"a {name} that can't be printed", "vexil_compat: standard output: ", 1, *words, stdout=full)
 
 
 if __name__ == "__main__":
     groups = (of_the_gate, samples, files, both_bad, of_record, without_arguments, paths, long_files, pieces, listings)
-    sys.exit(Suite.run(*groups, usage, without_output))
+    sys.exit(Suite.run(*groups, usage, asked_for_help, without_output))

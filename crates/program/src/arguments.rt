@@ -15,3 +15,11 @@ pub fn is_option(word: &[u8]) -> bool {
 pub fn is_list(word: &[u8]) -> bool {
     check::same(word, b"--list")
 }
+
+pub fn is_help(word: &[u8]) -> bool {
+    check::same(word, b"--help")
+}
+
+pub fn is_version(word: &[u8]) -> bool {
+    check::same(word, b"--version")
+}

@@ -1,6 +1,6 @@
 // Compares two images and prints the report or the refusal: `vexil_compat [OLD NEW]`, without arguments old.img and new.img of the current
 // folder; or lists the contents of one: `vexil_compat --list IMAGE`. What is printed is the answer: a Rattle program can't choose its exit
-// status.
+// status, which is always 0.
 mod arguments;
 mod contents;
 mod files;
@@ -48,6 +48,21 @@ fn answer(first: &[u8], second: &[u8]) {
     compare_files(first, second);
 }
 
+// One argument, which asks about the program.
+fn answer_argument() {
+    let mut word = io::buffer();
+    let n = os::arg(1, &mut word);
+    if arguments::is_help(&word[..n]) {
+        printing::print_help();
+        return;
+    }
+    if arguments::is_version(&word[..n]) {
+        printing::print_version();
+        return;
+    }
+    printing::print_usage();
+}
+
 fn answer_arguments() {
     let mut first = io::buffer();
     let m = os::arg(1, &mut first);
@@ -59,6 +74,7 @@ fn answer_arguments() {
 fn main() {
     match arguments::count() {
         0 => compare_files(b"old.img", b"new.img"),
+        1 => answer_argument(),
         2 => answer_arguments(),
         _ => printing::print_usage(),
     }

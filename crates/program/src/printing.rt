@@ -39,10 +39,23 @@ pub fn print_refusal(number: u64, side: u64) {
     warn_unless(is_written);
 }
 
-// How the program is called.
-pub fn print_usage() {
+// How the program is called, and that its status is no answer.
+fn write_usage(fd: i32) -> bool {
     io::write_all(
-        STDERR_FILENO,
-        b"usage: vexil_compat [OLD NEW | --list IMAGE]   (without arguments: old.img and new.img of the current folder)\n",
-    );
+        fd,
+        b"usage: vexil_compat [OLD NEW | --list IMAGE | --help | --version]   (without arguments: old.img and new.img of the current folder)\nThe exit status is always 0 and means nothing: only what is printed is the answer. The status of the loading tool tells whether to load.\n",
+    )
+}
+
+pub fn print_usage() {
+    write_usage(STDERR_FILENO);
+}
+
+pub fn print_help() {
+    warn_unless(write_usage(STDOUT_FILENO));
+}
+
+// The version is that of the header for C.
+pub fn print_version() {
+    warn_unless(io::write_all(STDOUT_FILENO, b"vexil_compat 1.0\n"));
 }
