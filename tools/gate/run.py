@@ -115,7 +115,7 @@ def prove(gate: Gate):
 
 
 def gate_tests(gate: Gate):
-    for tests in ("checks_test.py", "edits_test.py"):
+    for tests in ("checks_test.py", "edits_test.py", "run_test.py"):
         gate.command(f"tools/gate/{tests}", sys.executable, f"tools/gate/{tests}", "-q", "-b")
 
 
