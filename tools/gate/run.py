@@ -148,10 +148,10 @@ def is_left_out(gate: Gate, what: str, *tools: str) -> bool:
 def loader(gate: Gate):
     if not is_left_out(gate, "tools/loader", "gcc", "rustc"):
         gate.command("tools/loader/build.sh", "bash", "tools/loader/build.sh")
-        for tests in ("test.py", "test_build.py"):
-            gate.suite(f"tools/loader/{tests}", sys.executable, f"tools/loader/{tests}")
-        if not is_left_out(gate, "tools/loader/test_header.py", "g++", "make"):
-            gate.suite("tools/loader/test_header.py", sys.executable, "tools/loader/test_header.py")
+        for tests in ("answers.py", "builds.py"):
+            gate.suite(f"tools/loader/tests/{tests}", sys.executable, f"tools/loader/tests/{tests}")
+        if not is_left_out(gate, "tools/loader/tests/header.py", "g++", "make"):
+            gate.suite("tools/loader/tests/header.py", sys.executable, "tools/loader/tests/header.py")
 
 
 def program(gate: Gate):

@@ -39,5 +39,5 @@ if [ "${1-}" = words ]; then
     exit
 fi
 library=$(bash "$here/library.sh")
-compile loader "$here"/{loader,options,files,faults,refusals}.c "$library/libvexil_compat.a"
+compile loader "$here"/{loader,options,files,refusals,faults,cursor,bodies}.c "$library/libvexil_compat.a"
 echo "$library" > "$out/library"

@@ -10,7 +10,7 @@
 #include <stdint.h>
 #include <stdio.h>
 
-enum { NO_ENTRY = -1, NO_KIND = -1, CONFIG = 5, GENERIC_ALIAS = 6 };
+enum { NO_ENTRY = -1, NO_KIND = -1, CONFIG = 5, GENERIC_ALIAS = 6, IMPL = 8 };
 
 struct place {
     int entry;           /* the id of the entry, or NO_ENTRY */

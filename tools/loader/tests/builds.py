@@ -131,6 +131,8 @@ def stale(suite: Suite, copy: Copy):
     (copy.root / "crates/below/proofs/New.antt").rename(copy.root / "crates/below/proofs/Other.antt")
     suite.equal("a file of another name", (copy.asked(), copy.builds()), (first, ["staticlib"]))
     copy.write("crates.txt", "below:\nbeside:\nvexil_compat: below beside\n", LONG_AGO)
+    suite.equal("the library rests on one crate more", (copy.asked(), copy.builds()), (first, ["staticlib"]))
+    copy.write("crates.txt", "below: beside\nbeside:\nvexil_compat: below beside\n", LONG_AGO)
     suite.equal("a crate rests on another", (copy.asked(), copy.builds()), (first, ["staticlib"]))
     for path in ("crates/below/must-fail/1.edit", "docs/NEW.md", "crates/other/src/lib.rt"):
         copy.write(path, "new")

@@ -12,7 +12,7 @@ import signal
 import subprocess
 import sys
 
-from suite import FAILED, HEADER, HERE, LOAD, LOADER, REFUSED, ROOT, SANITIZED, SOURCES, Suite, build, framed, library
+from suite import FAILED, HEADER, LOAD, LOADER, REFUSED, ROOT, SANITIZED, SOURCES, TESTS, WALK, Suite, build, framed, library
 from pairs import (
     ORACLE, SAMPLE, both_bad, files, listings, of_record, output, recorded, sample_files, samples, told, with_imports,
 )
@@ -130,7 +130,7 @@ def no_images(suite: Suite):
 def places(suite: Suite):
     """On all recorded images the place is the one that `oracle places` tells; on damaged ones the number is the library's."""
     program = suite.folder / "places"
-    suite.equal("places.c builds", build(program, *SANITIZED, HERE / "places.c", HERE / "faults.c", library()), 0)
+    suite.equal("places.c builds", build(program, *SANITIZED, TESTS / "places.c", *WALK, library()), 0)
     images = [image for _, old, new, *_ in recorded() for image in (old, new)]
     found = subprocess.run([program], input=framed(images), stdout=subprocess.PIPE)
     suite.equal("places, status", found.returncode, 0)
@@ -199,7 +199,7 @@ def calls(suite: Suite):
     program, (old, new) = suite.folder / "counted", SAMPLE
     names = re.findall(r"^uint64_t (\w+)\(", HEADER.read_text(), re.MULTILINE)
     wraps = [f"-Wl,--wrap={name}" for name in names]
-    suite.equal("counted.c builds", build(program, *wraps, HERE / "counted.c", *SOURCES, library()), 0)
+    suite.equal("counted.c builds", build(program, *wraps, TESTS / "counted.c", *SOURCES, library()), 0)
     for words, wanted in (
         ([old, new], "values 1 report 1"), (["--counts", old, new], "values 1 report 1"), (["--imports", "--counts", old, new], "values 1 report 1"),
         ([old, "/dev/null"], "values 1"), (["--list", old], "listing 1 listing_verdict 2"), (["--list", "/dev/null"], "listing_verdict 1"),
@@ -213,7 +213,7 @@ def overruns(suite: Suite):
     """The guard pages are where they must be: a library that takes one byte too many faults."""
     program = suite.folder / "overrun"
     for place in ("OLD_IMAGE", "NEW_IMAGE", "VALUES_BUFFER", "REPORT_BUFFER"):
-        suite.equal(f"overrun.c at {place} builds", build(program, f"-DOVERRUN={place}", *SOURCES, HERE / "overrun.c"), 0)
+        suite.equal(f"overrun.c at {place} builds", build(program, f"-DOVERRUN={place}", *SOURCES, TESTS / "overrun.c"), 0)
         calls = [SAMPLE, ["/dev/null", "/dev/null"], ["--imports", *SAMPLE], ["--imports", "/dev/null", "/dev/null"]]
         if place in ("OLD_IMAGE", "REPORT_BUFFER"):
             calls += [["--list", SAMPLE[0]], ["--list", "/dev/null"]]

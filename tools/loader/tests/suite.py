@@ -3,15 +3,17 @@
 import sys
 from pathlib import Path
 
-ROOT = Path(__file__).resolve().parents[2]
+ROOT = Path(__file__).resolve().parents[3]
 sys.path.append(str(ROOT / "tools"))
 import pairs  # noqa: E402
 from pairs import ORACLE, output, told  # noqa: E402
 
 HERE = ROOT / "tools" / "loader"
+TESTS = HERE / "tests"
 LOADER = ROOT / "target" / "loader" / "loader"
 HEADER = ROOT / "include" / "vexil_compat.h"
-SOURCES = [HERE / f"{name}.c" for name in ("loader", "options", "files", "faults", "refusals")]
+WALK = [HERE / f"{name}.c" for name in ("faults", "cursor", "bodies")]
+SOURCES = [HERE / f"{name}.c" for name in ("loader", "options", "files", "refusals")] + WALK
 SANITIZED = ["-g", "-fsanitize=address,undefined", "-fno-sanitize-recover=all"]
 LOAD, DO_NOT_LOAD, FAILED, REFUSED = range(4)
 
@@ -42,7 +44,7 @@ class Suite(pairs.Suite):
 def build(program: Path, *words) -> int:
     """The exit status of gcc."""
     strict = ["-std=c11", "-Wall", "-Wextra", "-Wpedantic", "-Wconversion", "-Werror"]
-    return output("gcc", *strict, "-I", ROOT / "include", "-o", program, *words)[0]
+    return output("gcc", *strict, "-I", ROOT / "include", "-I", HERE, "-o", program, *words)[0]
 
 
 def library() -> Path:

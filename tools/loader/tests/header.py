@@ -10,7 +10,7 @@ import shutil
 import subprocess
 import sys
 
-from suite import HEADER, HERE, LOADER, ROOT, SANITIZED, Suite, build, framed, library
+from suite import HEADER, LOADER, ROOT, SANITIZED, TESTS, Suite, build, framed, library
 from pairs import SAMPLE, SAMPLE_REPORT, output, recorded, told
 
 WARNINGS = ["-Wall", "-Wextra", "-Wpedantic", "-Wconversion", "-Werror"]
@@ -55,7 +55,7 @@ def called(suite: Suite, prefix):
     program = suite.folder / "caller"
     for name, compiler in COMPILERS.items():
         for extra in (SANITIZED, ["-O2"], []):
-            words = [*compiler, *extra, *flags, HERE / "caller.c", "-x", "none", "-o", program, *libs]
+            words = [*compiler, *extra, *flags, TESTS / "caller.c", "-x", "none", "-o", program, *libs]
             suite.equal(f"caller.c, {name} {extra}", told(*words), (0, "", ""))
             suite.equal(f"caller.c runs, {name} {extra}", told(program), (0, "all holds\n", ""))
         if shutil.which("valgrind"):
@@ -88,7 +88,7 @@ def header(suite: Suite):
 def stack(suite: Suite):
     """All recorded pairs on a stack of 64 KiB, by every call, with the values call against the verdict call: no more than the header says."""
     program, pairs_of_record = suite.folder / "stack", suite.folder / "pairs"
-    suite.equal("stack.c builds", build(program, HERE / "stack.c", library(), "-pthread"), 0)
+    suite.equal("stack.c builds", build(program, TESTS / "stack.c", library(), "-pthread"), 0)
     images = [image for _, old, new, *_ in recorded() for image in (old, new)]
     pairs_of_record.write_bytes(framed(images))
     promised = int(re.search(r"less than (\d+) KiB of stack", HEADER.read_text())[1]) * 1024
