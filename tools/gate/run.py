@@ -1,5 +1,5 @@
 #!/usr/bin/env python3
-"""All tests of the repository: proofs, must-fail edits, programs and tools. They take about MINUTES minutes on two cores. The last line is
+"""All tests of the repository: proofs, must-fail edits, programs and tools. They take about 24 minutes on two cores. The last line is
 `N passed, M failed`, the sum of what ran; what could not run is named and not counted."""
 
 import fcntl

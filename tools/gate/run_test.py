@@ -1,14 +1,26 @@
-"""What the gate says of the toolchain."""
+"""What the gate says of itself and of the toolchain."""
 
 import contextlib
 import io
 import os
+import subprocess
 import tempfile
 import unittest
 from pathlib import Path
 from unittest import mock
 
 import run
+
+
+class Words(unittest.TestCase):
+    def test_help_says_how_long_it_takes(self):
+        done = subprocess.run([run.ROOT / "test", "--help"], capture_output=True, text=True)
+        self.assertEqual((done.returncode, done.stderr), (0, ""))
+        self.assertRegex(done.stdout, r"about \d+ minutes")
+
+    def test_other_words_are_bad_usage(self):
+        done = subprocess.run([run.ROOT / "test", "maps"], capture_output=True, text=True)
+        self.assertEqual((done.returncode, done.stdout), (2, ""))
 
 
 class Toolchain(unittest.TestCase):

@@ -256,6 +256,10 @@ def of_repository(suite: Suite):
     suite.equal("listed", output(tool, "--list", SAMPLE[0]), (0, "0;message;Drive\n"))
     suite.equal("refused", output(tool, suite.folder / "nothing", SAMPLE[1]), (3, "refused 2 old\n"))
     suite.equal("refused with imports", output(tool, "--imports", SAMPLE[0], suite.folder), (3, "refused 2 new\n"))
+    with open("/dev/full", "w") as full:
+        done = subprocess.run([tool, SAMPLE[0], SAMPLE[0]], stdout=full, stderr=subprocess.DEVNULL)
+    suite.equal("a Compatible that can't be printed", done.returncode, 2)
+    suite.equal("bad usage", output(tool, SAMPLE[0]), (2, ""))
     good, damaged = sample_files("drive-1", "damaged")
     why = f"vexil-compat: {damaged}: refused 9: code: entry 3, message 'Status', at byte 260: bits 71\n"
     suite.equal("damaged", told(tool, good, damaged), (3, "refused 9 new\n", why))
