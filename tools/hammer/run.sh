@@ -1,8 +1,8 @@
 #!/usr/bin/env bash
 # Hammers the library: the recorded pairs, then COUNT random ones of SEED, against the oracle in one process, for SECONDS (60) at most,
-# by the verdict of 01 and by the one with imports. With every fourth random pair go two more: one without repeats whose images have a
-# copy that is filed anew, so that all four pairs of image and copy must get the answer of the first, and one made for imports
-# . With --refiled or --imports only COUNT of these are run.
+# by the verdict of 01 and by the one with imports; and the contents of each image. With every fourth random pair go two more: one without
+# repeats whose images have a copy that is filed anew, so that all four pairs of image and copy must get the answer of the first,
+# and one made for imports. With --refiled or --imports only COUNT of these are run.
 #
 #   tools/hammer/run.sh [--refiled | --imports] SEED COUNT [SECONDS]
 #

@@ -1,32 +1,22 @@
-//! Many pairs through the library against the oracle, by both verdicts: every
-//! selector, and the values and the report in buffers of several lengths, all against
-//! guard pages. Of pairs without repeats also copies that are filed anew, which must
-//! get the same answer by 01.
+//! Many pairs through the library against the oracle, by both verdicts, and the
+//! contents of each image. Of pairs without repeats also copies that are filed anew,
+//! which must get the same answer by 01.
 
 use super::guarded::Guarded;
-use super::Calls;
-use crate::answer::{judge, Answer, Verdict, SELECTORS};
+use super::{held, IMPORTS, PLAIN};
+use crate::answer::judge;
 use crate::answers;
 use crate::commands::{random_pair, Outcome};
 use crate::imports::import_pair;
 use crate::refiling::filed_pair;
 use crate::rng::Rng;
 use std::fs::File;
-use std::hint::black_box;
 use std::os::unix::fs::FileExt;
 use std::path::{Path, PathBuf};
 use std::time::{Duration, Instant};
 
 const IMAGE_ROOM: usize = 1 << 16;
 const REPORT_ROOM: usize = 1 << 20;
-/// No byte of a report.
-const UNTOUCHED: u8 = 0xa5;
-/// So many bytes before a report buffer are watched.
-const BEFORE: usize = 64;
-/// No value of an answer.
-const UNTOUCHED_VALUE: u64 = u64::MAX / 3;
-/// So many places before a values buffer are watched.
-const PLACES_BEFORE: usize = 8;
 /// After so many random pairs two more are run: one with its copies, and one made for
 /// imports.
 const MORE_ONCE_IN: u64 = 4;
@@ -85,27 +75,19 @@ impl Hammer {
             let place = if answer.is_some() { "of a copy, " } else { "" };
             let pair = judge(old, new);
             let answer = answer.get_or_insert_with(|| pair.answer.clone());
-            let held = self.pair(Verdict::Plain, old, new, answer);
+            let images = [self.old.lend(old), self.new.lend(new)];
+            let out = &mut self.out;
+            let held = held::pair(&PLAIN, images, out, answer);
             held.map_err(|difference| format!("{place}{difference}"))?;
-            let held = self.pair(Verdict::Imports, old, new, &pair.imports());
+            let held = held::pair(&IMPORTS, images, out, &pair.imports());
             held.map_err(|difference| format!("{place}with imports, {difference}"))?;
+            for (side, image, read) in
+                [("old", images[0], &pair.old), ("new", images[1], &pair.new)]
+            {
+                let held = held::image(image, out, read);
+                held.map_err(|difference| format!("{place}{side} image: {difference}"))?;
+            }
             self.passed += 1;
-        }
-        Ok(())
-    }
-
-    fn pair(&mut self, of: Verdict, old: &[u8], new: &[u8], answer: &Answer) -> Outcome {
-        let images = [self.old.lend(old), self.new.lend(new)];
-        let calls = Calls::of(of);
-        verdicts(&calls, images, answer)?;
-        let all = SELECTORS as usize;
-        for places in [0, 1, 5, all, all + 1, all + 40] {
-            values(&calls, images, &mut self.out, places, answer)?;
-        }
-        let length = answer.report.len();
-        let less = length.saturating_sub(1);
-        for room in [length, less, length + 1, length + 300, 0] {
-            report(&calls, images, &mut self.out, room, answer)?;
         }
         Ok(())
     }
@@ -120,75 +102,6 @@ impl Hammer {
             self.pairs(&sides)?;
         }
         Ok(())
-    }
-}
-
-/// Every selector, two beyond them and the last of all.
-fn verdicts(calls: &Calls, [old, new]: [&[u8]; 2], answer: &Answer) -> Outcome {
-    for selector in (0..SELECTORS + 2).chain([u64::MAX]) {
-        let found = calls.verdict(old, new, selector);
-        let wanted = answer.select(selector);
-        if found != wanted {
-            return Err(format!("selector {selector} is {found}, wanted {wanted}"));
-        }
-    }
-    Ok(())
-}
-
-/// The values in a buffer of so many places: the number is returned, each place has
-/// what its selector gives, and those before it stay.
-fn values(
-    calls: &Calls,
-    [old, new]: [&[u8]; 2],
-    out: &mut Guarded,
-    places: usize,
-    answer: &Answer,
-) -> Outcome {
-    let memory = out.last_numbers(PLACES_BEFORE + places);
-    memory.fill(UNTOUCHED_VALUE);
-    let number = calls.values(old, new, &mut memory[PLACES_BEFORE..]);
-    let mut wanted = vec![UNTOUCHED_VALUE; PLACES_BEFORE];
-    wanted.extend((0..places as u64).map(|selector| answer.select(selector)));
-    if number != answer.select(0) {
-        let wanted = answer.select(0);
-        return Err(format!(
-            "values in {places} places: number {number}, wanted {wanted}"
-        ));
-    }
-    // As with the report.
-    match black_box(&*memory) == wanted {
-        true => Ok(()),
-        false => Err(format!("values in {places} places are not as wanted")),
-    }
-}
-
-/// The report in a buffer of `room` bytes: its length and its bytes, and that all
-/// others stay, those past its end and, if it is refused, all.
-fn report(
-    calls: &Calls,
-    [old, new]: [&[u8]; 2],
-    out: &mut Guarded,
-    room: usize,
-    answer: &Answer,
-) -> Outcome {
-    let memory = out.last(BEFORE + room);
-    memory.fill(UNTOUCHED);
-    let length = calls.report(old, new, &mut memory[BEFORE..]);
-    let written = answer.clone().within(room).report;
-    let mut wanted = vec![UNTOUCHED; BEFORE + room];
-    wanted[BEFORE..BEFORE + written.len()].copy_from_slice(&written);
-    if length != written.len() as u64 {
-        let wanted = written.len();
-        return Err(format!(
-            "report in {room} bytes: length {length}, wanted {wanted}"
-        ));
-    }
-    // The library could have written where Rust takes for granted that it did not.
-    match black_box(&*memory) == wanted {
-        true => Ok(()),
-        false => Err(format!(
-            "report in {room} bytes: the memory is not as wanted"
-        )),
     }
 }
 

@@ -1,14 +1,13 @@
-//! The proved library, in a build that links it: its functions on two images, and
-//! what is run through them beside the oracle.
+//! The proved library, in a build that links it: its functions on two images and on
+//! one, and what is run through them beside the oracle.
 
 #[cfg(vexil)]
 pub mod bench;
 mod guarded;
 pub mod hammer;
+mod held;
 #[cfg(vexil)]
 mod realistic;
-
-use crate::answer::Verdict;
 
 type VerdictCall = unsafe extern "C" fn(*const u8, usize, *const u8, usize, u64) -> u64;
 type ValuesCall = unsafe extern "C" fn(*const u8, usize, *const u8, usize, *mut u64, usize) -> u64;
@@ -60,13 +59,6 @@ calls!(
 );
 
 impl Calls {
-    pub fn of(verdict: Verdict) -> Calls {
-        match verdict {
-            Verdict::Plain => PLAIN,
-            Verdict::Imports => IMPORTS,
-        }
-    }
-
     pub fn verdict(&self, old: &[u8], new: &[u8], selector: u64) -> u64 {
         // A slice's pointer is valid for its length and never null; the callee only reads.
         unsafe { (self.verdict)(old.as_ptr(), old.len(), new.as_ptr(), new.len(), selector) }
@@ -101,4 +93,22 @@ impl Calls {
             )
         }
     }
+}
+
+extern "C" {
+    fn vexil_compat_listing(image: *const u8, m: usize, t: *mut u8, r: usize) -> u64;
+    fn vexil_compat_listing_verdict(image: *const u8, m: usize, r: u64, selector: u64) -> u64;
+}
+
+/// Writes the contents of one image.
+pub fn listing(image: &[u8], out: &mut [u8]) -> u64 {
+    let (place, room) = (out.as_mut_ptr(), out.len());
+    // As above.
+    unsafe { vexil_compat_listing(image.as_ptr(), image.len(), place, room) }
+}
+
+/// What the call above answers for a buffer of `room` bytes.
+pub fn listing_verdict(image: &[u8], room: u64, selector: u64) -> u64 {
+    // As above; no buffer is lent.
+    unsafe { vexil_compat_listing_verdict(image.as_ptr(), image.len(), room, selector) }
 }
