@@ -205,10 +205,9 @@ static inline bool vexil_compat_imports_may_load(const uint8_t *old_image, size_
 }
 
 /* The selector for how many changes there are of a kind. */
-static inline uint64_t vexil_compat_count_of(enum vexil_compat_kind kind)
+static inline uint64_t vexil_compat_count_of(uint64_t kind)
 {
-    uint64_t first = VEXIL_COMPAT_SELECT_COUNTS;
-    return first + kind;
+    return VEXIL_COMPAT_SELECT_COUNTS + kind;
 }
 
 /* The words for numbers, as reports and tools have them; "unknown" for a number that has none. */
@@ -241,10 +240,24 @@ static inline const char *vexil_compat_result_name(uint64_t result)
 static inline const char *vexil_compat_kind_name(uint64_t kind)
 {
     static const char *const names[VEXIL_COMPAT_KINDS] = {
-        "FieldAdded",           "FieldRemoved",     "FieldTypeChanged",       "FieldOrdinalChanged",   "FieldRenamed",
-        "FieldDeprecated",      "FieldEncodingChanged", "VariantAdded",       "VariantRemoved",        "VariantOrdinalChanged",
-        "DeclarationAdded",     "DeclarationRemoved",   "DeclarationKindChanged", "NamespaceChanged",  "NonExhaustiveChanged",
-        "FlagsBitAdded",        "FlagsBitRemoved",      "FlagsBitOrdinalChanged",
+        "FieldAdded",
+        "FieldRemoved",
+        "FieldTypeChanged",
+        "FieldOrdinalChanged",
+        "FieldRenamed",
+        "FieldDeprecated",
+        "FieldEncodingChanged",
+        "VariantAdded",
+        "VariantRemoved",
+        "VariantOrdinalChanged",
+        "DeclarationAdded",
+        "DeclarationRemoved",
+        "DeclarationKindChanged",
+        "NamespaceChanged",
+        "NonExhaustiveChanged",
+        "FlagsBitAdded",
+        "FlagsBitRemoved",
+        "FlagsBitOrdinalChanged",
     };
     return kind < VEXIL_COMPAT_KINDS ? names[kind] : "unknown";
 }

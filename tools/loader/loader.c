@@ -47,8 +47,8 @@ static void print_refusal(uint64_t number, uint64_t side)
 /* A line for each kind of change that there is. */
 static void print_counts(const uint64_t *values)
 {
-    for (unsigned kind = 0; kind < VEXIL_COMPAT_KINDS; kind++) {
-        uint64_t count = values[vexil_compat_count_of((enum vexil_compat_kind)kind)];
+    for (uint64_t kind = 0; kind < VEXIL_COMPAT_KINDS; kind++) {
+        uint64_t count = values[vexil_compat_count_of(kind)];
         if (count != 0)
             printf("%s %" PRIu64 "\n", vexil_compat_kind_name(kind), count);
     }
