@@ -5,17 +5,20 @@
 //! copy it beside compat.rs, write `pub mod exporter;` in lib.rs and call
 //!
 //! ```ignore
-//! match exporter::export(&schema) {
-//!     Ok(image) => std::fs::write("new.img", image)?,
-//!     Err(refused) => eprintln!("{refused}"),
+//! let exported = exporter::export(&schema)?;
+//! for warning in &exported.warnings {
+//!     eprintln!("{warning}");
 //! }
+//! std::fs::write("new.img", exported.image)?;
 //! ```
+//!
+//! caller.rs, beside this file, is a whole function that does so, to be copied too.
 //!
 //! As a part of that crate it does not compile once the IR has a kind, a type
 //! or an encoding more, so none is dropped in silence.
 //!
 //! Written are the namespace, every registry entry in the order of its `TypeId`
-//! (a stub becomes an empty entry), the listed ids as they are, resolvable or
+//! (a stub becomes an empty entry, with a warning), the listed ids as they are, resolvable or
 //! not, and of each definition what `compat::check` reads: names, ordinals and
 //! bits, types, encodings with limits, and the marks deprecated and
 //! non-exhaustive of messages, enums and fields.
@@ -25,6 +28,11 @@
 //! constraints, wire sizes, an enum's backing type, spans, origins, aliases that
 //! the registry resolves; of configs, generic aliases and traits all but the
 //! name; of impls everything.
+//!
+//! A warning names an entry that was left a stub, such as an import that was not
+//! resolved. The image hides what it stands for: a field that goes from one stub to
+//! another compares as equal. So does an id outside the registry, which is written
+//! as it is and without a warning.
 //!
 //! Refusals have the numbers of the format's table. The first in the order of
 //! an image's bytes is given:
@@ -45,7 +53,7 @@
 use crate::ast::{PrimitiveType, SemanticType, SubByteType};
 use crate::ir::{
     CompiledSchema, Encoding, EnumVariantDef, FieldDef, FlagsBitDef, ResolvedAnnotations,
-    ResolvedType, TypeDef, TypeId, UnionVariantDef,
+    ResolvedType, TypeDef, TypeId, TypeRegistry, UnionVariantDef,
 };
 use std::fmt;
 
@@ -63,6 +71,36 @@ const CROWDED: u8 = 4;
 const NAME: u8 = 7;
 const CODE: u8 = 9;
 const DEEP: u8 = 10;
+
+/// The image of a schema, and what it hides.
+#[derive(Clone, PartialEq, Eq, Debug, Default)]
+pub struct Exported {
+    pub image: Vec<u8>,
+    /// In the order of ids.
+    pub warnings: Vec<Warning>,
+}
+
+/// A stub of the registry, which is written as an empty entry.
+#[derive(Clone, PartialEq, Eq, Debug)]
+pub struct Warning {
+    /// The entry's id.
+    pub id: u32,
+    /// The name that the registry has for it, if it has one.
+    pub name: Option<String>,
+}
+
+impl fmt::Display for Warning {
+    fn fmt(&self, f: &mut fmt::Formatter<'_>) -> fmt::Result {
+        write!(f, "entry {}", self.id)?;
+        if let Some(name) = &self.name {
+            write!(f, ", {name:?},")?;
+        }
+        write!(
+            f,
+            " is a stub and is written as an empty one: what it stands for is not compared"
+        )
+    }
+}
 
 /// Why a schema can't be an image.
 #[derive(Clone, PartialEq, Eq, Debug)]
@@ -105,8 +143,8 @@ impl std::error::Error for Refused {}
 
 type Written = Result<(), Refused>;
 
-/// The image of a schema.
-pub fn export(schema: &CompiledSchema) -> Result<Vec<u8>, Refused> {
+/// The image of a schema, with its warnings.
+pub fn export(schema: &CompiledSchema) -> Result<Exported, Refused> {
     let mut image = vec![1, 0];
     put_count(&mut image, schema.registry.len(), ENTRIES, "registry")?;
     put_count(&mut image, schema.declarations.len(), IDS, "declarations")?;
@@ -123,7 +161,26 @@ pub fn export(schema: &CompiledSchema) -> Result<Vec<u8>, Refused> {
     for (id, def) in schema.registry.iter() {
         put_entry(&mut image, id, def)?;
     }
-    Ok(image)
+    let warnings = warnings(&schema.registry);
+    Ok(Exported { image, warnings })
+}
+
+/// One for each stub; the registry's `iter` leaves them out.
+fn warnings(registry: &TypeRegistry) -> Vec<Warning> {
+    let ids = (0..registry.len() as u32).map(TypeId);
+    let stubs = ids.filter(|id| registry.is_stub(*id));
+    let warning = |id: TypeId| Warning {
+        id: id.index(),
+        name: registered_name(registry, id),
+    };
+    stubs.map(warning).collect()
+}
+
+/// Of several names the first by bytes, for the registry has them in no order.
+fn registered_name(registry: &TypeRegistry, id: TypeId) -> Option<String> {
+    let names = registry.iter_names();
+    let names = names.filter(|name| registry.lookup(name) == Some(id));
+    names.min().map(str::to_string)
 }
 
 fn put_count(image: &mut Vec<u8>, count: usize, most: usize, place: &str) -> Written {

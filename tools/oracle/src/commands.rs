@@ -12,10 +12,14 @@ use crate::reader::read_image;
 use crate::refiling::{refiled, repeat};
 use crate::rng::Rng;
 use crate::text;
+#[cfg(vexil)]
+use crate::vexil::{caller::write_image, compile};
 use crate::writer::image;
 use std::collections::BTreeMap;
 use std::fs::File;
 use std::io::{Read, Write};
+#[cfg(vexil)]
+use std::path::Path;
 
 /// A command has done its job, or says why not.
 pub type Outcome = Result<(), String>;
@@ -75,6 +79,18 @@ pub fn make(text: &str, image: &str) -> Outcome {
     let read = std::fs::read_to_string(text).map_err(|error| of(text, &error))?;
     let bytes = text::make(&read).map_err(|fault| of(text, &fault))?;
     std::fs::write(image, bytes).map_err(|error| of(image, &error))
+}
+
+/// The same by way of a `CompiledSchema`, as a build of Vexil does it: with the
+/// exporter and its caller. An empty entry becomes a stub.
+#[cfg(vexil)]
+pub fn export(text: &str, image: &str) -> Outcome {
+    let read = std::fs::read_to_string(text).map_err(|error| format!("{text}: {error}"))?;
+    let schema = text::parse(&read).map_err(|fault| format!("{text}: {fault}"))?;
+    match write_image(&compile(&schema), Path::new(image)) {
+        true => Ok(()),
+        false => Err(format!("{image}: not written")),
+    }
 }
 
 /// Writes a copy of an accepted image without repeats that is filed anew.

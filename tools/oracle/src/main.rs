@@ -55,6 +55,8 @@ const USAGE: &str = "usage: oracle report [--whole] [--imports] OLD NEW
        oracle random [--imports] SEED COUNT
        oracle selftest
        oracle --help
+built with the Vexil sources also:
+       oracle export TEXT IMAGE
 built with the library also:
        oracle-library bench FILE
        oracle-library hammer FILE SEED COUNT SECONDS FOLDER
@@ -83,6 +85,8 @@ fn run(words: &[&str]) -> Outcome {
         ["verdict", ref words @ ..] => verdict(Verdict::Plain, words),
         ["show", image] => commands::show(image),
         ["make", text, image] => commands::make(text, image),
+        #[cfg(vexil)]
+        ["export", text, image] => commands::export(text, image),
         ["refile", image, seed, out] => commands::refile(image, number(seed)?, out),
         ["list", path] => commands::list(path),
         ["generate", path] => record::generate(path, record::SEED),

@@ -8,13 +8,13 @@ use crate::answers::{self, Recorded};
 use std::path::Path;
 use std::process::Command;
 
-struct Called {
-    status: Option<i32>,
-    printed: String,
-    complaint: String,
+pub struct Called {
+    pub status: Option<i32>,
+    pub printed: String,
+    pub complaint: String,
 }
 
-fn call(words: &[&str]) -> Called {
+pub fn call(words: &[&str]) -> Called {
     let program = std::env::current_exe().unwrap_or_default();
     let text = |bytes: Vec<u8>| String::from_utf8_lossy(&bytes).into_owned();
     match Command::new(program).args(words).output() {

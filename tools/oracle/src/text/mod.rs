@@ -9,6 +9,8 @@ use crate::limits::IMAGE_BYTES;
 use crate::schema::Schema;
 use crate::types::{name_of, UNKNOWN};
 use crate::writer::image;
+#[cfg(vexil)]
+pub use parse::parse;
 pub use show::show;
 
 /// Stands for the empty name.

@@ -22,6 +22,8 @@ pub mod span;
 #[allow(warnings)]
 #[path = "../../stand_ins/canonical.rs"]
 pub mod canonical;
+#[path = "../../../exporter/caller.rs"]
+pub mod caller;
 #[path = "../../../exporter/exporter.rs"]
 pub mod exporter;
 

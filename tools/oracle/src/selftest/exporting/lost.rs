@@ -26,7 +26,7 @@ pub fn run(tests: &mut Tests) {
     }));
     let written = pairs.iter().all(|(schema, _)| {
         let bytes = image(schema);
-        export(&laden(schema)).is_ok_and(|exported| exported == bytes)
+        export(&laden(schema)).is_ok_and(|exported| exported.image == bytes)
     });
     tests.holds("what an image does not hold is not written", written);
     let read = pairs

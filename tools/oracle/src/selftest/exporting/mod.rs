@@ -3,6 +3,7 @@
 
 mod lost;
 mod refusals;
+mod stubs;
 
 use super::Tests;
 use crate::cases;
@@ -12,7 +13,7 @@ use crate::reader::read_image;
 use crate::record::SEED;
 use crate::rng::Rng;
 use crate::schema::Schema;
-use crate::vexil::exporter::export;
+use crate::vexil::exporter::{export, Exported};
 use crate::vexil::{compile, real_answer};
 
 pub fn run(tests: &mut Tests) {
@@ -20,6 +21,7 @@ pub fn run(tests: &mut Tests) {
     random(tests);
     lost::run(tests);
     refusals::run(tests);
+    stubs::run(tests);
 }
 
 /// What went through the exporter, and the pairs in which something came out
@@ -37,12 +39,20 @@ impl RoundTrips {
         let schemas = [old, new].map(|image| read_image(image).ok());
         let again = [0, 1].map(|side| {
             let schema = schemas[side].as_ref()?;
-            let exported = export(&compile(schema)).unwrap_or_default();
             self.images += 1;
-            if exported != [old, new][side] {
+            let exported = export(&compile(schema)).unwrap_or_else(|refused| {
+                self.changed.push(format!("{name}: {refused}"));
+                Exported::default()
+            });
+            if exported.image != [old, new][side] {
                 self.changed.push(format!("{name}: bytes of image {side}"));
             }
-            read_image(&exported).ok()
+            let warned: Vec<u32> = exported.warnings.iter().map(|w| w.id).collect();
+            if warned != empty_entries(schema) {
+                self.changed
+                    .push(format!("{name}: warnings of image {side}"));
+            }
+            read_image(&exported.image).ok()
         });
         let ([Some(old), Some(new)], [Some(old_again), Some(new_again)]) = (&schemas, &again)
         else {
@@ -56,6 +66,12 @@ impl RoundTrips {
             self.changed.push(format!("{name}: the answer of check"));
         }
     }
+}
+
+fn empty_entries(schema: &Schema) -> Vec<u32> {
+    let entries = (0..).zip(&schema.registry);
+    let empty = entries.filter(|(_, entry)| entry.is_none());
+    empty.map(|(id, _)| id).collect()
 }
 
 fn answer(old: &Schema, new: &Schema) -> Vec<String> {

@@ -24,7 +24,7 @@ pub fn run(tests: &mut Tests) {
 }
 
 fn exported(schema: &Schema) -> Result<Vec<u8>, Refused> {
-    export(&compile(schema))
+    export(&compile(schema)).map(|exported| exported.image)
 }
 
 /// Refused where the format has no room for the schema, so that there are no
