@@ -16,6 +16,12 @@ static const uint8_t new_image[] = {
     1, 0, 1, 0, 1, 0, 1, 0, 21, 0, 40, 0, 0, 0, 0, 0, 4, 'r', 'i', 'd', 'e', 0, 5, 'D', 'r', 'i', 'v', 'e', 0, 2, 0,
     0, 0, 0, 0, 5, 's', 'p', 'e', 'e', 'd', 0, 0, 0, 0, 2, 1, 0, 0, 0, 5, 'l', 'i', 'm', 'i', 't', 0, 0, 0, 0, 2,
 };
+/* `A` is declared and has a field of type `B`, an import, which is a `u8` or, with another last byte, a `u16`. */
+static const uint8_t import_old[] = {
+    1, 0, 2, 0, 1, 0, 0, 0, 20, 0, 20, 0, 40, 0, 5, 0, 0, 0, 0, 0, 0, 1, 'A', 0, 1, 0, 0, 0, 0, 0, 1, 'x', 0, 0, 0, 3, 1, 0, 0, 0,
+    4, 1, 'B', 0, 1,
+};
+static uint8_t import_new[sizeof import_old];
 static const char report[] = "FieldAdded;Major;Drive;+limit;field 'limit' @1 was added\nBreaking;Major;1\n";
 static const char listing[] = "0;message;Drive\n";
 
@@ -49,6 +55,11 @@ static void may_load(void)
     HOLD(vexil_compat_imports_may_load(old_image, old_len, old_image, old_len));
     HOLD(!vexil_compat_imports_may_load(old_image, old_len, new_image, new_len));
     HOLD(!vexil_compat_imports_may_load(NULL, 0, NULL, 0));
+    memcpy(import_new, import_old, sizeof import_old);
+    import_new[sizeof import_new - 1] = 2;
+    HOLD(vexil_compat_may_load(import_old, sizeof import_old, import_new, sizeof import_new));
+    HOLD(vexil_compat_imports_may_load(import_old, sizeof import_old, import_old, sizeof import_old));
+    HOLD(!vexil_compat_imports_may_load(import_old, sizeof import_old, import_new, sizeof import_new));
     for (uint64_t number = 0; number < 40; number++) {
         for (uint64_t result = 0; result < 4; result++)
             HOLD(vexil_compat_is_compatible(number, result) == (number == 0 && result == 0));
