@@ -170,6 +170,11 @@ def alias_pairs(suite: Suite):
     why = f"{old}: refused 11: alias pair: entry 2, generic_alias 'B', at byte 39; {new}: entry 2, generic_alias 'B', at byte 54"
     for options in ([], ["--imports"]):
         suite.refused(f"aliases {options}", [*options, old, new], "refused 11 both\n", why)
+    text = "namespace\ndeclares M#0\n\n#0 message M\n  @0 f: B#1\n\n#1 generic_alias B\n\n#2 generic_alias C\n"
+    imported = suite.made("imported-alias", text)
+    why = f"{imported}: refused 11: alias pair: entry 1, generic_alias 'B', at byte 44; {imported}: entry 1, generic_alias 'B', at byte 44"
+    suite.refused("an imported alias", ["--imports", imported, imported], "refused 11 both\n", why)
+    suite.equal("which is not listed", told(LOADER, imported, imported), (LOAD, "Compatible;Patch;0\n", ""))
     tried = 0
     for imports in ([], ["--imports"]):
         for name, old, new, selectors, _ in recorded(bool(imports)):
