@@ -7,6 +7,9 @@ DESTDIR =
 # Only the library that is proved here is installed.
 unexport VEXIL_COMPAT_LIB
 
+ifneq ($(words $(PREFIX)),1)
+$(error PREFIX is one path, without spaces)
+endif
 prefix := $(abspath $(PREFIX))
 root := $(DESTDIR)$(prefix)
 header := include/vexil_compat.h

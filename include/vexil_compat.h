@@ -2,10 +2,11 @@
  * Whether a new Vexil schema may be loaded where an old one runs: two verdicts on two images, each with its report; and the contents of
  * one image. docs/FORMAT.md describes images, refusals and reports.
  *
- * Who only wants to know whether to load asks vexil_compat_may_load: true is Compatible, and everything else is false.
+ * Who only wants to know whether to load asks vexil_compat_may_load, or vexil_compat_imports_may_load, which looks at what the schemas import,
+ * too: true is Compatible, and everything else is false. Neither sees all: README, "What is not seen".
  *
  * The library is libvexil_compat.a, for x86-64: `make` proves and builds it, and `make install PREFIX=..` installs it with this header and
- * a file for pkg-config, `vexil_compat`.
+ * a file for pkg-config, `vexil_compat`. This header is for C99 and later, and for C++.
  *
  * Any bytes may be lent as images: faulty ones are refused by number, and every call returns.
  *
@@ -135,7 +136,8 @@ uint64_t vexil_compat_imports_verdict(const uint8_t *old_image, size_t old_len,
 
 /*
  * All values by one comparison, where each call above makes one: `values[i]` becomes what the verdict answers to selector i, for every
- * place of the buffer, of a refusal too. VEXIL_COMPAT_VALUES places hold all that may differ from 0. Returns the number.
+ * place of the buffer, of a refusal too. VEXIL_COMPAT_VALUES places hold all that may differ from 0. Returns the number: 0 is no refusal,
+ * and not Compatible, which VEXIL_COMPAT_SELECT_RESULT tells.
  */
 uint64_t vexil_compat_values(const uint8_t *old_image, size_t old_len,
                              const uint8_t *new_image, size_t new_len,
@@ -171,8 +173,8 @@ uint64_t vexil_compat_listing(const uint8_t *image, size_t len, uint8_t *out, si
 /*
  * What the call above answers for a buffer of `out_len` bytes: VEXIL_COMPAT_SELECT_NUMBER (VEXIL_COMPAT_REFUSAL_FULL too),
  * VEXIL_COMPAT_SELECT_SIDE (VEXIL_COMPAT_SIDE_OLD of every refusal) or VEXIL_COMPAT_SELECT_LENGTH. Of a refusal VEXIL_COMPAT_SELECT_BUMP is
- * Major and VEXIL_COMPAT_SELECT_RESULT Breaking, as of two images; every other selector gives 0. With UINT64_MAX bytes the length says how
- * large a buffer is needed.
+ * Major and VEXIL_COMPAT_SELECT_RESULT Breaking, as of two images; every other selector gives 0, which says nothing of loading. With
+ * UINT64_MAX bytes the length says how large a buffer is needed.
  */
 uint64_t vexil_compat_listing_verdict(const uint8_t *image, size_t len, uint64_t out_len, uint64_t selector);
 
@@ -185,8 +187,8 @@ static inline bool vexil_compat_is_compatible(uint64_t number, uint64_t result)
 }
 
 /*
- * Whether the new schema may be loaded where the old one runs, by either verdict. False of Breaking and of every refusal: 0 is the answer to
- * many a selector, and here none of them reads as Compatible by mistake.
+ * Whether the new schema may be loaded where the old one runs, by the first verdict, which does not look at imports, and by the one with
+ * imports. False of Breaking and of every refusal: 0 is the answer to many a selector, and here none of them reads as Compatible by mistake.
  */
 static inline bool vexil_compat_may_load(const uint8_t *old_image, size_t old_len,
                                          const uint8_t *new_image, size_t new_len)

@@ -60,7 +60,7 @@ class Gate:
         self.count(passed, [f"{name}: failed"] * failed)
         if (status != 0) != (failed > 0) or passed == 0:
             self.faults.append(f"{name}: exit status {status} with '{lines[-1]}'")
-        self.left_out += [f"{name}: {line}" for line in lines if line.startswith("the time is over")]
+        self.left_out += [f"{name}: {line.removeprefix('left out: ')}" for line in lines if line.startswith(("left out: ", "the time is over"))]
 
     def finish(self) -> int:
         for reason in self.left_out:

@@ -64,11 +64,17 @@ const char *trouble_of(const struct image *image)
     return text;
 }
 
+static bool is_of_text(uint8_t byte, size_t place)
+{
+    if (byte < 0x80)
+        return (byte >= ' ' && byte != 0x7f) || byte == '\n' || byte == '\r' || byte == '\t';
+    return place >= 8 && byte != 0xc0 && byte != 0xc1 && byte < 0xf5;
+}
+
 bool is_text(const struct image *image)
 {
     for (size_t i = 0; i < image->length; i++) {
-        uint8_t byte = image->bytes[i];
-        if (byte == 0x7f || (byte < ' ' && byte != '\n' && byte != '\r' && byte != '\t'))
+        if (!is_of_text(image->bytes[i], i))
             return false;
     }
     return image->length != 0;

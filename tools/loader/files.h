@@ -22,7 +22,7 @@ struct image read_image(const char *path);
 /* What is the matter with the file as a whole, NULL if it may well be an image; the text stands until the next call. */
 const char *trouble_of(const struct image *image);
 
-/* Whether it has the bytes of a text: no image has, since each has a zero byte. */
+/* Whether it has the bytes of a text: ASCII at first, no control byte, and none that no UTF-8 has. No image is one: each has a zero byte. */
 bool is_text(const struct image *image);
 
 #endif

@@ -6,7 +6,10 @@
 # It is proved with the kit of KIT-ID. VEXIL_COMPAT_ANY_KIT=1 takes what another kit proves.
 set -euo pipefail
 unset CDPATH
-repo=$(cd "$(dirname "${BASH_SOURCE[0]}")/../.." && pwd)
+here=$(cd "$(dirname "${BASH_SOURCE[0]}")" && pwd)
+repo=$(cd "$here/../.." && pwd)
+# shellcheck source=tools/loader/lock.sh
+. "$here/lock.sh"
 name=vexil_compat
 folder=${VEXIL_COMPAT_LIB:-}
 if [ -n "$folder" ]; then
@@ -20,38 +23,57 @@ fi
 
 folder=$repo/target/staticlib
 log=$repo/target/staticlib.log
-progress=
 pinned=$(cat "$repo/KIT-ID")
-# The library's own crate comes last; crates.txt has all that it is made of in its line.
-read -ra crates <<< "$(sed -n "s/^$name: *//p" "$repo/crates.txt") $name"
+progress=
+
+# The lines of crates.txt of the library and of all that it is made of, as they are: `rt` takes another space for another crate.
+listed() {
+    awk -v name="$name" '
+        { line = $0; sub(/#.*/, "") }
+        /:/ { crate = $0; sub(/:.*/, "", crate); gsub(/[ \t]/, "", crate); sub(/^[^:]*:/, ""); below[crate] = $0; lines[crate] = line }
+        END {
+            todo[left = 1] = name
+            while (left > 0) {
+                crate = todo[left--]
+                if (!(crate in below) || (crate in seen)) continue
+                seen[crate] = 1
+                for (i = split(below[crate], deps, " "); i > 0; i--) todo[++left] = deps[i]
+            }
+            for (crate in seen) print lines[crate]
+        }' "$repo/crates.txt" | LC_ALL=C sort
+}
+
+lines=$(listed)
+mapfile -t crates < <(cut -d: -f1 <<< "$lines" | tr -d ' \t')
+case " ${crates[*]} " in
+*" $name "*) ;;
+*)
+    echo "library.sh: crates.txt has no line of $name" >&2
+    exit 1
+    ;;
+esac
 
 hash_of() {
     sha256sum | cut -d' ' -f1
 }
 
-# What the library is made of: the files of its crates with their names, and what each crate rests on.
-sources() {
-    local crate folders=()
-    for crate in "${crates[@]}"; do
-        folders+=("crates/$crate")
-        grep "^$crate:" "$repo/crates.txt" || return 1
-    done
-    cd "$repo"
-    find "${folders[@]}" -name must-fail -prune -o -type f -print0 | LC_ALL=C sort -z | xargs -0 sha256sum
-}
-
-# What target/staticlib/made-of says of a library that is current.
-wanted() {
-    [ -f "$folder/lib$name.a" ] || return 1
-    printf 'crates %s\nlibrary %s\n' "$made_of" "$(hash_of < "$folder/lib$name.a")"
+# What a library is made of, in the repository or in a copy: what its crates rest on, and their files with their names.
+made_of() { # FOLDER
+    cd "$1/crates"
+    {
+        echo "$lines"
+        find -L "${crates[@]}" -name must-fail -prune -o -type f -print0 | LC_ALL=C sort -z | xargs -0 sha256sum
+    } | hash_of
 }
 
 is_current() {
-    [ -f "$folder/made-of" ] || return 1
-    local kit
+    local sources archive kit
+    [ -f "$folder/made-of" ] && [ -f "$folder/lib$name.a" ] || return 1
+    sources=$(made_of "$repo") || exit 1
+    archive=$(hash_of < "$folder/lib$name.a")
     kit=$(sed -n 's/^kit //p' "$folder/made-of")
     [ "$kit" = "$pinned" ] || [ -n "${VEXIL_COMPAT_ANY_KIT:-}" ] || return 1
-    [ "$(grep -v '^kit ' "$folder/made-of")" = "$(wanted)" ]
+    [ "$(cat "$folder/made-of")" = "$(printf 'crates %s\nlibrary %s\nkit %s' "$sources" "$archive" "$kit")" ]
 }
 
 check_kit() {
@@ -84,7 +106,7 @@ show_progress() {
             esac
         done
         gone=$((SECONDS - began))
-        printf '\r\033[K  %d of %d crates proved, now%s (%d:%02d)' "$proved" "${#crates[@]}" "${now:- $name}" $((gone / 60)) $((gone % 60)) >&2
+        printf '\r\033[K  %d of %d crates proved%s (%d:%02d)' "$proved" "${#crates[@]}" "${now:+, now$now}" $((gone / 60)) $((gone % 60)) >&2
         sleep 1
     done
 }
@@ -97,33 +119,51 @@ stop_progress() {
     progress=
 }
 
-build() {
-    check_kit
-    mkdir -p "$repo/target"
-    rm -f "$folder/made-of"
+# A copy of the crates is proved, so that the hash is that of what was proved, whatever is edited meanwhile. The copy's target/ is the
+# repository's: what is proved there is not proved again.
+copy_crates() { # FOLDER
+    local crate
+    rm -rf "$1"
+    mkdir -p "$1/crates"
+    for crate in "${crates[@]}"; do
+        cp -rL "$repo/crates/$crate" "$1/crates/"
+    done
+    echo "$lines" > "$1/crates.txt"
+    ln -s "$repo/target" "$1/target"
+}
+
+prove() { # FOLDER
     : > "$log.start"
     if [ -t 2 ]; then
         show_progress 9<&- &
         progress=$!
         trap stop_progress EXIT
     fi
-    if ! (cd "$repo" && rt staticlib "$name" > "$log" 2>&1); then
+    if ! (cd "$1" && rt staticlib "$name" > "$log" 2>&1) || [ ! -f "$folder/lib$name.a" ]; then
         stop_progress
         tail -20 "$log" >&2
         echo "library.sh: the library is not proved; the whole log is $log" >&2
         exit 1
     fi
     stop_progress
-    { wanted && echo "kit $kit"; } > "$folder/made-of.new"
-    mv "$folder/made-of.new" "$folder/made-of"
 }
 
-# On the folder itself, which stays where it is whatever is removed in it.
-exec 9< "$repo"
-if ! flock -n 9; then
-    if [ -t 2 ]; then echo 'vexil-compat: another call is building the library; this one waits for it' >&2; fi
-    flock 9
-fi
-made_of=$(sources | hash_of)
+build() {
+    local copy=$repo/target/proved sources archive
+    check_kit
+    rm -f "$folder/made-of" "$folder/lib$name.a"
+    copy_crates "$copy"
+    sources=$(made_of "$copy")
+    prove "$copy"
+    archive=$(hash_of < "$folder/lib$name.a")
+    printf 'crates %s\nlibrary %s\nkit %s\n' "$sources" "$archive" "$kit" > "$folder/made-of"
+    rm -rf "$copy"
+    if ! is_current; then
+        echo 'library.sh: the crates were changed while they were proved; the next call proves them anew' >&2
+        exit 1
+    fi
+}
+
+take_lock
 is_current || build
 echo "$folder"

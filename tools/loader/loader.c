@@ -8,8 +8,8 @@
 #include "vexil_compat.h"
 
 #include <inttypes.h>
+#include <signal.h>
 #include <stdio.h>
-#include <stdlib.h>
 
 /* The calls that answer by one verdict. */
 struct calls {
@@ -39,9 +39,11 @@ static int fail(const char *what)
     return FAILED;
 }
 
+/* At once: to find out where a fault is may take a while. */
 static void print_refusal(uint64_t number, uint64_t side)
 {
     printf("refused %" PRIu64 " %s\n", number, vexil_compat_side_name(side));
+    fflush(stdout);
 }
 
 /* A line for each kind of change that there is. */
@@ -117,12 +119,8 @@ static int answer(const struct options *options)
 
 int main(int count, char **words)
 {
+    /* So that a pipe that nobody reads is told like a full disk. */
+    signal(SIGPIPE, SIG_IGN);
     struct options options = read_options(count, words);
-    int status = answer(&options);
-    /* An answer that nobody gets is none. */
-    if (fflush(stdout) != 0 || ferror(stdout)) {
-        perror("vexil-compat: standard output");
-        return FAILED;
-    }
-    return status;
+    return printed(answer(&options));
 }

@@ -4,6 +4,11 @@
 #include <stdio.h>
 #include <string.h>
 
+/* What proved the library that this is linked with. */
+#ifndef TOOLCHAIN
+#define TOOLCHAIN VEXIL_COMPAT_KIT
+#endif
+
 static const char usage[] =
     "usage: vexil-compat [--imports] [--counts] OLD NEW\n"
     "       vexil-compat --list IMAGE\n"
@@ -58,7 +63,7 @@ struct options read_options(int count, char **words)
         printf("%s%s", usage, help);
         options.action = ANSWERED;
     } else if (count == 2 && is(words[1], "--version")) {
-        printf("vexil-compat %s, proved with %s\n", VEXIL_COMPAT_VERSION, VEXIL_COMPAT_KIT);
+        printf("vexil-compat %s, toolchain %s\n", VEXIL_COMPAT_VERSION, TOOLCHAIN);
         options.action = ANSWERED;
     } else if (count == 3 && is(words[1], "--list") && are_paths(1, words + 2)) {
         options.action = LIST;

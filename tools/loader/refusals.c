@@ -5,9 +5,18 @@
 #include <inttypes.h>
 #include <string.h>
 
+/* Without what would break the line. */
+static void print_path(const char *path)
+{
+    for (; *path != '\0'; path++)
+        fputc(*path >= 0 && *path < ' ' ? '?' : *path, stderr);
+}
+
 static void print_start(const char *path, uint64_t number)
 {
-    fprintf(stderr, "vexil-compat: %s: refused %" PRIu64 ": %s", path, number, vexil_compat_refusal_name(number));
+    fputs("vexil-compat: ", stderr);
+    print_path(path);
+    fprintf(stderr, ": refused %" PRIu64 ": %s", number, vexil_compat_refusal_name(number));
 }
 
 void explain_image(const struct image *image, uint64_t number)
@@ -22,7 +31,7 @@ void explain_image(const struct image *image, uint64_t number)
         print_fault(stderr, &fault);
     }
     if (is_text(image))
-        fputs(" (this is a text; `oracle make TEXT IMAGE` writes the image of one)", stderr);
+        fputs(" (this is a text and no image: README, \"How to make images\")", stderr);
     fputc('\n', stderr);
 }
 
@@ -89,7 +98,9 @@ void explain_alias_pair(const struct image *old, const struct image *new, number
     print_start(old->path, VEXIL_COMPAT_REFUSAL_ALIAS_PAIR);
     fputs(": ", stderr);
     print_place(stderr, last_alias(&pair, &pair.old));
-    fprintf(stderr, "; %s: ", new->path);
+    fputs("; ", stderr);
+    print_path(new->path);
+    fputs(": ", stderr);
     print_place(stderr, last_alias(&pair, &pair.new));
     fputc('\n', stderr);
 }

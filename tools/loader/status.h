@@ -9,4 +9,7 @@ enum {
     REFUSED = 3
 };
 
+/* The status, if what was printed has got where it goes: an answer that nobody gets is none. */
+int printed(int status);
+
 #endif

@@ -5,6 +5,7 @@ and its exit status follows from that; of a refusal it says on standard error wh
 It needs target/loader/loader (build.sh) and target/oracle/oracle. The last line is `N passed, M failed`.
 """
 
+import os
 import random
 import re
 import shutil
@@ -12,7 +13,7 @@ import signal
 import subprocess
 import sys
 
-from suite import FAILED, HEADER, LOAD, LOADER, REFUSED, ROOT, SANITIZED, SOURCES, TESTS, WALK, Suite, build, framed, library
+from suite import FAILED, HEADER, LOAD, LOADER, REFUSED, ROOT, SANITIZED, SOURCES, TESTS, WALK, Suite, build, framed, library, version
 from pairs import (
     ORACLE, SAMPLE, both_bad, files, listings, of_record, output, recorded, sample_files, samples, told, with_imports,
 )
@@ -71,6 +72,16 @@ def statuses(suite: Suite):
         with open("/dev/full", "w") as full:
             done = subprocess.run([LOADER, *words], stdout=full, stderr=subprocess.DEVNULL)
         suite.equal(f"what can't be printed: {words}", done.returncode, 2)
+        suite.equal(f"what nobody reads: {words}", unread(LOADER, *words), 2)
+
+
+def unread(*words) -> int:
+    """The exit status of a command whose output goes into a pipe that nobody reads."""
+    ours, theirs = os.pipe()
+    os.close(ours)
+    done = subprocess.run([str(word) for word in words], stdout=theirs, stderr=subprocess.DEVNULL)
+    os.close(theirs)
+    return done.returncode
 
 
 def usage(suite: Suite):
@@ -92,8 +103,8 @@ def asked_for_help(suite: Suite):
     suite.equal("--help", (status, help_text.partition(" [")[0], said), (0, "usage: vexil-compat", ""))
     named = "0 Compatible, or listed; 1 Breaking; 3 refused; 2 bad usage, no build, or an answer that could not be printed"
     suite.equal("--help has the statuses", named in help_text, True)
-    version, kit = (re.search(rf'{name} "(.*)"', HEADER.read_text())[1] for name in ("VEXIL_COMPAT_VERSION", "VEXIL_COMPAT_KIT"))
-    suite.equal("--version", told(LOADER, "--version"), (0, f"vexil-compat {version}, proved with {kit}\n", ""))
+    status, printed, said = told(LOADER, "--version")
+    suite.equal("--version", (status, printed.partition(", toolchain ")[0], said), (0, f"vexil-compat {version()}", ""))
 
 
 def refusals(suite: Suite):
@@ -123,8 +134,15 @@ def no_images(suite: Suite):
         suite.refused(f"{why}, old", [path, old], "refused 2 old\n", f"{path}: {why}")
         suite.refused(f"{why}, new", [old, path], "refused 2 new\n", f"{path}: {why}")
         suite.refused(f"{why}, listed", ["--list", path], "refused 2 old\n", f"{path}: {why}")
-    why = "refused 3: format: at byte 0: format 24942 (this is a text; `oracle make TEXT IMAGE` writes the image of one)"
-    suite.refused("a text", [old, text], "refused 3 new\n", f"{text}: {why}")
+    hint = '(this is a text and no image: README, "How to make images")'
+    suite.refused("a text", [old, text], "refused 3 new\n", f"{text}: refused 3: format: at byte 0: format 24942 {hint}")
+    accented = suite.image("accented", "message Tür\n// Größe, Höhe".encode())
+    suite.refused("a text in UTF-8", [accented, old], "refused 3 old\n", f"{accented}: refused 3: format: at byte 0: format 25965 {hint}")
+    erased = suite.image("erased", b"\xff" * 100)
+    suite.refused("what is no text", [erased, old], "refused 3 old\n", f"{erased}: refused 3: format: at byte 0: format 65535")
+    odd = suite.folder / "two words\n'quoted'.img"
+    odd.write_bytes(b"")
+    suite.refused("an odd name", [odd, old], "refused 2 old\n", f"{suite.folder}/two words?'quoted'.img: refused 2: short head: the file is empty")
 
 
 def places(suite: Suite):

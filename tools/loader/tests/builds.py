@@ -15,7 +15,7 @@ import sys
 import time
 from pathlib import Path
 
-from suite import HEADER, HERE, ROOT, Suite
+from suite import HERE, ROOT, Suite, version
 from pairs import SAMPLE, SAMPLE_REPORT, output, sample_files, told
 
 KIT = (ROOT / "KIT-ID").read_text().strip()
@@ -26,17 +26,17 @@ set -eu
 case $1 in
 version) echo "${OTHER_KIT:-@KIT@}" ;;
 staticlib)
-    if ! mkdir busy 2> /dev/null; then echo overlap >> "$CALLS"; fi
-    echo staticlib >> "$CALLS"
     mkdir -p target/log target/staticlib
+    if ! mkdir target/busy 2> /dev/null; then echo overlap >> "$CALLS"; fi
+    echo staticlib >> "$CALLS"
     for crate in below vexil_compat; do
         echo failed > "target/log/$crate.res"
         sleep "${SECONDS_EACH:-0}"
-        if grep -q unprovable "crates/$crate/src/lib.rt"; then rmdir busy; echo "rt: $crate NOT PROVED"; exit 1; fi
+        if grep -q unprovable "crates/$crate/src/lib.rt"; then rmdir target/busy; echo "rt: $crate NOT PROVED"; exit 1; fi
         echo proved > "target/log/$crate.res"
     done
     cp "$LIBRARIES/$(cat crates/below/src/lib.rt).a" target/staticlib/libvexil_compat.a
-    rmdir busy
+    rmdir target/busy
     ;;
 esac
 """
@@ -134,6 +134,21 @@ def stale(suite: Suite, copy: Copy):
     suite.equal("the library rests on one crate more", (copy.asked(), copy.builds()), (first, ["staticlib"]))
     copy.write("crates.txt", "below: beside\nbeside:\nvexil_compat: below beside\n", LONG_AGO)
     suite.equal("a crate rests on another", (copy.asked(), copy.builds()), (first, ["staticlib"]))
+    copy.write("crates.txt", "below : beside # and not\nbeside:\nvexil_compat: below\n", LONG_AGO)
+    suite.equal("and the library on that one alone", (copy.asked(), copy.builds()), (first, ["staticlib"]))
+    copy.write("crates/beside/src/lib.rt", "other", LONG_AGO)
+    suite.equal("a crate below the crate below", (copy.asked(), copy.builds()), (first, ["staticlib"]))
+    copy.write("elsewhere", "linked")
+    (copy.root / "crates/below/specs").mkdir()
+    (copy.root / "crates/below/specs/Linked.antt").symlink_to(copy.root / "elsewhere")
+    suite.equal("a file by a link", (copy.asked(), copy.builds()), (first, ["staticlib"]))
+    copy.write("elsewhere", "linked to another")
+    suite.equal("that has changed", (copy.asked(), copy.builds()), (first, ["staticlib"]))
+    copy.write("crates.txt", "below:\nbeside:\n")
+    status, printed, said = copy.asked()
+    suite.equal("no line of the library", (status, printed, "no line of vexil_compat" in said), (2, "", True))
+    copy.write("crates.txt", "below:\nbeside:\nvexil_compat: below beside\n", LONG_AGO)
+    suite.equal("three crates again", (copy.asked(), copy.builds()), (first, ["staticlib"]))
     for path in ("crates/below/must-fail/1.edit", "docs/NEW.md", "crates/other/src/lib.rt"):
         copy.write(path, "new")
         suite.equal(f"what the library is not made of: {path}", (copy.asked(), copy.builds()), (first, []))
@@ -148,6 +163,45 @@ def stale(suite: Suite, copy: Copy):
     suite.equal("and back", copy.asked(), first)
 
 
+def replaced(suite: Suite, copy: Copy):
+    """A program that something else wrote is not run, and a call on a current build writes nothing."""
+    first, folder = (0, "first\n", ""), copy.root / "target" / "loader"
+    for name in ("words", "loader"):
+        program = folder / name
+        older = program.read_bytes()
+        program.write_bytes(b"")
+        suite.equal(f"{name} is empty", copy.asked(), first)
+        suite.equal(f"{name} is built again", program.stat().st_size == len(older), True)
+        program.write_bytes((folder / ("loader" if name == "words" else "words")).read_bytes())
+        suite.equal(f"{name} is another program", copy.asked(), first)
+
+    def dates():
+        return {path: path.lstat().st_mtime_ns for path in copy.root.rglob("*")}
+
+    before = dates()
+    suite.equal("a current build", copy.asked(), first)
+    suite.equal("is only read", dates() == before, True)
+
+
+def edited(suite: Suite, copy: Copy):
+    """What is edited during a proof does not pass for what was proved, whether the edit is undone afterwards or not."""
+    words = {"stdout": subprocess.PIPE, "stderr": subprocess.PIPE, "text": True, "env": copy.environment(SECONDS_EACH="0.4")}
+    for later in ("first", "second"):
+        copy.write("crates/vexil_compat/src/lib.rt", f"to be {later}")
+        copy.write("crates/below/src/lib.rt", "first")
+        call = subprocess.Popen([copy.root / "vexil-compat"], **words)
+        while not copy.calls.read_text() and call.poll() is None:
+            time.sleep(0.02)
+        copy.write("crates/below/src/lib.rt", "second")
+        printed, said = call.communicate()
+        suite.equal("edited during a proof", (call.returncode, printed, "changed while they were proved" in said), (2, "", True))
+        copy.write("crates/below/src/lib.rt", later)
+        suite.equal(f"and {later} afterwards", copy.asked(), (0, f"{later}\n", ""))
+        copy.builds()
+    copy.write("crates/below/src/lib.rt", "first")
+    suite.equal("first again", (copy.asked(), copy.builds()), ((0, "first\n", ""), ["staticlib"]))
+
+
 def at_once(suite: Suite, copy: Copy):
     """Of two calls on a stale build one builds and both answer; a call that is broken off leaves nothing that a later one takes."""
     copy.write("crates/below/src/lib.rt", "second")
@@ -158,11 +212,11 @@ def at_once(suite: Suite, copy: Copy):
     suite.equal("and build once", copy.builds(), ["staticlib"])
     copy.write("crates/below/src/lib.rt", "first")
     call = subprocess.Popen([copy.root / "vexil-compat"], start_new_session=True, **{**words, "env": copy.environment(SECONDS_EACH="20")})
-    while not copy.calls.read_text():
+    while not copy.calls.read_text() and call.poll() is None:
         time.sleep(0.05)
     os.killpg(call.pid, signal.SIGINT)
     suite.equal("a call that is broken off answers nothing", (call.communicate()[0], call.returncode == 0), ("", False))
-    shutil.rmtree(copy.root / "busy")
+    shutil.rmtree(copy.root / "target/busy", ignore_errors=True)
     copy.builds()
     suite.equal("the next one builds", (copy.asked(), copy.builds()), ((0, "first\n", ""), ["staticlib"]))
 
@@ -238,8 +292,7 @@ def words(suite: Suite, copy: Copy):
         suite.equal(f"usage: {call}", (status, printed, said.partition(" [")[0]), (2, "", "usage: vexil-compat"))
     status, printed, said = copy.asked("--help")
     suite.equal("--help", (status, printed.partition(" [")[0], said), (0, "usage: vexil-compat", ""))
-    version = re.search(r'VEXIL_COMPAT_VERSION "(.*)"', HEADER.read_text())[1]
-    suite.equal("--version", copy.asked("--version"), (0, f"vexil-compat {version}, proved with {KIT}\n", ""))
+    suite.equal("--version", copy.asked("--version"), (0, f"vexil-compat {version()}, toolchain {KIT}\n", ""))
     suite.equal("nothing was built", copy.builds(), [])
 
 
@@ -273,4 +326,4 @@ if __name__ == "__main__":
     def prepare(suite: Suite):
         suite.copy = Copy(suite.folder)
 
-    sys.exit(Suite.run(prepare, *map(in_copy, (stale, at_once, progress, no_build, words)), of_repository))
+    sys.exit(Suite.run(prepare, *map(in_copy, (stale, replaced, edited, at_once, progress, no_build, words)), of_repository))

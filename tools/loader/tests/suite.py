@@ -1,5 +1,6 @@
 """What the tests of the loading tool share."""
 
+import re
 import sys
 from pathlib import Path
 
@@ -13,7 +14,7 @@ TESTS = HERE / "tests"
 LOADER = ROOT / "target" / "loader" / "loader"
 HEADER = ROOT / "include" / "vexil_compat.h"
 WALK = [HERE / f"{name}.c" for name in ("faults", "cursor", "bodies")]
-SOURCES = [HERE / f"{name}.c" for name in ("loader", "options", "files", "refusals")] + WALK
+SOURCES = [HERE / f"{name}.c" for name in ("loader", "options", "status", "files", "refusals")] + WALK
 SANITIZED = ["-g", "-fsanitize=address,undefined", "-fno-sanitize-recover=all"]
 LOAD, DO_NOT_LOAD, FAILED, REFUSED = range(4)
 
@@ -50,6 +51,10 @@ def build(program: Path, *words) -> int:
 def library() -> Path:
     """The archive that the loading tool was built with."""
     return Path((ROOT / "target" / "loader" / "library").read_text().strip()) / "libvexil_compat.a"
+
+
+def version() -> str:
+    return re.search(r'VEXIL_COMPAT_VERSION "(.*)"', HEADER.read_text())[1]
 
 
 def framed(images) -> bytes:
