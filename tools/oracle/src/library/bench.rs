@@ -2,7 +2,8 @@
 //! it, on the same pairs, in markdown tables.
 
 use super::realistic::releases;
-use crate::answer::judge;
+use super::{worst, Calls, IMPORTS, PLAIN};
+use crate::answer::{judge, SELECTORS};
 use crate::answers;
 use crate::commands::Outcome;
 use crate::ir::CompiledSchema;
@@ -27,6 +28,11 @@ const CLASSES: [(&str, usize); 5] = [
 const DECLARATIONS: [usize; 4] = [5, 20, 100, 400];
 const PAIRS_OF_EACH: usize = 12;
 const RUNS: usize = 15;
+/// Of the pairs that take longest.
+const WORST_RUNS: usize = 5;
+const RECORDED_WORST: &str = "2,700 fields in 32,768 bytes, the last differs";
+/// No report of these is longer.
+const REPORT_ROOM: usize = 4 << 20;
 /// A run goes over its pairs until so much time has passed.
 const RUN_NANOSECONDS: f64 = 20e6;
 
@@ -41,7 +47,7 @@ impl Pair {
     /// A pair that gets a verdict, the same from the library as from the Rust.
     fn of(name: String, old: Vec<u8>, new: Vec<u8>) -> Option<Pair> {
         let pair = judge(&old, &new);
-        let found = super::PLAIN.verdict(&old, &new, BUMP);
+        let found = PLAIN.verdict(&old, &new, BUMP);
         assert_eq!(found, pair.answer.select(BUMP), "the bump of {name}");
         let (Ok(older), Ok(newer), 0) = (pair.old, pair.new, pair.answer.number) else {
             return None;
@@ -64,11 +70,24 @@ impl Pair {
 type Side = fn(&Pair);
 
 fn library_verdict(pair: &Pair) {
-    black_box(super::PLAIN.verdict(&pair.old, &pair.new, BUMP));
+    black_box(PLAIN.verdict(&pair.old, &pair.new, BUMP));
 }
 
 fn imports_verdict(pair: &Pair) {
-    black_box(super::IMPORTS.verdict(&pair.old, &pair.new, BUMP));
+    black_box(IMPORTS.verdict(&pair.old, &pair.new, BUMP));
+}
+
+fn values(calls: &Calls, pair: &Pair) {
+    let mut out = [0; SELECTORS as usize];
+    calls.values(&pair.old, &pair.new, &mut out);
+    black_box(out);
+}
+
+fn report(calls: &Calls, pair: &Pair) {
+    let mut out = vec![0; REPORT_ROOM];
+    let length = calls.report(&pair.old, &pair.new, &mut out);
+    assert_ne!(length, 0, "the report of {}", pair.name);
+    black_box(out);
 }
 
 fn check_built(pair: &Pair) {
@@ -92,26 +111,26 @@ fn time(side: Side, pairs: &[&Pair], passes: usize) -> f64 {
 
 /// The median and the best of the runs, for each side. The sides take turns, so
 /// that other work on the machine meets all of them.
-fn measure<const N: usize>(sides: [Side; N], pairs: &[&Pair]) -> [(f64, f64); N] {
+fn measure<const N: usize>(sides: [Side; N], pairs: &[&Pair], count: usize) -> [(f64, f64); N] {
     let passes = sides.map(|side| {
         let pass = time(side, pairs, 1) * pairs.len() as f64;
         (RUN_NANOSECONDS / pass) as usize + 1
     });
     let mut runs = [const { Vec::new() }; N];
-    for _ in 0..RUNS {
+    for _ in 0..count {
         for (side, times) in runs.iter_mut().enumerate() {
             times.push(time(sides[side], pairs, passes[side]));
         }
     }
     runs.map(|mut times| {
         times.sort_by(f64::total_cmp);
-        (times[RUNS / 2], times[0])
+        (times[count / 2], times[0])
     })
 }
 
 /// The rest of a row: how many pairs, the three times and the two ratios.
 fn print_times(pairs: &[&Pair]) {
-    let times = measure([library_verdict, check_built, check_images], pairs);
+    let times = measure([library_verdict, check_built, check_images], pairs, RUNS);
     let shown = times.map(|(median, best)| format!("{median:.0} ({best:.0})"));
     let [verdict, built, images] = times.map(|(median, _)| median);
     println!(
@@ -176,13 +195,38 @@ fn print_imports(pairs: &[Pair]) {
     println!("\n| larger image | pairs | with imports | of 01 | ratio | longest with imports | bytes | with imports | of 01 |");
     println!("|---|---|---|---|---|---|---|---|---|");
     for (name, class) in classes(pairs) {
-        let [imports, plain] = measure(sides, &class).map(|(median, _)| median);
+        let [imports, plain] = measure(sides, &class, RUNS).map(|(median, _)| median);
         let timed = class.iter().map(|pair| (best(sides, pair), pair));
         if let Some(([most, beside], pair)) = timed.max_by(|a, b| a.0[0].total_cmp(&b.0[0])) {
             let (count, ratio) = (class.len(), imports / plain);
             let (longest, bytes) = (&pair.name, pair.larger());
             println!("| {name} | {count} | {imports:.0} | {plain:.0} | {ratio:.2} | {longest} | {bytes} | {most:.0} | {beside:.0} |");
         }
+    }
+}
+
+/// The legal pairs that take longest, a recorded one and those made for it, by each
+/// call that compares.
+fn print_worst(pairs: &[Pair]) {
+    let made = worst::pairs().into_iter();
+    let made = made.filter_map(|(name, old, new)| Pair::of(name, old, new));
+    let made: Vec<Pair> = made.collect();
+    let recorded = pairs.iter().filter(|pair| pair.name == RECORDED_WORST);
+    let sides: [Side; 5] = [
+        |pair| values(&PLAIN, pair),
+        |pair| report(&PLAIN, pair),
+        |pair| values(&IMPORTS, pair),
+        |pair| report(&IMPORTS, pair),
+        check_images,
+    ];
+    println!("\nMilliseconds: the median of {WORST_RUNS} runs, and the best.");
+    println!("\n| longest legal pairs | bytes | values of 01 | report of 01 | values with imports | report with imports | read, build, `check` |");
+    println!("|---|---|---|---|---|---|---|");
+    for pair in recorded.chain(&made) {
+        let times = measure(sides, &[pair], WORST_RUNS);
+        let shown = times.map(|(median, best)| format!("{:.1} ({:.1})", median / 1e6, best / 1e6));
+        let (name, bytes) = (&pair.name, pair.larger());
+        println!("| {name} | {bytes} | {} |", shown.join(" | "));
     }
 }
 
@@ -228,5 +272,6 @@ pub fn run(path: &str) -> Outcome {
     print_classes(&all);
     print_slowest(&all);
     print_imports(&all);
+    print_worst(&all);
     Ok(())
 }

@@ -8,6 +8,8 @@ pub mod hammer;
 mod held;
 #[cfg(vexil)]
 mod realistic;
+#[cfg(vexil)]
+mod worst;
 
 type VerdictCall = unsafe extern "C" fn(*const u8, usize, *const u8, usize, u64) -> u64;
 type ValuesCall = unsafe extern "C" fn(*const u8, usize, *const u8, usize, *mut u64, usize) -> u64;

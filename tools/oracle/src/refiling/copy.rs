@@ -26,7 +26,7 @@ pub fn refiled(rng: &mut Rng, schema: &Schema) -> Schema {
         }
         copy.registry[*place as usize] = Some(declaration);
     }
-    shuffle(rng, &mut copy.declarations);
+    rng.shuffle(&mut copy.declarations);
     for id in &mut copy.declarations {
         filing.follow(rng, id);
     }
@@ -47,7 +47,7 @@ impl Filing {
         let full = schema.registry.iter().flatten().count();
         let entries = (full + empty_entries(rng, schema, full)) as u32;
         let mut ids: Vec<u32> = (0..entries).collect();
-        shuffle(rng, &mut ids);
+        rng.shuffle(&mut ids);
         let empty = ids.split_off(full);
         let mut ids = ids.into_iter();
         let places = schema.registry.iter();
@@ -106,21 +106,14 @@ fn empty_entries(rng: &mut Rng, schema: &Schema, full: usize) -> usize {
 
 fn reorder(rng: &mut Rng, body: &mut Body) {
     match body {
-        Body::Message(_, fields) => shuffle(rng, fields),
-        Body::Enum(_, items) | Body::Flags(items) => shuffle(rng, items),
+        Body::Message(_, fields) => rng.shuffle(fields),
+        Body::Enum(_, items) | Body::Flags(items) => rng.shuffle(items),
         Body::Union(variants) => {
-            shuffle(rng, variants);
+            rng.shuffle(variants);
             for variant in variants {
-                shuffle(rng, &mut variant.fields);
+                rng.shuffle(&mut variant.fields);
             }
         }
         _ => {}
-    }
-}
-
-/// Any order, each as often as another.
-fn shuffle<T>(rng: &mut Rng, list: &mut [T]) {
-    for place in (1..list.len()).rev() {
-        list.swap(place, rng.below(place + 1));
     }
 }
