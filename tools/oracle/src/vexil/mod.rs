@@ -19,11 +19,11 @@ pub mod ast;
 #[rustfmt::skip]
 #[path = "../../../../target/oracle/src/span.rs"]
 pub mod span;
+#[path = "../../../exporter/caller.rs"]
+pub mod caller;
 #[allow(warnings)]
 #[path = "../../stand_ins/canonical.rs"]
 pub mod canonical;
-#[path = "../../../exporter/caller.rs"]
-pub mod caller;
 #[path = "../../../exporter/exporter.rs"]
 pub mod exporter;
 
