@@ -112,6 +112,15 @@ def stack(suite: Suite):
         suite.equal(f"{name}: less than the header says", 0 < used < promised, True)
 
 
+def costs(suite: Suite):
+    """The pairs that the header names with their times stand in the table of docs/BENCHMARKS.md."""
+    text, page = HEADER.read_text(), (ROOT / "docs" / "BENCHMARKS.md").read_text()
+    named = re.findall(r"([\d,]+) fields of", text)
+    suite.equal("the pairs that the header names", named, ["2,700", "1,259", "2,762"])
+    for pair in named:
+        suite.equal(f"{pair} fields have their times", bool(re.search(rf"^\| {pair} fields .*\| \d+\.\d \(", page, re.MULTILINE)), True)
+
+
 def archive(suite: Suite):
     """It has the calls of the header, no heap and no statics."""
     declared = set(re.findall(r"^uint64_t (\w+)\(", HEADER.read_text(), re.MULTILINE))
@@ -124,4 +133,4 @@ def archive(suite: Suite):
 
 
 if __name__ == "__main__":
-    sys.exit(Suite.run(installed, header, stack, archive))
+    sys.exit(Suite.run(installed, header, stack, costs, archive))

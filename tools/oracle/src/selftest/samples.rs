@@ -1,7 +1,7 @@
 //! samples/: every text makes its image, an image without a text is damaged as
 //! the README there says, one that is filed anew has its original's answers,
-//! every image stands in a command of that README, and every command there and
-//! in the README of the repository has its output.
+//! every image stands in a command of that README, every command there and in
+//! the README of the repository has its output, and what is not seen is said.
 
 use super::{read_file, Tests, ROOT};
 use crate::answer::{judge, Verdict};
@@ -38,6 +38,8 @@ pub fn run(tests: &mut Tests) {
     tests.equal("every image stands in a command", used, kept);
     let named = commands(tests, &images, &root);
     tests.holds("10 images or more in README.md", named.len() >= 10);
+    not_seen(tests, &readme);
+    not_seen(tests, &root);
 }
 
 fn page(path: &str) -> String {
@@ -96,6 +98,18 @@ fn damages(images: &Files, name: &str) -> Vec<String> {
             ))
         })
         .collect()
+}
+
+/// What stands before the command of a pair that no verdict tells says so.
+fn not_seen(tests: &mut Tests, readme: &str) {
+    for name in ["unresolved", "twice", "width", "silent"] {
+        let command = format!("$ ./vexil-compat samples/{name}-old.img");
+        let before = readme.split(&command).next().unwrap_or_default();
+        let since = before.rsplit("$ ./vexil-compat").next().unwrap_or_default();
+        let words = since.split_whitespace().collect::<Vec<_>>().join(" ");
+        let said = words.to_lowercase().contains("no command shows it today");
+        tests.holds(&format!("{name} is said not to be seen"), said);
+    }
 }
 
 /// Each command line of a README and the lines printed below it; the images that
