@@ -12,53 +12,63 @@ repo=$(cd "$here/../.." && pwd)
 . "$here/lock.sh"
 out=$repo/target/loader
 
-# What a program is made of, itself included: the files, and how it is compiled.
-made_of() { # PROGRAM WORD..
-    local program=$1
-    shift
+# What a program is compiled of, and how.
+parts_of() { # OPTION FILE..
     printf '%s\n' "$@" | sha256sum
     cat "${@:2}" "$here"/*.h "$repo/include/vexil_compat.h" "$here/build.sh" | sha256sum
-    sha256sum < "$program"
+}
+
+# The same, and the program itself.
+made_of() { # PROGRAM OPTION FILE..
+    parts_of "${@:2}"
+    sha256sum < "$out/$1"
+}
+
+is_current() { # PROGRAM OPTION FILE..
+    [ -x "$out/$1" ] && [ "$(cat "$out/$1.made-of" 2> /dev/null)" = "$(made_of "$@")" ]
 }
 
 # Compiles a program and puts it in its place at once, so that a call beside this one finds a whole program. A build that fails, or during
 # which a file is changed, leaves no older program behind.
 compile() { # PROGRAM OPTION FILE..
-    local program=$out/$1 before after
-    shift
-    if [ -x "$program" ] && [ "$(cat "$program.made-of" 2> /dev/null)" = "$(made_of "$program" "$@")" ]; then
-        return
-    fi
+    local program=$out/$1 before
     if ! command -v gcc > /dev/null; then
         echo 'build.sh: there is no gcc, which compiles the loading tool' >&2
         exit 1
     fi
-    before=$(made_of /dev/null "$@")
-    if ! gcc -std=c11 -Wall -Wextra -Wpedantic -Wconversion -Werror -O2 -I "$repo/include" -o "$program.new" "$@"; then
+    before=$(parts_of "${@:2}")
+    if ! gcc -std=c11 -Wall -Wextra -Wpedantic -Wconversion -Werror -O2 -I "$repo/include" -o "$program.new" "${@:2}"; then
         rm -f "$program.new" "$program" "$program.made-of"
         exit 1
     fi
-    after=$(made_of /dev/null "$@")
-    if [ "$before" != "$after" ]; then
+    if [ "$before" != "$(parts_of "${@:2}")" ]; then
         rm -f "$program.new" "$program" "$program.made-of"
         echo 'build.sh: a file was changed while it was compiled; the next call compiles it anew' >&2
         exit 1
     fi
     rm -f "$program.made-of"
     mv "$program.new" "$program"
-    made_of "$program" "$@" > "$program.made-of"
+    made_of "$@" > "$program.made-of"
     echo "built $program"
 }
 
 mkdir -p "$out"
-take_lock
 if [ "${1-}" = words ]; then
-    compile words -DTOOLCHAIN=VEXIL_COMPAT_KIT "$here"/{words,options,status}.c
+    program=(words -DTOOLCHAIN=VEXIL_COMPAT_KIT "$here"/{words,options,status}.c)
+    # Who asks for help does not wait for a library that another call proves.
+    if ! is_current "${program[@]}"; then
+        take_lock
+        compile "${program[@]}"
+    fi
     exit
 fi
+take_lock
 library=$(bash "$here/library.sh")
 kit=$(sed -n 's/^kit //p' "$library/made-of" 2> /dev/null || true)
-compile loader "-DTOOLCHAIN=\"${kit:-unknown}\"" "$here"/{loader,options,status,files,refusals,faults,cursor,bodies}.c "$library/libvexil_compat.a"
+program=(loader "-DTOOLCHAIN=\"${kit:-unknown}\"" "$here"/{loader,options,status,files,refusals,faults,cursor,bodies}.c "$library/libvexil_compat.a")
+if ! is_current "${program[@]}"; then
+    compile "${program[@]}"
+fi
 if [ "$(cat "$out/library" 2> /dev/null)" != "$library" ]; then
     echo "$library" > "$out/library"
 fi

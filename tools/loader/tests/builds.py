@@ -214,6 +214,8 @@ def at_once(suite: Suite, copy: Copy):
     call = subprocess.Popen([copy.root / "vexil-compat"], start_new_session=True, **{**words, "env": copy.environment(SECONDS_EACH="20")})
     while not copy.calls.read_text() and call.poll() is None:
         time.sleep(0.05)
+    start = time.monotonic()
+    suite.equal("who asks for help does not wait", (copy.asked("--help")[0], time.monotonic() - start < 10), (0, True))
     os.killpg(call.pid, signal.SIGINT)
     suite.equal("a call that is broken off answers nothing", (call.communicate()[0], call.returncode == 0), ("", False))
     shutil.rmtree(copy.root / "target/busy", ignore_errors=True)
