@@ -211,7 +211,9 @@ def at_once(suite: Suite, copy: Copy):
     suite.equal("four at once answer", answers, [("second\n", "", 0)] * 4)
     suite.equal("and build once", copy.builds(), ["staticlib"])
     copy.write("crates/below/src/lib.rt", "first")
-    call = subprocess.Popen([copy.root / "vexil-compat"], start_new_session=True, **{**words, "env": copy.environment(SECONDS_EACH="20")})
+    words = {**words, "env": copy.environment(SECONDS_EACH="20"), "start_new_session": True}
+    # As from a terminal, also if whoever runs the tests ignores the signal.
+    call = subprocess.Popen([copy.root / "vexil-compat"], preexec_fn=lambda: signal.signal(signal.SIGINT, signal.SIG_DFL), **words)
     while not copy.calls.read_text() and call.poll() is None:
         time.sleep(0.05)
     start = time.monotonic()
