@@ -58,7 +58,7 @@ fi
 
 rust=(rustc --edition 2021 -O -D warnings)
 "${rust[@]}" --crate-type rlib --crate-name smol_str --out-dir "$out" "$here/stand_ins/smol_str.rs"
-# The selftest reads the samples and README.md.
+# The selftest reads the samples, README.md and docs/FORMAT.md.
 export VEXIL_COMPAT_ROOT=$repo
 "${rust[@]}" --check-cfg 'cfg(vexil, library)' "${cfg[@]}" "${library[@]}" --crate-name oracle \
   --extern "smol_str=$out/libsmol_str.rlib" -o "$out/$name" "$here/src/main.rs"
