@@ -60,10 +60,10 @@ static int refuse_pair(const struct image *old, const struct image *new, const s
 {
     uint64_t number = values[VEXIL_COMPAT_SELECT_NUMBER], side = values[VEXIL_COMPAT_SELECT_SIDE];
     print_refusal(number, side);
-    if (side == VEXIL_COMPAT_SIDE_BOTH)
+    if (number == VEXIL_COMPAT_REFUSAL_ALIAS_PAIR)
         explain_alias_pair(old, new, calls->number);
     else
-        explain_image(side == VEXIL_COMPAT_SIDE_OLD ? old : new, number);
+        explain_image(side == VEXIL_COMPAT_SIDE_NEW ? new : old, number);
     return REFUSED;
 }
 

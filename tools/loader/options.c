@@ -16,8 +16,8 @@ static const char usage[] =
 
 static const char help[] =
     "\n"
-    "Compares two image files, OLD that runs and NEW that is to be loaded, and prints every change and the verdict, or the refusal of a\n"
-    "faulty image; on standard error then what is wrong with it, and where. A file whose name starts with `-` is given as `./-name`.\n"
+    "Compares two image files, OLD that runs and NEW that is to be loaded, and prints every change and the verdict, or a refusal; on\n"
+    "standard error then what is wrong with which file, and where. A file whose name starts with `-` is given as `./-name`.\n"
     "\n"
     "  --imports   compares what the images import, too\n"
     "  --counts    prints first how many changes there are of each kind\n"
