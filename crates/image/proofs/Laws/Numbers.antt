@@ -12,6 +12,7 @@ use Rattle.image.specs.Parse.{Parsed, ok, bind, pick, littleEndian, byte
 use Rattle.image.specs.Reads.{skip}
 use Rattle.image.specs.declared.Read.{Read}
 use Rattle.image.specs.declared.Read.the-variants.{At, Refused}
+use Rattle.image.proofs.Laws.Answers.{Got}
 use Rattle.image.proofs.Laws.Sure.{sure-at, byte-sure, code-sure, number-sure}
 
 -- a byte past the end, or there
@@ -47,6 +48,9 @@ module _ (lo hi : ℕ) (s : List ℕ) (at : ℕ) where
 pub record There (p : Parsed ℕ) (s : List ℕ) (at n : ℕ) : Type 0 where
   pub inside : at < length s
   pub is : p ≡ ok (getD s at 0) n
+
+pub there-got : {p : Parsed ℕ} {s : List ℕ} {at n : ℕ} → There p s at n → Got p n
+there-got {s = s} {at = at} b = record { value = getD s at 0; is = b .is }
 
 pub byte-there : (short : ℕ) (s : List ℕ) (at : ℕ) {x : Read} {n : ℕ} → x ≡ At n → x ≡ skip (byteAt short s at)
     → There (byteAt short s at) s at n

@@ -9,15 +9,16 @@ use borrow.Author.Tests.{ltb-true, leb-true}
 use lib.ListN.{length, getD, drop, length-drop}
 use lib.Dec.{leb}
 use Rattle.image.specs.Schema.{Label, Ty}
-use Rattle.image.specs.Parse.{Parsed, ok, no, bind, pick, shift, within, part, byteAt, codeAt, littleEndian, numberAt, many}
+use Rattle.image.specs.Parse.{Parsed, ok, no, bind, pick, shift, within, part, byteAt, codeAt, littleEndian, numberAt, many, counted}
 use Rattle.image.specs.Names.{nameBytes, nameAt, namesAt}
-use Rattle.image.specs.Types.{Follows, code, subByte, identity, size, nothing, bits, unknown, followsTag, innerTypes, afterTag, labelOf, innerAt, typeOf}
-use Rattle.image.specs.Fields.{limitAt}
+use Rattle.image.specs.Types.{Follows, code, subByte, identity, size, nothing, bits, unknown, followsTag, innerTypes, afterTag, labelOf}
+use Rattle.image.specs.Types.{innerAt, typeOf, typeAt}
+use Rattle.image.specs.Fields.{marksAt, encodingOf, encodingAt, limitAt, fieldAt, bareAt, variantAt}
 use Rattle.image.specs.Image.{entryCount, idCount, segmentCount, headOf}
 use Rattle.image.specs.Reads.{skip}
 use Rattle.image.specs.declared.Read.{Read}
 use Rattle.image.specs.declared.Read.the-variants.{At}
-use Rattle.image.proofs.Laws.Answers.{apart}
+use Rattle.image.proofs.Laws.Answers.{Got, got}
 
 pub data Sure {A : Type 0} (P : A → ℕ → Type 0) : Parsed A → Type 0 where
   sure-ok : {a : A} {n : ℕ} → P a n → Sure P (ok a n)
@@ -44,13 +45,18 @@ sure-then (sure-ok {a = a} {n = n} q) g = sure-ok (g a n q)
 sure-then sure-no g = sure-no
 
 -- of a value that was read
+pub sure-got : {A : Type 0} {P : A → ℕ → Type 0} {p : Parsed A} {n : ℕ} → Sure P p → (g : Got p n) → P (g .value) n
+sure-got {n = n} (sure-ok {a = a} {n = m} q) g =
+    let d : a ≡ g .value = cc in
+    let e : m ≡ n = cc in
+    rw d at (rw e at q)
+sure-got sure-no g = absurd (let z : _≡_ {A = ℕ} 0 1 = cc in omega arith)
+
 pub sure-at : {A : Type 0} {P : A → ℕ → Type 0} {p : Parsed A} {x : Read} {n : ℕ} → Sure P p → x ≡ At n → x ≡ skip p
     → (a : A) × (p ≡ ok a n) × P a n
-unfolding skip
-sure-at {P = P} {n = n} (sure-ok {a = a} {n = m} q) h e =
-    let d : m ≡ n = cc in
-    (a, ap (ok a) d, rw d at q)
-sure-at sure-no h e = apart (sym h ∙ e)
+sure-at q h e =
+    let g = got h e in
+    (g .value, g .is, sure-got q g)
 
 -- the position is within the list
 abbrev pub In : {A : Type 0} → List ℕ → A → ℕ → Type 0
@@ -188,12 +194,59 @@ type-sure zero s = sure-no
 type-sure (suc d) s =
     sure-bind _ (label-sure s) (λ l n q. inner-sure (typeOf d) (λ t. type-sure d t) (innerTypes (l .tag)) l s n (q .inside))
 
--- a limit ends within the list
+-- codes and numbers, marks, encodings, limits and items end within the list, wherever they start
+pub code-in : (lo hi : ℕ) (s : List ℕ) (at : ℕ) → Sure (In s) (codeAt lo hi s at)
+code-in lo hi s at = sure-then (code-sure lo hi s at) (λ b n q. q .byte .inside)
+
+pub number-in : (w : ℕ) (s : List ℕ) (at : ℕ) → Sure (In s) (numberAt w s at)
+number-in w s at = sure-then (number-sure w s at) (λ v n q. q .inside)
+
+pub marks-sure : (s : List ℕ) (at : ℕ) → Sure (In s) (marksAt s at)
+unfolding marksAt
+marks-sure s at = sure-bind _ (code-in 0 3 s at) (λ b n q. sure-ok q)
+
+deltas-sure : (left : ℕ) (s : List ℕ) (at : ℕ) → Sure (In s) (encodingOf left s at)
+unfolding encodingOf
+deltas-sure zero s at = sure-bind _ (code-in 0 3 s at) (λ b n q. sure-pick _ (λ h. sure-no) (λ h. sure-ok q))
+deltas-sure (suc left) s at =
+    sure-bind _ (code-in 0 3 s at) (λ b n q.
+    sure-pick _ (λ h. sure-bind _ (deltas-sure left s n) (λ e m r. sure-ok r)) (λ h. sure-ok q))
+
+pub encoding-sure : (s : List ℕ) (at : ℕ) → Sure (In s) (encodingAt s at)
+unfolding encodingAt
+encoding-sure s at = deltas-sure 8 s at
+
 pub limit-sure : (s : List ℕ) (at : ℕ) → Sure (In s) (limitAt s at)
 unfolding limitAt
 limit-sure s at =
-    sure-bind _ (code-sure 0 1 s at) (λ b n q.
-    sure-pick _ (λ h. sure-ok (q .byte .inside)) (λ h. sure-bind _ (number-sure 8 s n) (λ v m r. sure-ok (r .inside))))
+    sure-bind _ (code-in 0 1 s at) (λ b n q.
+    sure-pick _ (λ h. sure-ok q) (λ h. sure-bind _ (number-in 8 s n) (λ v m r. sure-ok r)))
+
+pub bare-sure : (s : List ℕ) (at : ℕ) → Sure (In s) (bareAt s at)
+unfolding bareAt
+bare-sure s at = sure-bind _ (number-in 4 s at) (λ o n q. sure-bind _ (name-sure 8 s n) (λ x m r. sure-ok (r .inside)))
+
+pub field-sure : (s : List ℕ) (at : ℕ) → Sure (In s) (fieldAt s at)
+unfolding fieldAt typeAt
+field-sure s at =
+    sure-bind _ (number-in 4 s at) (λ o n₁ _.
+    sure-bind _ (name-sure 8 s n₁) (λ x n₂ _.
+    sure-bind _ (marks-sure s n₂) (λ m n₃ _.
+    sure-bind _ (encoding-sure s n₃) (λ e n₄ _.
+    sure-bind _ (limit-sure s n₄) (λ l n₅ q.
+    sure-bind _ (within-sure (typeOf 32) s n₅ q (type-sure 32 (drop n₅ s))) (λ t n₆ r. sure-ok r))))))
+
+pub counted-sure : {A : Type 0} (p : List ℕ → ℕ → Parsed A) (s : List ℕ) → ((at : ℕ) → Sure (In s) (p s at)) → (at : ℕ)
+    → Sure (In s) (counted p s at)
+unfolding counted
+counted-sure p s q at = sure-bind _ (number-in 2 s at) (λ c n r. many-sure p s (λ at _. q at) c n r)
+
+pub variant-sure : (s : List ℕ) (at : ℕ) → Sure (In s) (variantAt s at)
+unfolding variantAt
+variant-sure s at =
+    sure-bind _ (number-in 4 s at) (λ o n₁ _.
+    sure-bind _ (name-sure 8 s n₁) (λ x n₂ _.
+    sure-bind _ (counted-sure fieldAt s (field-sure s) n₂) (λ fs n₃ r. sure-ok r)))
 
 -- what is known of an image whose head is read
 pub record Head (s : List ℕ) : Type 0 where
