@@ -14,7 +14,7 @@ use Rattle.image.specs.Fields.{marksAt, delta, encodingOf, encodingAt, l
 use Rattle.image.specs.Reads.{skip}
 use Rattle.image.specs.declared.Read.{Read}
 use Rattle.image.specs.declared.Read.the-variants.{At, Refused}
-use Rattle.image.proofs.Laws.Answers.{got, next, stop, skip-ok}
+use Rattle.image.proofs.Laws.Answers.{Got, next, stop, skip-ok}
 use Rattle.image.proofs.Laws.Numbers.{There}
 
 -- an encoding of at most `left` deltas: its byte is refused; it is no delta; a delta too many; a delta and an inner encoding
@@ -48,15 +48,20 @@ module _ (left : ℕ) (s : List ℕ) (at : ℕ) where
         go zero p = absurd (p refl)
         go (suc left) p = simp (sub-one, b .is, d) (sym (skip-ok (encodingOf left s n) delta))
 
--- a limit
-module _ (s : List ℕ) (at : ℕ) {n : ℕ} (b : There (codeAt 0 1 s at) s at n) where
-  pub limit-none : getD s at 0 ≡ 0 → At n ≡ skip (limitAt s at)
-  unfolding limitAt bind skip pick
-  limit-none e = simp (b .is, e)
+-- a limit: its byte is refused; it is 0; it is 1, and a number follows
+module _ (s : List ℕ) (at : ℕ) where
+  pub limit-stop : {x : Read} {k : ℕ} → x ≡ Refused k → x ≡ skip (codeAt 0 1 s at) → x ≡ skip (limitAt s at)
+  unfolding limitAt
+  limit-stop h e = stop _ _ h e
 
-  pub limit-number : (getD s at 0 ≡ 0 → ⊥) → skip (numberAt 8 s n) ≡ skip (limitAt s at)
-  unfolding limitAt bind pick
-  limit-number e = simp (b .is, ne-eqb _ _ e) (sym (skip-ok (numberAt 8 s n) some))
+  module _ {n : ℕ} (b : There (codeAt 0 1 s at) s at n) where
+    pub limit-none : getD s at 0 ≡ 0 → At n ≡ skip (limitAt s at)
+    unfolding limitAt bind skip pick
+    limit-none e = simp (b .is, e)
+
+    pub limit-number : (getD s at 0 ≡ 0 → ⊥) → skip (numberAt 8 s n) ≡ skip (limitAt s at)
+    unfolding limitAt bind pick
+    limit-number e = simp (b .is, ne-eqb _ _ e) (sym (skip-ok (numberAt 8 s n) some))
 
 -- what starts with an ordinal and a name starts with a bare item
 bare-first : {B : Type 0} (s : List ℕ) (at : ℕ) (f : ℕ → Name → ℕ → Parsed B)
@@ -76,52 +81,59 @@ bare-first s at f = go (numberAt 4 s at)
     go (ok o n) = name o (nameAt 8 s n)
     go (no k) = refl
 
-module _ {B : Type 0} (s : List ℕ) (at : ℕ) (f : ℕ → Name → ℕ → Parsed B) {x : Read} where
-  bare-stop : {k : ℕ} → x ≡ Refused k → x ≡ skip (bareAt s at)
+module _ {B : Type 0} (s : List ℕ) (at : ℕ) (f : ℕ → Name → ℕ → Parsed B) where
+  bare-stop : {x : Read} {k : ℕ} → x ≡ Refused k → x ≡ skip (bareAt s at)
       → x ≡ skip (bind (numberAt 4 s at) (λ o n. bind (nameAt 8 s n) (λ x m. f o x m)))
   bare-stop h e = stop (bareAt s at) _ h e ∙ ap skip (bare-first s at f)
 
-  bare-next : {r : Read} {n : ℕ} → x ≡ At n → x ≡ skip (bareAt s at) → ((o : ℕ) (y : Name) → r ≡ skip (f o y n))
+  bare-next : {r : Read} {n : ℕ} → Got (bareAt s at) n → ((o : ℕ) (y : Name) → r ≡ skip (f o y n))
       → r ≡ skip (bind (numberAt 4 s at) (λ o n. bind (nameAt 8 s n) (λ x m. f o x m)))
-  bare-next h e g = next _ (got h e) (λ v. g (v .ordinal) (v .name)) ∙ ap skip (bare-first s at f)
+  bare-next b g = next _ b (λ v. g (v .ordinal) (v .name)) ∙ ap skip (bare-first s at f)
 
--- a variant of a union: its ordinal and name refused, or its fields' answer
-module _ (s : List ℕ) (at : ℕ) {x : Read} where
-  pub variant-stop : {k : ℕ} → x ≡ Refused k → x ≡ skip (bareAt s at) → x ≡ skip (variantAt s at)
+module _ (s : List ℕ) (at : ℕ) where
+  -- a bare item: its ordinal refused, or its name's answer
+  pub ordinal-stop : {x : Read} {k : ℕ} → x ≡ Refused k → x ≡ skip (numberAt 4 s at) → x ≡ skip (bareAt s at)
+  unfolding bareAt
+  ordinal-stop h e = stop _ _ h e
+
+  pub ordinal-name : {r : Read} {n : ℕ} → Got (numberAt 4 s at) n → r ≡ skip (nameAt 8 s n) → r ≡ skip (bareAt s at)
+  unfolding bareAt
+  ordinal-name {n = n} o q = next _ o (λ _. q ∙ sym (skip-ok (nameAt 8 s n) _))
+
+  -- a variant of a union: its ordinal and name refused, or its fields' answer
+  pub variant-stop : {x : Read} {k : ℕ} → x ≡ Refused k → x ≡ skip (bareAt s at) → x ≡ skip (variantAt s at)
   unfolding variantAt
   variant-stop h e = bare-stop s at _ h e
 
-  pub variant-fields : {r : Read} {n : ℕ} → x ≡ At n → x ≡ skip (bareAt s at) → r ≡ skip (counted fieldAt s n) → r ≡ skip (variantAt s at)
+  pub variant-fields : {r : Read} {n : ℕ} → Got (bareAt s at) n → r ≡ skip (counted fieldAt s n) → r ≡ skip (variantAt s at)
   unfolding variantAt
-  variant-fields {n = n} h e q = bare-next s at _ h e (λ o y. q ∙ sym (skip-ok (counted fieldAt s n) _))
+  variant-fields {n = n} b q = bare-next s at _ b (λ o y. q ∙ sym (skip-ok (counted fieldAt s n) _))
 
--- a field: the first part refused, or the one after those that were read, or the type's answer
-module _ (s : List ℕ) (at : ℕ) where
+  -- a field: the first part refused, or the one after those that were read, or the type's answer
   pub field-stop : {x : Read} {k : ℕ} → x ≡ Refused k → x ≡ skip (bareAt s at) → x ≡ skip (fieldAt s at)
   unfolding fieldAt
   field-stop h e = bare-stop s at _ h e
 
-  module _ {x₁ : Read} {n₁ : ℕ} (h₁ : x₁ ≡ At n₁) (e₁ : x₁ ≡ skip (bareAt s at)) where
+  module _ {n₁ : ℕ} (b : Got (bareAt s at) n₁) where
     pub field-marks : {x : Read} {k : ℕ} → x ≡ Refused k → x ≡ skip (marksAt s n₁) → x ≡ skip (fieldAt s at)
     unfolding fieldAt
-    field-marks h e = bare-next s at _ h₁ e₁ (λ _ _. stop _ _ h e)
+    field-marks h e = bare-next s at _ b (λ _ _. stop _ _ h e)
 
-    module _ {x₂ : Read} {n₂ : ℕ} (h₂ : x₂ ≡ At n₂) (e₂ : x₂ ≡ skip (marksAt s n₁)) where
+    module _ {n₂ : ℕ} (m : Got (marksAt s n₁) n₂) where
       pub field-encoding : {x : Read} {k : ℕ} → x ≡ Refused k → x ≡ skip (encodingAt s n₂) → x ≡ skip (fieldAt s at)
       unfolding fieldAt
-      field-encoding h e = bare-next s at _ h₁ e₁ (λ _ _. next _ (got h₂ e₂) (λ _. stop _ _ h e))
+      field-encoding h e = bare-next s at _ b (λ _ _. next _ m (λ _. stop _ _ h e))
 
-      module _ {x₃ : Read} {n₃ : ℕ} (h₃ : x₃ ≡ At n₃) (e₃ : x₃ ≡ skip (encodingAt s n₂)) where
+      module _ {n₃ : ℕ} (e : Got (encodingAt s n₂) n₃) where
         pub field-limit : {x : Read} {k : ℕ} → x ≡ Refused k → x ≡ skip (limitAt s n₃) → x ≡ skip (fieldAt s at)
         unfolding fieldAt
-        field-limit h e = bare-next s at _ h₁ e₁ (λ _ _. next _ (got h₂ e₂) (λ _. next _ (got h₃ e₃) (λ _. stop _ _ h e)))
+        field-limit h q = bare-next s at _ b (λ _ _. next _ m (λ _. next _ e (λ _. stop _ _ h q)))
 
-        module _ {x₄ : Read} {n₄ : ℕ} (h₄ : x₄ ≡ At n₄) (e₄ : x₄ ≡ skip (limitAt s n₃)) where
-          pub field-type : {r : Read} → r ≡ skip (typeAt s n₄) → r ≡ skip (fieldAt s at)
-          unfolding fieldAt
-          field-type q =
-              bare-next s at _ h₁ e₁ (λ _ _.
-              next _ (got h₂ e₂) (λ _.
-              next _ (got h₃ e₃) (λ _.
-              next _ (got h₄ e₄) (λ _.
-              q ∙ sym (skip-ok (typeAt s n₄) _)))))
+        pub field-type : {n₄ : ℕ} → Got (limitAt s n₃) n₄ → {r : Read} → r ≡ skip (typeAt s n₄) → r ≡ skip (fieldAt s at)
+        unfolding fieldAt
+        field-type {n₄} l q =
+            bare-next s at _ b (λ _ _.
+            next _ m (λ _.
+            next _ e (λ _.
+            next _ l (λ _.
+            q ∙ sym (skip-ok (typeAt s n₄) _)))))

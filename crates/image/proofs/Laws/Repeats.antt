@@ -35,7 +35,10 @@ module _ {A : Type 0} (p : List ℕ → ℕ → Parsed A) (c : ℕ) (s : List �
   unfolding many skip
   many-none e = rw e
 
--- a count, and as many
+-- a count, and as many: a loop's answer for those that are `left`, from `next` on, is the answer for all
+abbrev pub Rest : {A : Type 0} → (List ℕ → ℕ → Parsed A) → List ℕ → ℕ → ℕ → ℕ → Type 0
+Rest p s at next left = skip (many p left s next) ≡ skip (counted p s at)
+
 module _ {A : Type 0} (p : List ℕ → ℕ → Parsed A) (s : List ℕ) (at : ℕ) where
   pub counted-stop : {x : Read} {k : ℕ} → x ≡ Refused k → x ≡ skip (numberAt 2 s at) → x ≡ skip (counted p s at)
   unfolding counted

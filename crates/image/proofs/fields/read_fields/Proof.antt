@@ -1,69 +1,160 @@
--- `image::fields::read_fields` meets its contract. The invariant: the answer for all the fields is the answer for those that are left,
--- from the next position on. Assumes nothing.
+-- `image::fields::read_fields` meets its contract, with positions held narrow and wide. The invariant: the answer for all the fields is the
+-- answer for those that are left, from the next position on. Assumes nothing.
 use borrow.Author.Needs.{needs}
-use mathlib.Core.Path.{_≡_, refl, _∙_}
+use borrow.Author.Tests.{leb-true}
+use mathlib.Core.Path.{refl, _∙_}
 use native.Mathlib.Omega.{arith}
-use Rattle.image.specs.Parse.{many, counted}
+use mir.Syntax.{w16}
+use mir.Val.{Fits}
+use denote.Ref.{now}
 use Rattle.image.specs.Fields.{fieldAt}
-use Rattle.image.specs.Reads.{skip}
+use Rattle.image.proofs.Laws.Answers.{got}
+use Rattle.image.proofs.Laws.Sure.{number-in, field-sure}
 use Rattle.image.proofs.Laws.Numbers.{number-within}
-use Rattle.image.proofs.Laws.Repeats.{many-more, many-stop, many-none, counted-stop, counted-as}
+use Rattle.image.proofs.Laws.Repeats.{Rest, many-more, many-stop, many-none, counted-stop, counted-as}
+use Rattle.image.proofs.Laws.Narrow.{Narrow, narrow, narrow-at}
 use Rattle.image.proofs.fields.read_fields.Statement.{statement}
 use Rattle.image.proofs.fields.read_fields.Tie as tie
 
 abbrev Inv-loop : tie.InvT-loop
-Inv-loop s at first next₀ left₀ next left = skip (many fieldAt left s next) ≡ skip (counted fieldAt s at)
+Inv-loop s at at' first field-at₀ left₀ field-at left = Fits w16 field-at × Rest fieldAt s at field-at left
 
 abbrev μ-loop : tie.MeasureT-loop
-μ-loop s at first next₀ left₀ next left = left
+μ-loop s at at' first field-at₀ left₀ field-at left = left
 
-read-number-requires : tie.Need-read-number-requires Inv-loop μ-loop
+abbrev Inv-loop2 : tie.InvT-loop2
+Inv-loop2 s at first next₀ left₀ next left = Rest fieldAt s at next left
+
+abbrev μ-loop2 : tie.MeasureT-loop2
+μ-loop2 s at first next₀ left₀ next left = left
+
+-- narrow
+guard : (c : tie.Then2 Inv-loop μ-loop Inv-loop2 μ-loop2) → let a = c .before .before .before .args in Narrow (now (a .s)) (a .at)
+guard c = record { short = c .before .if1 .taken; inside = leb-true _ _ (c .if2 .taken) }
+
+cast-at : tie.Need-cast-at Inv-loop μ-loop Inv-loop2 μ-loop2
+cast-at c = narrow-at (guard c)
+
+cast-read-number : tie.Need-cast-read-number Inv-loop μ-loop Inv-loop2 μ-loop2
+cast-read-number c = search needs
+
+read-number-requires : tie.Need-read-number-requires Inv-loop μ-loop Inv-loop2 μ-loop2
 read-number-requires c κs = search needs
 
-enum-known-count : tie.Need-enum-known-count Inv-loop μ-loop
+enum-known-count : tie.Need-enum-known-count Inv-loop μ-loop Inv-loop2 μ-loop2
 enum-known-count c = search needs
 
-enum-told : tie.Need-enum-told Inv-loop μ-loop
+enum-told : tie.Need-enum-told Inv-loop μ-loop Inv-loop2 μ-loop2
 enum-told c = search needs
 
-returns : tie.Need-returns Inv-loop μ-loop
+returns : tie.Need-returns Inv-loop μ-loop Inv-loop2 μ-loop2
 returns c = counted-stop fieldAt _ _ (c .enum-told .given .1) (c .before .before .read-number .ensures)
 
-u16-at-requires : tie.Need-u16-at-requires Inv-loop μ-loop
+cast-field-at : tie.Need-cast-field-at Inv-loop μ-loop Inv-loop2 μ-loop2
+cast-field-at c =
+    narrow (guard (c .before .before .before .before)) (number-in 2 _ _)
+    (got (c .before .count .given .1) (c .before .before .before .read-number .ensures))
+
+cast-u16-at : tie.Need-cast-u16-at Inv-loop μ-loop Inv-loop2 μ-loop2
+cast-u16-at c = search needs
+
+u16-at-requires : tie.Need-u16-at-requires Inv-loop μ-loop Inv-loop2 μ-loop2
 u16-at-requires c κs = number-within 2 _ _ (c .before .count .given .1) (c .before .before .before .read-number .ensures)
 
-loop-holds : tie.Need-loop-holds Inv-loop μ-loop
+loop-holds : tie.Need-loop-holds Inv-loop μ-loop Inv-loop2 μ-loop2
 loop-holds c =
-    counted-as fieldAt _ _ (c .before .before .count .given .1) (c .before .before .before .before .read-number .ensures)
-    (c .u16-at .ensures .0) refl
+    let k = c .before in
+    (cast-field-at k, counted-as fieldAt _ _ (k .before .count .given .1) (k .before .before .before .read-number .ensures) (c .u16-at .ensures .0) refl)
 
-read-field-requires : tie.Need-read-field-requires Inv-loop μ-loop
+cast-read-field : tie.Need-cast-read-field Inv-loop μ-loop Inv-loop2 μ-loop2
+cast-read-field c = search needs
+
+read-field-requires : tie.Need-read-field-requires Inv-loop μ-loop Inv-loop2 μ-loop2
 read-field-requires c κs = search needs
 
-enum-known-step : tie.Need-enum-known-step Inv-loop μ-loop
+enum-known-step : tie.Need-enum-known-step Inv-loop μ-loop Inv-loop2 μ-loop2
 enum-known-step c = search needs
 
-enum-told-2 : tie.Need-enum-told-2 Inv-loop μ-loop
+enum-told-2 : tie.Need-enum-told-2 Inv-loop μ-loop Inv-loop2 μ-loop2
 enum-told-2 c = search needs
 
-returns-2 : tie.Need-returns-2 Inv-loop μ-loop
+returns-2 : tie.Need-returns-2 Inv-loop μ-loop Inv-loop2 μ-loop2
 returns-2 c =
-    many-stop fieldAt _ _ _ (c .before .before .before .loop-test .taken) (c .enum-told2 .given .1)
-    (c .before .before .read-field .ensures) ∙ c .before .before .before .before .loop .inv
+    many-stop fieldAt _ _ _ (c .before .before .before .loop-test .taken) (c .enum-told2 .given .1) (c .before .before .read-field .ensures)
+    ∙ c .before .before .before .before .loop .inv .1
 
-sub-left : tie.Need-sub-left Inv-loop μ-loop
+cast-field-at-2 : tie.Need-cast-field-at-2 Inv-loop μ-loop Inv-loop2 μ-loop2
+cast-field-at-2 c =
+    let k = c .before .before .before .before .before .before .before in
+    narrow (guard (k .before .before .before .before)) (field-sure _ _) (got (c .before .step .given .1) (c .before .before .before .read-field .ensures))
+
+sub-left : tie.Need-sub-left Inv-loop μ-loop Inv-loop2 μ-loop2
 sub-left c = omega arith
 
-loop-less : tie.Need-loop-less Inv-loop μ-loop
+loop-less : tie.Need-loop-less Inv-loop μ-loop Inv-loop2 μ-loop2
 loop-less c = omega arith
 
-loop-again : tie.Need-loop-again Inv-loop μ-loop
-loop-again c =
-    many-more fieldAt _ _ _ (c .before .before .before .before .loop-test .taken) (c .before .step .given .1)
-    (c .before .before .before .read-field .ensures) ∙ c .before .before .before .before .before .loop .inv
+loop-again : tie.Need-loop-again Inv-loop μ-loop Inv-loop2 μ-loop2
+loop-again c = (
+  cast-field-at-2 c,
+  many-more fieldAt _ _ _ (c .before .before .before .before .loop-test .taken) (c .before .step .given .1)
+      (c .before .before .before .read-field .ensures) ∙ c .before .before .before .before .before .loop .inv .1,
+)
 
-returns-3 : tie.Need-returns-3 Inv-loop μ-loop
-returns-3 c = many-none fieldAt _ _ _ (omega arith) ∙ c .before .loop .inv
+cast-t20 : tie.Need-cast-t20 Inv-loop μ-loop Inv-loop2 μ-loop2
+cast-t20 c = search needs
+
+returns-3 : tie.Need-returns-3 Inv-loop μ-loop Inv-loop2 μ-loop2
+returns-3 c = many-none fieldAt _ _ _ (omega arith) ∙ c .before .loop .inv .1
+
+-- wide
+read-number-requires-2 : tie.Need-read-number-requires-2 Inv-loop μ-loop Inv-loop2 μ-loop2
+read-number-requires-2 c κs = search needs
+
+enum-known-count-2 : tie.Need-enum-known-count-2 Inv-loop μ-loop Inv-loop2 μ-loop2
+enum-known-count-2 c = search needs
+
+enum-told-3 : tie.Need-enum-told-3 Inv-loop μ-loop Inv-loop2 μ-loop2
+enum-told-3 c = search needs
+
+returns-4 : tie.Need-returns-4 Inv-loop μ-loop Inv-loop2 μ-loop2
+returns-4 c = counted-stop fieldAt _ _ (c .enum-told3 .given .1) (c .before .before .read-number2 .ensures)
+
+u16-at-requires-2 : tie.Need-u16-at-requires-2 Inv-loop μ-loop Inv-loop2 μ-loop2
+u16-at-requires-2 c κs = number-within 2 _ _ (c .before .count2 .given .1) (c .before .before .before .read-number2 .ensures)
+
+loop2-holds : tie.Need-loop2-holds Inv-loop μ-loop Inv-loop2 μ-loop2
+loop2-holds c =
+    let k = c .before in
+    counted-as fieldAt _ _ (k .before .count2 .given .1) (k .before .before .before .read-number2 .ensures) (c .u16-at2 .ensures .0) refl
+
+read-field-requires-2 : tie.Need-read-field-requires-2 Inv-loop μ-loop Inv-loop2 μ-loop2
+read-field-requires-2 c κs = search needs
+
+enum-known-step-2 : tie.Need-enum-known-step-2 Inv-loop μ-loop Inv-loop2 μ-loop2
+enum-known-step-2 c = search needs
+
+enum-told-4 : tie.Need-enum-told-4 Inv-loop μ-loop Inv-loop2 μ-loop2
+enum-told-4 c = search needs
+
+returns-5 : tie.Need-returns-5 Inv-loop μ-loop Inv-loop2 μ-loop2
+returns-5 c =
+    many-stop fieldAt _ _ _ (c .before .before .before .loop2-test .taken) (c .enum-told4 .given .1) (c .before .before .read-field2 .ensures)
+    ∙ c .before .before .before .before .loop2 .inv
+
+sub-left-2 : tie.Need-sub-left-2 Inv-loop μ-loop Inv-loop2 μ-loop2
+sub-left-2 c = omega arith
+
+loop2-less : tie.Need-loop2-less Inv-loop μ-loop Inv-loop2 μ-loop2
+loop2-less c = omega arith
+
+loop2-again : tie.Need-loop2-again Inv-loop μ-loop Inv-loop2 μ-loop2
+loop2-again c =
+    many-more fieldAt _ _ _ (c .before .before .before .before .loop2-test .taken) (c .before .step2 .given .1)
+    (c .before .before .before .read-field2 .ensures) ∙ c .before .before .before .before .before .loop2 .inv
+
+returns-6 : tie.Need-returns-6 Inv-loop μ-loop Inv-loop2 μ-loop2
+returns-6 c = many-none fieldAt _ _ _ (omega arith) ∙ c .before .loop2 .inv
 
 pub read-fields-spec : {M : Type 1} → statement M
 read-fields-spec =
@@ -71,17 +162,40 @@ read-fields-spec =
     (tie.spec
     Inv-loop
     μ-loop
+    Inv-loop2
+    μ-loop2
+    cast-at
+    cast-read-number
     read-number-requires
     enum-known-count
     enum-told
     returns
+    cast-field-at
+    cast-u16-at
     u16-at-requires
     loop-holds
+    cast-read-field
     read-field-requires
     enum-known-step
     enum-told-2
     returns-2
+    cast-field-at-2
     sub-left
     loop-less
     loop-again
-    returns-3)
+    cast-t20
+    returns-3
+    read-number-requires-2
+    enum-known-count-2
+    enum-told-3
+    returns-4
+    u16-at-requires-2
+    loop2-holds
+    read-field-requires-2
+    enum-known-step-2
+    enum-told-4
+    returns-5
+    sub-left-2
+    loop2-less
+    loop2-again
+    returns-6)
