@@ -12,7 +12,7 @@ ghost use Rattle.image.specs.Parse.{counted};
 ghost use Rattle.image.specs.Fields.{marksAt, encodingAt, limitAt, fieldAt, bareAt, variantAt};
 ghost use Rattle.image.specs.Reads.{skip};
 
-// The longest slice of which a u16 carries every position, the end included. Up to here the reads hold positions as u16.
+// The longest slice of which a u16 carries every position, its end included: on such a slice the reads hold positions as u16.
 const NARROW: usize = 65535;
 
 // Bit 0 deprecated, bit 1 non-exhaustive, others 0.
