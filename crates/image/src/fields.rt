@@ -12,7 +12,8 @@ ghost use Rattle.image.specs.Parse.{counted};
 ghost use Rattle.image.specs.Fields.{marksAt, encodingAt, limitAt, fieldAt, bareAt, variantAt};
 ghost use Rattle.image.specs.Reads.{skip};
 
-// The longest slice of which a u16 carries every position, its end included: on such a slice the reads hold positions as u16.
+// The length up to which a u16 carries every position of a slice, its end included. Up to it, from a position within the slice on, the reads
+// hold positions as u16.
 const NARROW: usize = 65535;
 
 // Bit 0 deprecated, bit 1 non-exhaustive, others 0.
@@ -26,25 +27,27 @@ pub fn read_marks(s: &[u8], at: usize) -> Read
 fn read_encoding(s: &[u8], at: usize) -> Read
     ensures { λ r. ⌜ r ≡ skip (encodingAt (now (s .entry)) at) ⌝ }
 {
-    let mut left: usize = 8;
     if s.len() <= NARROW && at <= s.len() {
         let mut next = at as u16;
+        let mut deltas: usize = 8;
         loop {
             let step = read_code(s, next as usize, 0, 3);
             let Read::At(after) = step else {
                 return step;
             };
+            let inner_at = after as u16;
             if s[next as usize] != 3 {
                 return step;
             }
-            if left == 0 {
+            if deltas == 0 {
                 return Read::Refused(DEEP);
             }
-            next = after as u16;
-            left -= 1;
+            next = inner_at;
+            deltas -= 1;
         }
     }
     let mut next = at;
+    let mut left: usize = 8;
     loop {
         let step = read_code(s, next, 0, 3);
         let Read::At(after) = step else {

@@ -236,7 +236,7 @@ field-sure s at =
     sure-bind _ (limit-sure s n₄) (λ l n₅ q.
     sure-bind _ (within-sure (typeOf 32) s n₅ q (type-sure 32 (drop n₅ s))) (λ t n₆ r. sure-ok r))))))
 
-pub counted-sure : {A : Type 0} (p : List ℕ → ℕ → Parsed A) (s : List ℕ) → ((at : ℕ) → Sure (In s) (p s at)) → (at : ℕ)
+counted-sure : {A : Type 0} (p : List ℕ → ℕ → Parsed A) (s : List ℕ) → ((at : ℕ) → Sure (In s) (p s at)) → (at : ℕ)
     → Sure (In s) (counted p s at)
 unfolding counted
 counted-sure p s q at = sure-bind _ (number-in 2 s at) (λ c n r. many-sure p s (λ at _. q at) c n r)

@@ -2,7 +2,6 @@
 -- answer for those that are left, from the next position on. Assumes nothing.
 use borrow.Author.Needs.{needs}
 use borrow.Author.Tests.{leb-true}
-use mathlib.Core.Path.{refl, _∙_}
 use native.Mathlib.Omega.{arith}
 use mir.Syntax.{w16}
 use mir.Val.{Fits}
@@ -11,7 +10,7 @@ use Rattle.image.specs.Fields.{bareAt}
 use Rattle.image.proofs.Laws.Answers.{got}
 use Rattle.image.proofs.Laws.Sure.{number-in, bare-sure}
 use Rattle.image.proofs.Laws.Numbers.{number-within}
-use Rattle.image.proofs.Laws.Repeats.{Rest, many-more, many-stop, many-none, counted-stop, counted-as}
+use Rattle.image.proofs.Laws.Repeats.{counted-stop, Rest, rest-start, rest-more, rest-stop, rest-none}
 use Rattle.image.proofs.Laws.Narrow.{Narrow, narrow, narrow-at}
 use Rattle.image.proofs.fields.read_bares.Statement.{statement}
 use Rattle.image.proofs.fields.read_bares.Tie as tie
@@ -64,7 +63,7 @@ u16-at-requires c κs = number-within 2 _ _ (c .before .count .given .1) (c .bef
 loop-holds : tie.Need-loop-holds Inv-loop μ-loop Inv-loop2 μ-loop2
 loop-holds c =
     let k = c .before in
-    (cast-bare-at k, counted-as bareAt _ _ (k .before .count .given .1) (k .before .before .before .read-number .ensures) (c .u16-at .ensures .0) refl)
+    (cast-bare-at k, rest-start bareAt _ _ (k .before .count .given .1) (k .before .before .before .read-number .ensures) (c .u16-at .ensures .0))
 
 cast-read-bare : tie.Need-cast-read-bare Inv-loop μ-loop Inv-loop2 μ-loop2
 cast-read-bare c = search needs
@@ -80,8 +79,8 @@ enum-told-2 c = search needs
 
 returns-2 : tie.Need-returns-2 Inv-loop μ-loop Inv-loop2 μ-loop2
 returns-2 c =
-    many-stop bareAt _ _ _ (c .before .before .before .loop-test .taken) (c .enum-told2 .given .1) (c .before .before .read-bare .ensures)
-    ∙ c .before .before .before .before .loop .inv .1
+    rest-stop (c .before .before .before .before .loop .inv .1) (c .before .before .before .loop-test .taken) (c .enum-told2 .given .1)
+    (c .before .before .read-bare .ensures)
 
 cast-bare-at-2 : tie.Need-cast-bare-at-2 Inv-loop μ-loop Inv-loop2 μ-loop2
 cast-bare-at-2 c =
@@ -97,15 +96,15 @@ loop-less c = omega arith
 loop-again : tie.Need-loop-again Inv-loop μ-loop Inv-loop2 μ-loop2
 loop-again c = (
   cast-bare-at-2 c,
-  many-more bareAt _ _ _ (c .before .before .before .before .loop-test .taken) (c .before .step .given .1)
-      (c .before .before .before .read-bare .ensures) ∙ c .before .before .before .before .before .loop .inv .1,
+  rest-more (c .before .before .before .before .before .loop .inv .1) (c .before .before .before .before .loop-test .taken) (c .before .step .given .1)
+      (c .before .before .before .read-bare .ensures),
 )
 
 cast-t20 : tie.Need-cast-t20 Inv-loop μ-loop Inv-loop2 μ-loop2
 cast-t20 c = search needs
 
 returns-3 : tie.Need-returns-3 Inv-loop μ-loop Inv-loop2 μ-loop2
-returns-3 c = many-none bareAt _ _ _ (omega arith) ∙ c .before .loop .inv .1
+returns-3 c = rest-none (c .before .loop .inv .1) (omega arith)
 
 -- wide
 read-number-requires-2 : tie.Need-read-number-requires-2 Inv-loop μ-loop Inv-loop2 μ-loop2
@@ -126,7 +125,7 @@ u16-at-requires-2 c κs = number-within 2 _ _ (c .before .count2 .given .1) (c .
 loop2-holds : tie.Need-loop2-holds Inv-loop μ-loop Inv-loop2 μ-loop2
 loop2-holds c =
     let k = c .before in
-    counted-as bareAt _ _ (k .before .count2 .given .1) (k .before .before .before .read-number2 .ensures) (c .u16-at2 .ensures .0) refl
+    rest-start bareAt _ _ (k .before .count2 .given .1) (k .before .before .before .read-number2 .ensures) (c .u16-at2 .ensures .0)
 
 read-bare-requires-2 : tie.Need-read-bare-requires-2 Inv-loop μ-loop Inv-loop2 μ-loop2
 read-bare-requires-2 c κs = search needs
@@ -139,8 +138,8 @@ enum-told-4 c = search needs
 
 returns-5 : tie.Need-returns-5 Inv-loop μ-loop Inv-loop2 μ-loop2
 returns-5 c =
-    many-stop bareAt _ _ _ (c .before .before .before .loop2-test .taken) (c .enum-told4 .given .1) (c .before .before .read-bare2 .ensures)
-    ∙ c .before .before .before .before .loop2 .inv
+    rest-stop (c .before .before .before .before .loop2 .inv) (c .before .before .before .loop2-test .taken) (c .enum-told4 .given .1)
+    (c .before .before .read-bare2 .ensures)
 
 sub-left-2 : tie.Need-sub-left-2 Inv-loop μ-loop Inv-loop2 μ-loop2
 sub-left-2 c = omega arith
@@ -150,11 +149,11 @@ loop2-less c = omega arith
 
 loop2-again : tie.Need-loop2-again Inv-loop μ-loop Inv-loop2 μ-loop2
 loop2-again c =
-    many-more bareAt _ _ _ (c .before .before .before .before .loop2-test .taken) (c .before .step2 .given .1)
-    (c .before .before .before .read-bare2 .ensures) ∙ c .before .before .before .before .before .loop2 .inv
+    rest-more (c .before .before .before .before .before .loop2 .inv) (c .before .before .before .before .loop2-test .taken) (c .before .step2 .given .1)
+    (c .before .before .before .read-bare2 .ensures)
 
 returns-6 : tie.Need-returns-6 Inv-loop μ-loop Inv-loop2 μ-loop2
-returns-6 c = many-none bareAt _ _ _ (omega arith) ∙ c .before .loop2 .inv
+returns-6 c = rest-none (c .before .loop2 .inv) (omega arith)
 
 pub read-bares-spec : {M : Type 1} → statement M
 read-bares-spec =

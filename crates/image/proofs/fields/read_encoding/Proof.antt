@@ -19,20 +19,20 @@ use Rattle.image.proofs.Laws.Narrow.{Narrow, narrow, narrow-at}
 use Rattle.image.proofs.fields.read_encoding.Statement.{statement}
 use Rattle.image.proofs.fields.read_encoding.Tie as tie
 
-abbrev Rest : List ℕ → ℕ → ℕ → ℕ → Type 0
-Rest s at left next = skip (encodingOf left s next) ≡ skip (encodingAt s at)
+abbrev Inner : List ℕ → ℕ → ℕ → ℕ → Type 0
+Inner s at next left = skip (encodingOf left s next) ≡ skip (encodingAt s at)
 
 abbrev Inv-loop : tie.InvT-loop
-Inv-loop s at left₀ next₀ left next = Fits w16 next × Rest s at left next
+Inv-loop s at next₀ deltas₀ next deltas = Fits w16 next × Inner s at next deltas
 
 abbrev μ-loop : tie.MeasureT-loop
-μ-loop s at left₀ next₀ left next = left
+μ-loop s at next₀ deltas₀ next deltas = deltas
 
 abbrev Inv-loop2 : tie.InvT-loop2
-Inv-loop2 s at left₀ next₀ left next = Rest s at left next
+Inv-loop2 s at next₀ left₀ next left = Inner s at next left
 
 abbrev μ-loop2 : tie.MeasureT-loop2
-μ-loop2 s at left₀ next₀ left next = left
+μ-loop2 s at next₀ left₀ next left = left
 
 -- narrow
 guard : (c : tie.Then2 Inv-loop μ-loop Inv-loop2 μ-loop2) → let a = c .before .before .before .args in Narrow (now (a .s)) (a .at)
@@ -67,6 +67,9 @@ byte : (c : tie.After-known-told Inv-loop μ-loop Inv-loop2 μ-loop2) →
     There (codeAt 0 3 s (h .loop .next)) s (h .loop .next) (c .before .step .given .0 .0)
 byte c = code-there 0 3 _ _ (c .before .step .given .1) (c .before .before .before .read-code .ensures)
 
+cast-inner-at : tie.Need-cast-inner-at Inv-loop μ-loop Inv-loop2 μ-loop2
+cast-inner-at c = narrow (guard (c .before .before .before .before .before)) (code-in 0 3 _ _) (there-got (byte c))
+
 cast-if3 : tie.Need-cast-if3 Inv-loop μ-loop Inv-loop2 μ-loop2
 cast-if3 c = search needs
 
@@ -81,13 +84,8 @@ returns-3 c =
     let b = c .before .before .before in
     encoding-ninth _ _ _ (byte b) (c .if4 .taken) (c .before .if3 .left) ∙ b .before .before .before .before .loop .inv .1
 
-cast-next-2 : tie.Need-cast-next-2 Inv-loop μ-loop Inv-loop2 μ-loop2
-cast-next-2 c =
-    let b = c .before .before .before in
-    narrow (guard (b .before .before .before .before .before)) (code-in 0 3 _ _) (there-got (byte b))
-
-sub-left : tie.Need-sub-left Inv-loop μ-loop Inv-loop2 μ-loop2
-sub-left c = omega arith
+sub-deltas : tie.Need-sub-deltas Inv-loop μ-loop Inv-loop2 μ-loop2
+sub-deltas c = omega arith
 
 loop-less : tie.Need-loop-less Inv-loop μ-loop Inv-loop2 μ-loop2
 loop-less c = omega arith
@@ -95,7 +93,7 @@ loop-less c = omega arith
 loop-again : tie.Need-loop-again Inv-loop μ-loop Inv-loop2 μ-loop2
 loop-again c =
     let b = c .before .before .before in
-    (cast-next-2 c, encoding-more _ _ _ (byte b) (c .if4 .left) (c .before .if3 .left) ∙ b .before .before .before .before .loop .inv .1)
+    (cast-inner-at b, encoding-more _ _ _ (byte b) (c .if4 .left) (c .before .if3 .left) ∙ b .before .before .before .before .loop .inv .1)
 
 -- wide
 loop2-holds : tie.Need-loop2-holds Inv-loop μ-loop Inv-loop2 μ-loop2
@@ -131,8 +129,8 @@ returns-6 c =
     let b = c .before .before .before in
     encoding-ninth _ _ _ (byte-2 b) (c .if6 .taken) (c .before .if5 .left) ∙ b .before .before .before .before .loop2 .inv
 
-sub-left-2 : tie.Need-sub-left-2 Inv-loop μ-loop Inv-loop2 μ-loop2
-sub-left-2 c = omega arith
+sub-left : tie.Need-sub-left Inv-loop μ-loop Inv-loop2 μ-loop2
+sub-left c = omega arith
 
 loop2-less : tie.Need-loop2-less Inv-loop μ-loop Inv-loop2 μ-loop2
 loop2-less c = omega arith
@@ -157,12 +155,12 @@ read-encoding-spec =
     enum-known-step
     enum-told
     returns
+    cast-inner-at
     cast-if3
     shared-slice-read-if3
     returns-2
     returns-3
-    cast-next-2
-    sub-left
+    sub-deltas
     loop-less
     loop-again
     loop2-holds
@@ -173,6 +171,6 @@ read-encoding-spec =
     shared-slice-read-if5
     returns-5
     returns-6
-    sub-left-2
+    sub-left
     loop2-less
     loop2-again)
