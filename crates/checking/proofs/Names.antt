@@ -11,7 +11,7 @@ use Rattle.text.specs.declared.Mode.{Mode}
 use Rattle.parts.specs.Promise.{declIn}
 use Rattle.parts.specs.declared.Entry.{Entry}
 use Rattle.parts.specs.declared.Entry.TheVariants.{Body, Unresolvable}
-use Rattle.rules.specs.Survivors.{name_of}
+use Rattle.rules.specs.Survivors.{nameOf}
 use Rattle.rules.specs.Reached.{IdSet}
 use Rattle.rules.specs.Imports.{standingWith}
 use Rattle.rules.specs.Clauses.{compareDecls, declRules}
@@ -22,7 +22,7 @@ use Rattle.survivors.specs.Answers.{Survives, namesCovered}
 use Rattle.survivors.proofs.Declarations.{survives-none, survives-body, survives-here}
 use Rattle.lines.specs.Clauses.{declRemoved, declAdded}
 use Rattle.lines.proofs.Clauses.{Reports, decl-removed, decl-added}
-use Rattle.items.specs.Pairs.{context_of, DeclPair}
+use Rattle.items.specs.Pairs.{contextOf, DeclPair}
 use Rattle.items.specs.Sides.{on, off}
 use Rattle.items.specs.declared.Side.{Side}
 use Rattle.checking.specs.Decls.{standingOff, allOff, lone, unmatchedDecls, unmatchedIn, keptIn, DeclOn}
@@ -45,16 +45,16 @@ module _ (reading : Reading) {old new : List ℕ} {a b : IdSet} {side : Side} {a
     alone = rw (survives-none _ _ k e)
 
     pub removed : side ≡ Side.Old → Reports old new (declRemoved at) true (unmatchedIn reading old new n side at)
-    removed o = rw (alone, o) (decl-removed old new p.searchable.0.accepted p.searchable.1.accepted (context_of reading old new) at (rw o at p.here))
+    removed o = rw (alone, o) (decl-removed old new p.searchable.0.accepted p.searchable.1.accepted (contextOf reading old new) at (rw o at p.here))
 
     pub added : side ≡ Side.New → Reports old new (declAdded at) true (unmatchedIn reading old new n side at)
-    added o = rw (alone, o) (decl-added old new p.searchable.0.accepted p.searchable.1.accepted (context_of reading old new) at (rw o at p.here))
+    added o = rw (alone, o) (decl-added old new p.searchable.0.accepted p.searchable.1.accepted (contextOf reading old new) at (rw o at p.here))
 
 -- each name of what may stand on a side stands on the other
 pub none-unmatched : (reading : Reading) (old new : List ℕ) (a b : IdSet) (side : Side) {t : Bool} → t ≡ allOff old new a b side → t ≡ true
     → unmatchedDecls reading old new a b side ≡ []
 unfolding unmatchedDecls standingWith namesCovered
-none-unmatched reading old new a b side e q = covered_none name_of before (lone reading old new side) (standingOff old new a b side) _ (sym e ∙ q)
+none-unmatched reading old new a b side e q = covered_none nameOf before (lone reading old new side) (standingOff old new a b side) _ (sym e ∙ q)
 
 -- ---- on both, where n stand in the new image
 
@@ -64,17 +64,17 @@ module _ (reading : Reading) {old new : List ℕ} {a b : IdSet} {i : ℕ} (p : D
   new_none e = rw (survives-none new _ k e)
 
   module _ {j : ℕ} (e : q ≡ Body j) where
-    both-kept : keptIn reading old new n i ≡ compareDecls (context_of reading old new) (declIn old i) (declIn new j)
+    both-kept : keptIn reading old new n i ≡ compareDecls (contextOf reading old new) (declIn old i) (declIn new j)
     unfolding keptIn matched declRules
     both-kept = rw (survives-body new _ k e)
 
     module _ {m : Mode} {d : List ℕ} {t : Tally} where
       -- what comparing them asks, and gives
       pub both-asks : Ready m d t (keptIn reading old new n i)
-          → DeclPair old new i j × Ready m d t (compareDecls (context_of reading old new) (declIn old i) (declIn new j))
+          → DeclPair old new i j × Ready m d t (compareDecls (contextOf reading old new) (declIn old i) (declIn new j))
       both-asks w = rw (← both-kept) (record { accepted = (p.searchable.0.accepted, p.searchable.1.accepted); here = (p.here, survives-here new _ k e) }, w)
 
       pub both-ran : {u : Tally} {d' : List ℕ}
-          → Ran m d t (compareDecls (context_of reading old new) (declIn old i) (declIn new j)) u d'
+          → Ran m d t (compareDecls (contextOf reading old new) (declIn old i) (declIn new j)) u d'
           → Ran m d t (keptIn reading old new n i) u d'
       both-ran w = rw both-kept w

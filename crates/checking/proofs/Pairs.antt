@@ -21,7 +21,7 @@ use Rattle.image.specs.Schema.{Name, Decl}
 use Rattle.parts.specs.Promise.{schemaOf, declIn, entryDecl}
 use Rattle.parts.specs.declared.Entry.{Entry}
 use Rattle.parts.specs.declared.Entry.TheVariants.{Body, Unresolvable}
-use Rattle.rules.specs.Survivors.{resolved, listed, name_of}
+use Rattle.rules.specs.Survivors.{resolved, listed, nameOf}
 use Rattle.rules.specs.Reached.{IdSet}
 use Rattle.rules.specs.Imports.{markedIds, standingWith, viewWith}
 use Rattle.rules.specs.Verdict.{alias, isAlias, any, aliasPair}
@@ -46,7 +46,7 @@ module _ (s : List ℕ) {r : Entry} where
 -- ---- one name
 
 module _ (old new : List ℕ) (a b : IdSet) {name : Name} {r : Entry} (h : Survives (standing old new a b Side.Old) old name r) {t : Bool} (p : t ≡ isAlias (entryDecl old r)) where
-  first : t ≡ isAlias (lookup name_of before name (standing old new a b Side.Old))
+  first : t ≡ isAlias (lookup nameOf before name (standing old new a b Side.Old))
   first = p ∙ ap isAlias h.value
 
   pub old-other : t ≡ false → false ≡ aliasesAt old new a b name
@@ -101,46 +101,46 @@ false-together false v f g = sym (f refl)
 
 module _ (l n : List Decl) where
   abbrev stand : List Decl
-  stand = survivors name_of before l
+  stand = survivors nameOf before l
 
   abbrev paired : Decl → Bool
-  paired d = alias d && isAlias (lookup name_of before d.name n)
+  paired d = alias d && isAlias (lookup nameOf before d.name n)
 
   abbrev told : Decl → Bool
-  told d = alias d && (isAlias (lookup name_of before d.name stand) && isAlias (lookup name_of before d.name n))
+  told d = alias d && (isAlias (lookup nameOf before d.name stand) && isAlias (lookup nameOf before d.name n))
 
-  own : (d : Decl) → lookup name_of before d.name stand ≡ some d → told d ≡ false → paired d ≡ false
+  own : (d : Decl) → lookup nameOf before d.name stand ≡ some d → told d ≡ false → paired d ≡ false
   unfolding isAlias
-  own d e q = go (alias d) (isAlias (lookup name_of before d.name n)) (rw e at q)
+  own d e q = go (alias d) (isAlias (lookup nameOf before d.name n)) (rw e at q)
     where
       go : (u v : Bool) → (u && (u && v)) ≡ false → (u && v) ≡ false
       go true v p = p
       go false v p = refl
 
-  owns : (k : List Decl) → All (λ d. lookup name_of before d.name stand ≡ some d) k → All (λ d. told d ≡ false) k → All (λ d. paired d ≡ false) k
+  owns : (k : List Decl) → All (λ d. lookup nameOf before d.name stand ≡ some d) k → All (λ d. told d ≡ false) k → All (λ d. paired d ≡ false) k
   unfolding All
   owns [] f h = tt
   owns (d ∷ k) f h = (own d f.0 h.0, owns k f.1 h.1)
 
   listed-told : All (λ d. paired d ≡ false) stand → (d : Decl) → told d ≡ false
   unfolding isAlias alias
-  listed-told h d = go (lookup name_of before d.name stand) refl
+  listed-told h d = go (lookup nameOf before d.name stand) refl
     where
       and-false : (u : Bool) → (u && false) ≡ false
       and-false true = refl
       and-false false = refl
 
-      go : (o : Option Decl) → lookup name_of before d.name stand ≡ o → (alias d && (isAlias o && isAlias (lookup name_of before d.name n))) ≡ false
+      go : (o : Option Decl) → lookup nameOf before d.name stand ≡ o → (alias d && (isAlias o && isAlias (lookup nameOf before d.name n))) ≡ false
       go none p = and-false (alias d)
       go (some f) p =
-          let e : f.name ≡ d.name = lookup_key name_of byName d.name stand f p in
-          rw (rw e at (all_lookup name_of before (λ g. paired g ≡ false) d.name stand f h p)) (and-false (alias d))
+          let e : f.name ≡ d.name = lookup_key nameOf byName d.name stand f p in
+          rw (rw e at (all_lookup nameOf before (λ g. paired g ≡ false) d.name stand f h p)) (and-false (alias d))
 
   pub any_told : any told l ≡ any paired stand
   any_told =
       false-together _ _
       (λ e. none_any paired stand
-      (owns stand (lookup-own name_of byName stand (rising name_of byName l)) (all-survivors name_of before (λ d. told d ≡ false) l (any_none told l e))))
+      (owns stand (lookup-own nameOf byName stand (rising nameOf byName l)) (all-survivors nameOf before (λ d. told d ≡ false) l (any_none told l e))))
       (λ e. none_any told l (all (listed-told (any_none paired stand e)) l))
 
 -- ---- the entries of the old image that may stand, from a position on

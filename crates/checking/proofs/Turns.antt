@@ -14,7 +14,7 @@ use Rattle.text.proofs.Pieces.{together}
 use Rattle.parts.specs.Promise.{declIn, EntryHere}
 use Rattle.parts.specs.declared.Entry.{Entry}
 use Rattle.parts.specs.declared.Entry.TheVariants.{Body, Unresolvable}
-use Rattle.rules.specs.Survivors.{name_of}
+use Rattle.rules.specs.Survivors.{nameOf}
 use Rattle.rules.specs.Changes.{Change}
 use Rattle.tally.specs.Reporting.{Ready, Ran}
 use Rattle.tally.specs.declared.Tally.{Tally}
@@ -27,24 +27,24 @@ use Rattle.survivors.proofs.Walks.{restDecls, decls-start, decls-done, decls-tur
 pub record Walked (g : Option Decl → Option Decl → List Change) (m : List Decl) (s : List ℕ) (n : List Decl) (mode : Mode) (d : List ℕ) (t : Tally)
     (after : Entry) (t' : Tally) (d' : List ℕ) : Type 0 where
   pub here : EntryHere s after
-  pub owed : Owed mode d t (between name_of before g m n) t' d' (restDecls g m s n after ∷ [])
+  pub owed : Owed mode d t (between nameOf before g m n) t' d' (restDecls g m s n after ∷ [])
 
 module _ {g : Option Decl → Option Decl → List Change} {m : List Decl} {s : List ℕ} {n : List Decl} {mode : Mode} {d : List ℕ} {t : Tally} where
-  pub walk_start : Ready mode d t (between name_of before g m n) → Walked g m s n mode d t Unresolvable t d
+  pub walk_start : Ready mode d t (between nameOf before g m n) → Walked g m s n mode d t Unresolvable t d
   unfolding EntryHere together
   walk_start a = record { here = tt; owed = owed_start (sym (decls-start g m s n)) a }
 
   module _ {after : Entry} {t' : Tally} {d' : List ℕ} (w : Walked g m s n mode d t after t' d') {r : Entry} (f : Follows m s after r) where
-    pub walk-done : r ≡ Unresolvable → Ran mode d t (between name_of before g m n) t' d'
+    pub walk-done : r ≡ Unresolvable → Ran mode d t (between nameOf before g m n) t' d'
     unfolding together
     walk-done e = owed-end (owed-cut (decls-done g m s n after f e) w.owed)
 
-    module _ (R : Rising name_of before m) {at : ℕ} (e : r ≡ Body at) where
+    module _ (R : Rising nameOf before m) {at : ℕ} (e : r ≡ Body at) where
       -- what is reported of the declaration that is met
       abbrev met : List Change
-      met = g (some (declIn s at)) (lookup name_of before (declIn s at).name n)
+      met = g (some (declIn s at)) (lookup nameOf before (declIn s at).name n)
 
-      turn : Owed mode d t (between name_of before g m n) t' d' (met ∷ restDecls g m s n (Body at) ∷ [])
+      turn : Owed mode d t (between nameOf before g m n) t' d' (met ∷ restDecls g m s n (Body at) ∷ [])
       unfolding together
       turn = owed-cut (decls-turn g m s n after f R e) w.owed
 

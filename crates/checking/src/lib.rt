@@ -1,5 +1,7 @@
 // All clauses over two accepted images, in the order of the report; and refusal 11. With each image goes a set of its ids that may
 // stand besides the listed ones: none for the verdict of document 01, the reached ones for that with imports.
+#![tactic(auto)]
+
 pub mod aliases;
 mod decls;
 mod sides;

@@ -5,7 +5,7 @@ use Rattle.maps.specs.Walk.{Rising}
 use Rattle.image.specs.Schema.{Ty, Schema}
 use Rattle.refusals.proofs.Refusals.{only-ten, exactly-if}
 use Rattle.written.proofs.Accepted.{accepted-exactly}
-use Rattle.rules.specs.Survivors.{name_of, View, view_of}
+use Rattle.rules.specs.Survivors.{nameOf, View, viewOf}
 use Rattle.rules.specs.Types.{sameType}
 use Rattle.rules.specs.Clauses.{clausesBy}
 use Rattle.rules.specs.Answer.{usual}
@@ -34,7 +34,7 @@ use Rattle.claims.specs.Claims.{RefusingTwo, ComparingTwo, Refusing, Comparing, 
 
 -- ---- of two images, over any rising view, however types are read
 
-module _ (view : Schema → View) (rise : (s : Schema) → Rising name_of before (view s).standing) (same : Ty → Ty → Bool) where
+module _ (view : Schema → View) (rise : (s : Schema) → Rising nameOf before (view s).standing) (same : Ty → Ty → Bool) where
   refusing-two : Bounded (usual view (clausesBy same)) → RefusingTwo view same
   refusing-two bounded = record {
     stages = policy-refusals (usual view (clausesBy same)) (usual-numbered view (clausesBy same));
@@ -59,12 +59,12 @@ refusing = record {
   accepted = accepted-exactly;
   ten = only-ten;
   five = exactly-if;
-  two = refusing-two view_of view-rises sameType plain-bounded;
+  two = refusing-two viewOf view-rises sameType plain-bounded;
   listing = listing-refusals;
 }
 
 comparing : Comparing
-comparing = record { two = comparing-two view_of view-rises sameType; edges = edges; pinned = pinned }
+comparing = record { two = comparing-two viewOf view-rises sameType; edges = edges; pinned = pinned }
 
 importing : Importing
 importing = record {
@@ -80,8 +80,8 @@ importing = record {
 mending : Mending
 mending = record {
   answers = three-answers;
-  refusing = refusing-two view_of view-rises mendedType mended-bounded;
-  comparing = comparing-two view_of view-rises mendedType;
+  refusing = refusing-two viewOf view-rises mendedType mended-bounded;
+  comparing = comparing-two viewOf view-rises mendedType;
   otherwise = otherwise;
   distance = mended-distance-rule;
   edges = mended-edges;

@@ -14,8 +14,8 @@ use Rattle.image.specs.Image.{readImage}
 use Rattle.refusals.specs.Refusals.{ExactlyIf}
 use Rattle.written.specs.Limits.{Each, Byte, Within}
 use Rattle.written.specs.Writer.{write}
-use Rattle.rules.specs.Survivors.{View, view_of}
-use Rattle.rules.specs.Changes.{kind_at, FieldOrdinalChanged, VariantOrdinalChanged, FlagsBitOrdinalChanged}
+use Rattle.rules.specs.Survivors.{View, viewOf}
+use Rattle.rules.specs.Changes.{kindAt, FieldOrdinalChanged, VariantOrdinalChanged, FlagsBitOrdinalChanged}
 use Rattle.rules.specs.Types.{sameType}
 use Rattle.rules.specs.Clauses.{clausesBy, changes}
 use Rattle.rules.specs.Answer.{Policy, compared, outcome, verdictBy, returnedBy, leavesBy, usual}
@@ -33,7 +33,7 @@ use Rattle.rules.specs.PinnedMended.{PinnedMended}
 use Rattle.listing.specs.Refusals.{ListingRefusals}
 use Rattle.refiling.specs.Refiling.{Refilings, FilingOrder}
 
--- ---- of a verdict on two images by the clauses of 01, over what stands, `view_of` the survivors, `importsView` also what is reached; and by
+-- ---- of a verdict on two images by the clauses of 01, over what stands, `viewOf` the survivors, `importsView` also what is reached; and by
 -- how types are read, `sameType` as 01 says, `mendedType` mended
 
 module _ (view : Schema → View) (same : Ty → Ty → Bool) where
@@ -56,7 +56,7 @@ module _ (view : Schema → View) (same : Ty → Ty → Bool) where
         → outcome policy old new ≡ compared (changes (clausesBy same) (view a.oldSchema) (view a.newSchema))
     -- "The three `..OrdinalChanged` counts are 0."
     pub ordinals : (old new : Image)
-        → All (λ kind. countBetween (verdictBy policy) kind old new ≡ 0) ((kind_at FieldOrdinalChanged) ∷ kind_at VariantOrdinalChanged ∷ kind_at FlagsBitOrdinalChanged ∷ [])
+        → All (λ kind. countBetween (verdictBy policy) kind old new ≡ 0) ((kindAt FieldOrdinalChanged) ∷ kindAt VariantOrdinalChanged ∷ kindAt FlagsBitOrdinalChanged ∷ [])
     -- who asks for the length first has room enough; the text is one and the same in every buffer that holds it; the bytes past it stay
     pub roomEnough : (old new out : Image) → verdictBy policy old new 4 ≤ length out → returnedBy policy old new out ≡ verdictBy policy old new 4
     pub sameText : (old new out out' : Image) → verdictBy policy old new 4 ≤ length out → verdictBy policy old new 4 ≤ length out'
@@ -76,13 +76,13 @@ pub record Refusing : Type 0 where
   pub accepted : (s : Image) → Each Byte s → (x : Schema) (n : ℕ) → (readImage s ≡ ok x n) ↔ (Within x × (s ≡ write x) × (n ≡ length s))
   pub ten : (s : Image) (k : ℕ) → readImage s ≡ no k → (1 ≤ k) × (k ≤ 10)
   pub five : (s : Image) → ExactlyIf s
-  pub two : RefusingTwo view_of sameType
+  pub two : RefusingTwo viewOf sameType
   -- and of the listing of one
   pub listing : (image : Image) (room : ℕ) → ListingRefusals image room
 
 -- Demand 2: "For every pair of images that 01 accepts, the changes, result and bump .. are proved equal to the clauses as 01 writes them."
 pub record Comparing : Type 0 where
-  pub two : ComparingTwo view_of sameType
+  pub two : ComparingTwo viewOf sameType
   -- the edges of 01, and what the Rust answered on whole pairs, by computation
   pub edges : Edges
   pub pinned : Pinned
@@ -109,8 +109,8 @@ pub record Mending : Type 0 where
   pub answers : (t u : Ty) → ThreeAnswers t u
   -- "A mended verdict, otherwise by the clauses of 01 and with its own report, reads it as equal": the demands hold of it, and where one
   -- image has no vector, quaternion or matrix in a compared type, it is that of 01
-  pub refusing : RefusingTwo view_of mendedType
-  pub comparing : ComparingTwo view_of mendedType
+  pub refusing : RefusingTwo viewOf mendedType
+  pub comparing : ComparingTwo viewOf mendedType
   pub otherwise : Otherwise
   -- "there every image that gets a verdict against itself is at distance 0 from itself. The chain rule covers the mended verdict as well.";
   -- and the swap of counts
@@ -122,7 +122,7 @@ pub record Mending : Type 0 where
 pub record Claims : Type 0 where
   pub refusing : Refusing
   pub comparing : Comparing
-  pub distance : Distances view_of
+  pub distance : Distances viewOf
   pub importing : Importing
   pub mending : Mending
   -- R-13: filing order must not matter; and filing anew is an equivalence

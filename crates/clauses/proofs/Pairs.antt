@@ -8,26 +8,26 @@ use lib.Dec.{eqb, ltb}
 use Rattle.image.specs.Words.{bytes}
 use Rattle.text.proofs.Pieces.{together}
 use Rattle.maps.specs.Compare.{compare}
-use Rattle.parts.specs.Promise.{TypeHere, ItemOf, ItemHere, itemName, fieldIn, variantIn, variantItems, typePlace, declIn, items_in, innerPlace}
+use Rattle.parts.specs.Promise.{TypeHere, ItemOf, ItemHere, itemName, fieldIn, variantIn, variantItems, typePlace, declIn, itemsIn, innerPlace}
 use Rattle.parts.specs.declared.Shape.{Shape}
 use Rattle.parts.specs.declared.Run.{Run}
 use Rattle.parts.proofs.Promise.{item-bare, field-type-here, inner-here, message-listed, enum-listed, flags-listed, union-listed, variant-listed}
 use Rattle.rules.specs.Equal.{sameOption, sameName}
 use Rattle.rules.specs.Survivors.{variantOrdinal, variantMap}
 use Rattle.rules.specs.Changes.{Change, quoted}
-use Rattle.rules.specs.Clauses.{compareTypes, fieldText, compareFieldNames, sameEncoding, compareEncodings, compareDeprecated, compareFields, fieldRules, compareFieldSets, compareMessages, enumRules, compareNonExhaustive, compareEnums, flagsRules, compare_flags, unionRules, compareUnions, compareNewtypes}
-use Rattle.types.specs.Readings.{reading_of}
+use Rattle.rules.specs.Clauses.{compareTypes, fieldText, compareFieldNames, sameEncoding, compareEncodings, compareDeprecated, compareFields, fieldRules, compareFieldSets, compareMessages, enumRules, compareNonExhaustive, compareEnums, flagsRules, compareFlags, unionRules, compareUnions, compareNewtypes}
+use Rattle.types.specs.Readings.{readingOf}
 use Rattle.types.proofs.Besides.{none_after}
 use Rattle.types.specs.declared.Reading.{Reading}
-use Rattle.survivors.specs.Runs.{itemIn, itemOrdinal, itemMap, items_of, Holds}
+use Rattle.survivors.specs.Runs.{itemIn, itemOrdinal, itemMap, itemsOf, Holds}
 use Rattle.survivors.specs.declared.Found.{Found}
 use Rattle.survivors.specs.declared.Found.TheVariants.{At}
 use Rattle.details.specs.Details.{declarationOf, ScopeHere}
 use Rattle.lines.specs.Clauses.{fieldRenamed, fieldTypeChanged, fieldEncodingChanged, fieldDeprecated, declDeprecated, nonExhaustiveChanged, newtypeChanged}
 use Rattle.details.specs.declared.Scope.{Scope}
 use Rattle.lines.proofs.Clauses.{Reports, field-renamed, field-type-changed, field-encoding-changed, field-deprecated, decl-deprecated, non-exhaustive-changed, newtype-changed}
-use Rattle.items.specs.Pairs.{context_of, BothAccepted, DeclPair, KindPair, ofPair, typesDiffer, FieldPair}
-use Rattle.items.specs.Items.{OwnerHere, ItemsIn, ItemIn, FoundOff, fieldItems, unionItems, shape, rules, keptItems, kept_at, itemChanges}
+use Rattle.items.specs.Pairs.{contextOf, BothAccepted, DeclPair, KindPair, ofPair, typesDiffer, FieldPair}
+use Rattle.items.specs.Items.{OwnerHere, ItemsIn, ItemIn, FoundOff, fieldItems, unionItems, shape, rules, keptItems, keptAt, itemChanges}
 use Rattle.items.specs.declared.Side.{Side}
 use Rattle.items.specs.declared.Owner.{Owner}
 use Rattle.items.specs.declared.Items.{Items}
@@ -40,14 +40,14 @@ module _ (reading : Reading) (old new : List ℕ) (c : Scope) (i j : ℕ) where
   abbrev pub fieldParts : List (List Change)
   fieldParts =
       compareFieldNames (declarationOf old new c) (fieldIn old i) (fieldIn new j)
-      ∷ compareTypes (context_of reading old new) (declarationOf old new c) (some (fieldIn new j).name) (fieldText (fieldIn new j))
+      ∷ compareTypes (contextOf reading old new) (declarationOf old new c) (some (fieldIn new j).name) (fieldText (fieldIn new j))
       (fieldIn old i).type (fieldIn new j).type
       ∷ compareEncodings (declarationOf old new c) (fieldIn old i) (fieldIn new j)
       ∷ compareDeprecated (declarationOf old new c) (some (fieldIn new j).name) (bytes "field " ++ quoted (fieldIn new j).name)
       (fieldIn old i).marks (fieldIn new j).marks
       ∷ []
 
-  pub field-parts : compareFields (context_of reading old new) (declarationOf old new c) (fieldIn old i) (fieldIn new j) ≡ together fieldParts
+  pub field-parts : compareFields (contextOf reading old new) (declarationOf old new c) (fieldIn old i) (fieldIn new j) ≡ together fieldParts
   unfolding compareFields together
   field-parts = refl
 
@@ -62,9 +62,9 @@ module _ {old new : List ℕ} {c : Scope} {i j : ℕ} (p : FieldPair old new c i
 
   pub type-changed : (reading : Reading) → Reports old new (fieldTypeChanged c j (typePlace old i) (typePlace new j))
       (typesDiffer reading old new (typePlace old i) (typePlace new j))
-      (compareTypes (context_of reading old new) (declarationOf old new c) (some (fieldIn new j).name) (fieldText (fieldIn new j))
+      (compareTypes (contextOf reading old new) (declarationOf old new c) (some (fieldIn new j).name) (fieldText (fieldIn new j))
       (fieldIn old i).type (fieldIn new j).type)
-  type-changed reading = field-type-changed old new p.accepted.0 p.accepted.1 c p.scope i j p.here.0 p.here.1 (reading_of reading)
+  type-changed reading = field-type-changed old new p.accepted.0 p.accepted.1 c p.scope i j p.here.0 p.here.1 (readingOf reading)
 
   pub encoding-changed : Reports old new (fieldEncodingChanged c i j)
       (not (sameEncoding (fieldIn old i).encoding (fieldIn new j).encoding && sameOption eqb (fieldIn old i).limit (fieldIn new j).limit))
@@ -89,7 +89,7 @@ pub record Over (reading : Reading) (old new : List ℕ) (x : Items) (cs : List 
 over : {reading : Reading} {old new : List ℕ} (x : Items) {xs ys : List (ItemOf (shape old new x))}
     → BothAccepted old new → OwnerHere old new x.of → Holds (shape old new x) old x.old xs → Holds (shape old new x) new x.new ys
     → Over reading old new x (compare (itemOrdinal (shape old new x)) ltb (rules reading old new x) (itemMap (shape old new x) xs) (itemMap (shape old new x) ys))
-unfolding itemChanges items_of
+unfolding itemChanges itemsOf
 over x b o h k = record {
   inside = record { accepted = b; owner = o; here = (h.here, k.here) };
   are = rw (h.are, k.are);
@@ -100,7 +100,7 @@ over x b o h k = record {
 pub record Kept (reading : Reading) (old new : List ℕ) (x : Items) (k i j : ℕ) : Type 0 where
   pub inside : ItemsIn old new x
   pub here : ItemHere (shape old new x) old i × ItemHere (shape old new x) new j
-  pub are : kept_at reading old new x k i ≡ (rules reading old new x).kept (itemIn (shape old new x) old i) (itemIn (shape old new x) new j)
+  pub are : keptAt reading old new x k i ≡ (rules reading old new x).kept (itemIn (shape old new x) old i) (itemIn (shape old new x) new j)
 
 pub both-stand : {reading : Reading} {old new : List ℕ} {x : Items} {k i j : ℕ} {o : Found} → ItemIn old new x Side.Old i → FoundOff old new x Side.Old k o → o ≡ At j
     → Kept reading old new x k i j
@@ -116,12 +116,12 @@ module _ {reading : Reading} {old new : List ℕ} {a b : Run} {k i j : ℕ} wher
     unfolding OwnerHere
     field-pair = record { accepted = p.inside.accepted; scope = p.inside.owner; here = p.here }
 
-    pub field-kept : kept_at reading old new (fieldItems c a b) k i ≡ compareFields (context_of reading old new) (declarationOf old new c) (fieldIn old i) (fieldIn new j)
+    pub field-kept : keptAt reading old new (fieldItems c a b) k i ≡ compareFields (contextOf reading old new) (declarationOf old new c) (fieldIn old i) (fieldIn new j)
     unfolding fieldRules
     field-kept = p.are
 
   pub variant-kept : {d : ℕ} {m n : Run} → Kept reading old new (unionItems d a b) k i j → m ≡ variantItems old i → n ≡ variantItems new j
-      → Over reading old new (fieldItems (Scope.Variant d i) m n) (kept_at reading old new (unionItems d a b) k i)
+      → Over reading old new (fieldItems (Scope.Variant d i) m n) (keptAt reading old new (unionItems d a b) k i)
   unfolding OwnerHere ScopeHere declarationOf compareFieldSets unionRules
   variant-kept {d} {m} {n} p q r =
       let w = over (fieldItems (Scope.Variant d i) m n) {xs = (variantIn old i).fields} {ys = (variantIn new j).fields}
@@ -147,7 +147,7 @@ module _ {old new : List ℕ} {i j : ℕ} (p : KindPair 4 old new i j) where
       (typesDiffer reading old new (innerPlace old i) (innerPlace new j))
       (ofPair compareNewtypes reading old new i j)
   inner-changed reading =
-      newtype-changed old new p.pair.accepted.0 p.pair.accepted.1 i j p.pair.here.0 p.pair.here.1 p.kinds.0 p.kinds.1 (reading_of reading)
+      newtype-changed old new p.pair.accepted.0 p.pair.accepted.1 i j p.pair.here.0 p.pair.here.1 p.kinds.0 p.kinds.1 (readingOf reading)
 
   pub inners-here : TypeHere 32 old (innerPlace old i) × TypeHere 32 new (innerPlace new j)
   inners-here = (inner-here old i p.pair.here.0 p.kinds.0, inner-here new j p.pair.here.1 p.kinds.1)
@@ -177,9 +177,9 @@ enum-parts reading old new i j = refl
 abbrev pub flagsItems : ℕ → Run → Run → Items
 flagsItems i a b = record { of = Owner.Flags i; old = a; new = b }
 
-module _ (reading : Reading) {old new : List ℕ} {i j : ℕ} {a b : Run} (e : a ≡ items_in old i) (f : b ≡ items_in new j) where
+module _ (reading : Reading) {old new : List ℕ} {i j : ℕ} {a b : Run} (e : a ≡ itemsIn old i) (f : b ≡ itemsIn new j) where
   pub message-fields : KindPair 0 old new i j
-      → Over reading old new (fieldItems (Scope.Old i) a b) (compareFieldSets (context_of reading old new) (declIn old i).name (declIn old i).fields (declIn new j).fields)
+      → Over reading old new (fieldItems (Scope.Old i) a b) (compareFieldSets (contextOf reading old new) (declIn old i).name (declIn old i).fields (declIn new j).fields)
   unfolding OwnerHere ScopeHere declarationOf compareFieldSets
   message-fields p =
       over (fieldItems (Scope.Old i) a b) p.pair.accepted p.pair.here.0
@@ -199,13 +199,13 @@ module _ (reading : Reading) {old new : List ℕ} {i j : ℕ} {a b : Run} (e : a
   unfolding keptItems enumRules together
   enum-rest p = (enum-variants p).are ∙ lone_parts reading old new (enumItems i j a b) (kept-silent variantOrdinal ltb _ _)
 
-  pub flags-bits : KindPair 2 old new i j → Over reading old new (flagsItems i a b) (ofPair (λ r. compare_flags) reading old new i j)
-  unfolding OwnerHere compare_flags
+  pub flags-bits : KindPair 2 old new i j → Over reading old new (flagsItems i a b) (ofPair (λ r. compareFlags) reading old new i j)
+  unfolding OwnerHere compareFlags
   flags-bits p =
       over (flagsItems i a b) p.pair.accepted p.pair.here.0
       (rw e (flags-listed old i p.pair.here.0 p.kinds.0)) (rw f (flags-listed new j p.pair.here.1 p.kinds.1))
 
-  pub flags-parts : KindPair 2 old new i j → ofPair (λ r. compare_flags) reading old new i j ≡ together (loneParts reading old new (flagsItems i a b))
+  pub flags-parts : KindPair 2 old new i j → ofPair (λ r. compareFlags) reading old new i j ≡ together (loneParts reading old new (flagsItems i a b))
   unfolding keptItems flagsRules
   flags-parts p = (flags-bits p).are ∙ lone_parts reading old new (flagsItems i a b) (kept-silent variantOrdinal ltb _ _)
 

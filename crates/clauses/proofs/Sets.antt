@@ -17,7 +17,7 @@ use Rattle.survivors.specs.declared.Ordinal.{Ordinal}
 use Rattle.survivors.specs.declared.Ordinal.TheVariants as ordinal
 use Rattle.survivors.specs.declared.Next.{Next}
 use Rattle.survivors.specs.declared.Next.TheVariants as next
-use Rattle.items.specs.Items.{ItemsIn, ItemIn, NextOn, rules, unmatchedItems, keptItems, kept_at, itemChanges}
+use Rattle.items.specs.Items.{ItemsIn, ItemIn, NextOn, rules, unmatchedItems, keptItems, keptAt, itemChanges}
 use Rattle.items.specs.declared.Side.{Side}
 use Rattle.items.specs.declared.Items.{Items}
 use Rattle.items.proofs.Walks.{walkRest, walkLeft, kept-all, kept-at, walk-less, walk-met, walk_start, walk_turn, walk-done}
@@ -75,7 +75,7 @@ module _ {old new : List ℕ} {x : Items} (p : ItemsIn old new x) where
     kept-start q = walk_start p Side.Old (matched (rules reading old new x).kept) (kept-all reading old new x) q
 
     module _ {all : List Change} {t' : Tally} {d' : List ℕ} (after : Ordinal) (w : Owed m d t all t' d' (restKept reading old new x after ∷ [])) {r : Next} (a : NextOn old new x Side.Old after r) where
-      pub kept-turn : {k i : ℕ} → r ≡ next.Is k i → Owed m d t all t' d' (kept_at reading old new x k i ∷ restKept reading old new x (ordinal.Is k) ∷ [])
+      pub kept-turn : {k i : ℕ} → r ≡ next.Is k i → Owed m d t all t' d' (keptAt reading old new x k i ∷ restKept reading old new x (ordinal.Is k) ∷ [])
       kept-turn {k} {i} e = walk_turn p Side.Old (matched (rules reading old new x).kept) after w a e (kept-at reading old new x k i)
 
       pub kept-done : r ≡ next.Nothing → Ran m d t all t' d'

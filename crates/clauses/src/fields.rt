@@ -4,7 +4,7 @@ ghost use Rattle.parts.specs.Promise.{ItemHere, fieldIn, limitOf};
 ghost use Rattle.parts.specs.declared.Shape.{Shape};
 ghost use Rattle.rules.specs.Equal.{sameOption};
 ghost use Rattle.tally.specs.Reporting.{Ready, Ran};
-ghost use Rattle.items.specs.Pairs.{sameCoding, FieldPair, of_fields};
+ghost use Rattle.items.specs.Pairs.{sameCoding, FieldPair, ofFields};
 ghost use Rattle.items.specs.Items.{FieldsIn, keptFields, fieldChanges, FieldAsked, FieldTold, FieldsTold};
 
 use crate::reporting::{compare_deprecated, compare_types, emit_if};
@@ -63,8 +63,8 @@ fn compare_fields(
     i: usize,
     j: usize,
 ) -> Tally
-    requires { FieldPair old.now new.now scope i j × Ready walk.mode out.old t (of_fields walk.reading old.now new.now scope i j) }
-    ensures { Ran walk.mode out.old t (of_fields walk.reading old.now new.now scope i j) result out.new }
+    requires { FieldPair old.now new.now scope i j × Ready walk.mode out.old t (ofFields walk.reading old.now new.now scope i j) }
+    ensures { Ran walk.mode out.old t (ofFields walk.reading old.now new.now scope i j) result out.new }
 {
     let renamed = !same_name(item_name(old, i), item_name(new, j));
     let t = emit_if(walk, old, new, out, t, renamed, field_renamed(scope, i, j));

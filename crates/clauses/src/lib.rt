@@ -1,4 +1,6 @@
 // The clauses over two declarations of one kind, under the names of compat.rs.
+#![tactic(auto)]
+
 pub mod enums;
 mod fields;
 pub mod flags;

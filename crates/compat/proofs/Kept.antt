@@ -6,7 +6,7 @@ use mathlib.Core.List.{List}
 use Prim.Native.Nat.{ℕ}
 use Rattle.image.specs.Schema.{Schema}
 use Rattle.parts.specs.Promise.{schemaOf}
-use Rattle.rules.specs.Survivors.{View, view_of}
+use Rattle.rules.specs.Survivors.{View, viewOf}
 use Rattle.rules.specs.Verdict.{aliasPair}
 use Rattle.rules.specs.Clauses.{Reading}
 use Rattle.rules.specs.Answer.{firstFault, aliasCheck, usual, plainReading}
@@ -19,7 +19,7 @@ use Rattle.rules.proofs.Bound.{Bounded, plain-bounded}
 use Rattle.rules.proofs.Standing.{view-none}
 use Rattle.rules.proofs.Imports.{imports-numbered, imports-bounded}
 use Rattle.rules.proofs.Mended.{mended-numbered, mended-bounded}
-use Rattle.types.specs.Readings.{reading_of}
+use Rattle.types.specs.Readings.{readingOf}
 use Rattle.checking.specs.Decls.{bothAliases, allChanges}
 use Rattle.compat.specs.Policies.{policyOf, readingIn, idsBy, changesBy, Prepared, aliasFault}
 use Rattle.compat.specs.declared.policies.Policy.{Policy}
@@ -58,13 +58,13 @@ policy-view policy.Mended x = sym (view-none x)
 -- what its checks of the pair say
 pub policy-pair : (p : Policy) (x y : Schema) → aliasFault (aliasPair ((policyOf p).view x) ((policyOf p).view y)) ≡ firstFault (policyOf p).pair x y
 unfolding policyOf
-policy-pair policy.Plain x y = one-check view_of plainReading x y
+policy-pair policy.Plain x y = one-check viewOf plainReading x y
 policy-pair policy.Imports x y = one-check importsView plainReading x y
-policy-pair policy.Mended x y = one-check view_of mendedReading x y
+policy-pair policy.Mended x y = one-check viewOf mendedReading x y
 
 -- how its walk reads
-pub policy-reading : (p : Policy) → reading_of (readingIn p) ≡ (policyOf p).reading
-unfolding policyOf readingIn reading_of
+pub policy-reading : (p : Policy) → readingOf (readingIn p) ≡ (policyOf p).reading
+unfolding policyOf readingIn readingOf
 policy-reading policy.Plain = refl
 policy-reading policy.Imports = refl
 policy-reading policy.Mended = refl

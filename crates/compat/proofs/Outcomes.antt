@@ -9,7 +9,7 @@ use borrow.Author.Tests.{le-leb, lt-leb}
 use lib.ListN.{length, take, length-take}
 use Rattle.image.specs.Schema.{Schema}
 use Rattle.parts.specs.Codes.{number, oldSide, newSide, bothSides}
-use Rattle.text.specs.Text.{put, put_in, Space}
+use Rattle.text.specs.Text.{put, putIn, Space}
 use Rattle.text.specs.declared.Mode.{Mode}
 use Rattle.text.specs.declared.Mode.TheVariants.{Measure, Write}
 use Rattle.text.proofs.Writing.{space-measure, space-write}
@@ -28,7 +28,7 @@ use Rattle.checking.specs.Decls.{BothSearchable, allChanges}
 use Rattle.reached.specs.declared.Reached.{Reached}
 use Rattle.verdicts.specs.Verdicts.{refusedBy, verdictIs}
 use Rattle.verdicts.specs.declared.Verdict.{Verdict}
-use Rattle.compat.specs.Policies.{policyOf, walk_of, changesBy, HasIds, Prepared, faultOf, Passing}
+use Rattle.compat.specs.Policies.{policyOf, walkOf, changesBy, HasIds, Prepared, faultOf, Passing}
 use Rattle.compat.specs.Passes.{ReportSpace, Passed, Reported}
 use Rattle.compat.specs.declared.policies.Policy.{Policy}
 use Rattle.compat.specs.declared.policies.Judged.{Judged}
@@ -100,15 +100,15 @@ module _ (p : Policy) (old new : List ℕ) where
 
   -- ---- a pass, by the walk of the policy
 
-  module _ {a b : IdSet} (k : Prepared p old new a b) {w : Walk} {m : Mode} (e : w ≡ walk_of p m) where
+  module _ {a b : IdSet} (k : Prepared p old new a b) {w : Walk} {m : Mode} (e : w ≡ walkOf p m) where
     pub walk-asks : {d : List ℕ} → ReportSpace m d (changesBy p old new)
         → BothSearchable old new a b × ReportSpace w.mode d (allChanges w.reading old new a b)
-    unfolding walk_of
+    unfolding walkOf
     walk-asks h = (k.searchable, rw (e, policy-changes p k) h)
 
     pub walk-passed : {d d' : List ℕ} {r : Verdict} → Passed w.mode d (allChanges w.reading old new a b) r d'
         → Passed m d (changesBy p old new) r d'
-    unfolding walk_of
+    unfolding walkOf
     walk-passed h = rw (e, policy-changes p k) at h
 
   -- each image with its set
@@ -190,7 +190,7 @@ module _ (p : Policy) (old new : List ℕ) where
         report-ready = (this.both, write-space this.both (omega (arith, size)))
 
         pub report-passed : {r : Verdict} {d' : List ℕ} → Passed Write d (changesBy p old new) r d' → Reported p old new d r d'
-        unfolding reportBy fit written put_in put
+        unfolding reportBy fit written putIn put
         report-passed w =
             let fits = le-leb (length (report (changesBy p old new))) (length d) (omega (arith, size)) in
             record {

@@ -8,11 +8,11 @@ use Rattle.text.specs.Text.{Space, Puts}
 use Rattle.text.specs.declared.Mode.{Mode}
 use Rattle.text.proofs.Pieces.{together, Owes, owes-start, owes-room, owes-next, owes-end}
 use Rattle.rules.specs.Changes.{Change}
-use Rattle.rules.specs.Verdict.{bumpOf, result_of}
+use Rattle.rules.specs.Verdict.{bumpOf, resultOf}
 use Rattle.rules.specs.Report.{lastLine, report}
 use Rattle.rules.specs.Answer.{compared}
 use Rattle.rules.proofs.Chain.{largest-two}
-use Rattle.tally.specs.Tallies.{noChange, lines_of, TallyOf}
+use Rattle.tally.specs.Tallies.{noChange, linesOf, TallyOf}
 use Rattle.tally.specs.Reporting.{Ready, Ran}
 use Rattle.tally.specs.declared.Tally.{Tally}
 use Rattle.tally.proofs.Running.{ready-start, ran-tally, ran-lines}
@@ -25,12 +25,12 @@ use Rattle.compat.specs.Passes.{Passed}
 
 -- a tally's verdict, with the report's length, is that of its changes
 tally-verdict : (cs : List Change) (t : Tally) (n : ℕ) → TallyOf cs t → n ≡ length (report cs) → ofTally t n ≡ verdictIs (compared cs)
-unfolding ofTally verdictIs result_of
+unfolding ofTally verdictIs resultOf
 tally-verdict cs t n o e = rw (o.bump, o.kinds, e)
 
 module _ {m : Mode} {d : List ℕ} (cs : List Change) (s : Space m d 0 (length (report cs))) where
-  whole : Owes m d 0 (report cs) 0 d (lines_of cs ∷ lastLine cs ∷ [])
-  unfolding report lines_of together
+  whole : Owes m d 0 (report cs) 0 d (linesOf cs ∷ lastLine cs ∷ [])
+  unfolding report linesOf together
   whole = owes-start refl s
 
   -- what `check` asks

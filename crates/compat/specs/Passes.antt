@@ -1,6 +1,6 @@
 -- One pass over changes, and the report call. Assumes nothing.
 use Rattle.std.specs.Prelude.{◌≡◌, List, ℕ, length}
-use Rattle.text.specs.Text.{Space, put_in}
+use Rattle.text.specs.Text.{Space, putIn}
 use Rattle.text.specs.declared.Mode.{Mode}
 use Rattle.rules.specs.Changes.{Change}
 use Rattle.rules.specs.Report.{report}
@@ -18,7 +18,7 @@ ReportSpace mode d cs = Space mode d 0 (length (report cs))
 -- one pass over the changes cs: the verdict, and the buffer
 pub record Passed (mode : Mode) (d : List ℕ) (cs : List Change) (r : Verdict) (d' : List ℕ) : Type 0 where
   pub verdict : r ≡ verdictIs (compared cs)
-  pub bytes : d' ≡ put_in mode d 0 (report cs)
+  pub bytes : d' ≡ putIn mode d 0 (report cs)
 
 -- the report call on two images with the buffer d: the verdict, and the buffer
 pub record Reported (p : Policy) (old new d : List ℕ) (r : Verdict) (d' : List ℕ) : Type 0 where

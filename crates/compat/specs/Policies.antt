@@ -37,8 +37,8 @@ idsBy policy.Plain x = []
 idsBy policy.Imports x = reachedSet x
 idsBy policy.Mended x = []
 
-unfoldable pub walk_of : Policy → Mode → Walk
-walk_of p mode = record { mode = mode; reading = readingIn p }
+unfoldable pub walkOf : Policy → Mode → Walk
+walkOf p mode = record { mode = mode; reading = readingIn p }
 
 -- the changes that it reports of two accepted images
 unfoldable pub changesBy : Policy → List ℕ → List ℕ → List Change

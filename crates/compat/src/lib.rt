@@ -1,5 +1,7 @@
 // Whether a new schema may be loaded where an old one runs: the verdict on two images and its report, for all bytes, by stages: accept
 // the old image, accept the new one, judge the pair, measure the report, write it.
+#![tactic(auto)]
+
 pub mod policies;
 
 ghost use Rattle.std.specs.Prelude.{◌≡◌};

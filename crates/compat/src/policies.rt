@@ -3,7 +3,7 @@ ghost use Rattle.std.specs.Prelude.{◌≡◌};
 ghost use Rattle.parts.specs.Promise.{Accepted, schemaOf};
 ghost use Rattle.rules.specs.Answer.{firstFault, onSide};
 ghost use Rattle.checking.specs.Decls.{BothSearchable, bothAliases};
-ghost use Rattle.compat.specs.Policies.{policyOf, readingIn, walk_of, HasIds, Prepared, faultOf, aliasFault};
+ghost use Rattle.compat.specs.Policies.{policyOf, readingIn, walkOf, HasIds, Prepared, faultOf, aliasFault};
 
 use checking::aliases::alias_pair;
 use items::Walk;
@@ -42,7 +42,7 @@ fn reading_of(policy: Policy) -> Reading
 
 // How the walk of a verdict goes.
 pub fn walk_of(policy: Policy, mode: Mode) -> Walk
-    ensures { result ≡ walk_of policy mode }
+    ensures { result ≡ walkOf policy mode }
 {
     let reading = reading_of(policy);
     Walk {

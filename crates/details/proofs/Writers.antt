@@ -4,7 +4,7 @@ use mathlib.Core.List.{List, []}
 use Prim.Native.Nat.{ℕ}
 use native.Mathlib.Omega.{arith}
 use lib.ListN.{length}
-use Rattle.text.specs.Text.{put_in, Space, Puts}
+use Rattle.text.specs.Text.{putIn, Space, Puts}
 use Rattle.text.specs.declared.Mode.{Mode}
 use Rattle.text.proofs.Writing.{in-nil}
 
@@ -17,4 +17,4 @@ module _ {m : Mode} {d : List ℕ} {at : ℕ} {xs ys : List ℕ} (e : xs ≡ ys)
 
 -- nothing is to be written
 pub puts_none : {m : Mode} {d : List ℕ} {at : ℕ} {xs : List ℕ} → xs ≡ [] → Puts m d at xs at d
-puts_none {m} {d} {at} {xs} e = record { end = omega (arith, ap length e); bytes = sym (ap (put_in m d at) e ∙ in-nil m d at) }
+puts_none {m} {d} {at} {xs} e = record { end = omega (arith, ap length e); bytes = sym (ap (putIn m d at) e ∙ in-nil m d at) }

@@ -37,10 +37,10 @@ declarationOf old new (scope.Old at) = (declIn old at).name
 declarationOf old new (scope.New at) = (declIn new at).name
 declarationOf old new (scope.Variant decl at) = variantName old decl at
 
-unfoldable pub item_of : List ℕ → List ℕ → Item → Option Name
-item_of old new item.Nothing = none
-item_of old new (item.Old at) = some (itemName old at)
-item_of old new (item.New at) = some (itemName new at)
+unfoldable pub itemOf : List ℕ → List ℕ → Item → Option Name
+itemOf old new item.Nothing = none
+itemOf old new (item.Old at) = some (itemName old at)
+itemOf old new (item.New at) = some (itemName new at)
 
 -- ---- details
 

@@ -8,5 +8,5 @@ use Rattle.rules.specs.Report.{changeNames, bumpNames, resultNames}
 unfoldable pub names : List String
 names = changeNames ++ (bumpNames ++ (resultNames ++ kindNames))
 
-unfoldable pub word_at : ℕ → List ℕ
-word_at n = word names n
+unfoldable pub wordAt : ℕ → List ℕ
+wordAt n = word names n

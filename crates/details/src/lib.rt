@@ -1,5 +1,7 @@
 // The detail of a change, apart from its line: what the change is of, what happened to it, and the values that changed; and the other
 // texts of a line, its words and its names.
+#![tactic(auto)]
+
 pub mod names;
 mod shown;
 mod subjects;

@@ -6,7 +6,7 @@ ghost use Rattle.parts.specs.declared.Shape.{Shape};
 ghost use Rattle.rules.specs.Changes.{quoted};
 ghost use Rattle.rules.specs.Report.{fieldPart};
 ghost use Rattle.text.specs.Text.{Space, Puts};
-ghost use Rattle.details.specs.Details.{variantName, declarationOf, item_of, ScopeHere, ItemOfHere};
+ghost use Rattle.details.specs.Details.{variantName, declarationOf, itemOf, ScopeHere, ItemOfHere};
 
 use crate::{Item, Scope};
 use members::items::item_name;
@@ -71,8 +71,8 @@ fn put_plus(mode: Mode, out: &mut [u8], at: usize, name: &[u8]) -> usize
 
 // "`-` if the change has no field, else `+` and the field"
 pub fn put_field(mode: Mode, old: &[u8], new: &[u8], out: &mut [u8], at: usize, item: Item) -> usize
-    requires { ItemOfHere old.now new.now item × Space mode out.old at (length (fieldPart (item_of old.now new.now item))) }
-    ensures { Puts mode out.old at (fieldPart (item_of old.now new.now item)) result out.new }
+    requires { ItemOfHere old.now new.now item × Space mode out.old at (length (fieldPart (itemOf old.now new.now item))) }
+    ensures { Puts mode out.old at (fieldPart (itemOf old.now new.now item)) result out.new }
 {
     match item {
         Item::Nothing => put_byte(mode, out, at, b'-'),

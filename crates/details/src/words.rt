@@ -3,7 +3,7 @@ ghost use Rattle.std.specs.Prelude.{◌≤◌, ◌<◌, length};
 ghost use Rattle.parts.specs.Codes.{number, implKind};
 ghost use Rattle.image.specs.Words.{kindWord};
 ghost use Rattle.text.specs.Text.{Space, Puts};
-ghost use Rattle.details.specs.Words.{word_at};
+ghost use Rattle.details.specs.Words.{wordAt};
 
 use text::{Mode, put_text};
 
@@ -22,8 +22,8 @@ const STARTS: [usize; 33] = [
 
 // The word with a number.
 pub fn put_word(mode: Mode, out: &mut [u8], at: usize, word: usize) -> usize
-    requires { (word < 32) × Space mode out.old at (length (word_at word)) }
-    ensures { Puts mode out.old at (word_at word) result out.new }
+    requires { (word < 32) × Space mode out.old at (length (wordAt word)) }
+    ensures { Puts mode out.old at (wordAt word) result out.new }
 {
     let names =
         *b"FieldAddedFieldRemovedFieldTypeChangedFieldOrdinalChangedFieldRenamedFieldDeprecatedFieldEncodingChangedVariantAddedVariantRemovedVariantOrdinalChangedDeclarationAddedDeclarationRemovedDeclarationKindChangedNamespaceChangedNonExhaustiveChangedFlagsBitAddedFlagsBitRemovedFlagsBitOrdinalChangedPatchMinorMajorCompatibleBreakingmessageenumflagsunionnewtypeconfiggeneric_aliastraitimpl";

@@ -1,5 +1,7 @@
 // How types, encodings and namespaces at places of accepted images are shown: measured, or written into a lent buffer at a place.
 // `at` is a place in the buffer, `node` the place of a type's node in the image.
+#![tactic(auto)]
+
 pub mod encodings;
 mod names;
 pub mod namespaces;
@@ -11,7 +13,7 @@ ghost use Rattle.parts.specs.Promise.{Accepted, LabelHere, labelIn, TypeHere};
 ghost use Rattle.rules.specs.Text.{showName};
 ghost use Rattle.text.specs.Text.{Space, Puts};
 ghost use Rattle.types.specs.Names.{LabelNames};
-ghost use Rattle.types.specs.Resolved.{named_by};
+ghost use Rattle.types.specs.Resolved.{namedBy};
 ghost use Rattle.display.specs.Display.{LeafSpace, leafText, sizeText, typeText, Displayed};
 
 use crate::names::names_display;
@@ -32,8 +34,8 @@ struct Shown {
 
 // The name that an id stands for, or `<unknown>`.
 fn named_display(mode: Mode, image: &[u8], out: &mut [u8], at: usize, id: u32) -> usize
-    requires { Accepted image.now × Space mode out.old at (length (showName (named_by image.now id))) }
-    ensures { Puts mode out.old at (showName (named_by image.now id)) result out.new }
+    requires { Accepted image.now × Space mode out.old at (length (showName (namedBy image.now id))) }
+    ensures { Puts mode out.old at (showName (namedBy image.now id)) result out.new }
 {
     let Entry::Body(p) = entry(image, id) else {
         return put_text(mode, out, at, b"<unknown>");

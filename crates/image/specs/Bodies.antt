@@ -1,25 +1,25 @@
 -- Bodies: "A body is a u8 kind, then ..". Assumes nothing.
 use Rattle.std.specs.Prelude.{List, [], ℕ, eqb, length}
 use Rattle.image.specs.Codes.{number, kindRefusal, bodyRefusal, messageKind, enumKind, flagsKind, unionKind, newtypeKind, configKind, aliasKind, traitKind, implKind}
-use Rattle.image.specs.Kinds.{Kind, message, enum, flags, union, newtype, config, alias, trait, impl, other, kind_of}
+use Rattle.image.specs.Kinds.{Kind, message, enum, flags, union, newtype, config, alias, trait, impl, other, kindOf}
 use Rattle.image.specs.Schema.{Decl, decl, unmarked, noType}
-use Rattle.image.specs.Parse.{Parsed, ok, no, bind, need, byte_at, counted}
-use Rattle.image.specs.Names.{name_at}
-use Rattle.image.specs.Types.{type_at}
+use Rattle.image.specs.Parse.{Parsed, ok, no, bind, need, byteAt, counted}
+use Rattle.image.specs.Names.{nameAt}
+use Rattle.image.specs.Types.{typeAt}
 use Rattle.image.specs.Fields.{marksAt, fieldAt, bareAt, variantAt}
 
 -- 0 message: name, marks, u16 count, fields
 unfoldable pub messageAt : List ℕ → ℕ → Parsed Decl
 messageAt s at =
-    bind (name_at (number bodyRefusal) s at) (λ x n₁.
+    bind (nameAt (number bodyRefusal) s at) (λ x n₁.
     bind (marksAt s n₁) (λ m n₂.
     bind (counted fieldAt s n₂) (λ fs n₃.
     ok (decl (number messageKind) x m fs [] noType) n₃)))
 
 -- 1 enum: name, marks, u16 count, then u32 ordinal and name each
-unfoldable pub enum_at : List ℕ → ℕ → Parsed Decl
-enum_at s at =
-    bind (name_at (number bodyRefusal) s at) (λ x n₁.
+unfoldable pub enumAt : List ℕ → ℕ → Parsed Decl
+enumAt s at =
+    bind (nameAt (number bodyRefusal) s at) (λ x n₁.
     bind (marksAt s n₁) (λ m n₂.
     bind (counted bareAt s n₂) (λ vs n₃.
     ok (decl (number enumKind) x m [] vs noType) n₃)))
@@ -27,27 +27,27 @@ enum_at s at =
 -- 2 flags: name, u16 count, then u32 bit and name each
 unfoldable pub flagsAt : List ℕ → ℕ → Parsed Decl
 flagsAt s at =
-    bind (name_at (number bodyRefusal) s at) (λ x n₁.
+    bind (nameAt (number bodyRefusal) s at) (λ x n₁.
     bind (counted bareAt s n₁) (λ vs n₂.
     ok (decl (number flagsKind) x unmarked [] vs noType) n₂))
 
 -- 3 union: name, u16 count, then u32 ordinal, name, u16 count, fields each
 unfoldable pub unionAt : List ℕ → ℕ → Parsed Decl
 unionAt s at =
-    bind (name_at (number bodyRefusal) s at) (λ x n₁.
+    bind (nameAt (number bodyRefusal) s at) (λ x n₁.
     bind (counted variantAt s n₁) (λ vs n₂.
     ok (decl (number unionKind) x unmarked [] vs noType) n₂))
 
 -- 4 newtype: name, type
 unfoldable pub newtypeAt : List ℕ → ℕ → Parsed Decl
 newtypeAt s at =
-    bind (name_at (number bodyRefusal) s at) (λ x n₁.
-    bind (type_at s n₁) (λ t n₂.
+    bind (nameAt (number bodyRefusal) s at) (λ x n₁.
+    bind (typeAt s n₁) (λ t n₂.
     ok (decl (number newtypeKind) x unmarked [] [] t) n₂))
 
 -- 5 config, 6 generic alias, 7 trait: name
 unfoldable pub otherAt : ℕ → List ℕ → ℕ → Parsed Decl
-otherAt kind s at = bind (name_at (number bodyRefusal) s at) (λ x n. ok (decl kind x unmarked [] [] noType) n)
+otherAt kind s at = bind (nameAt (number bodyRefusal) s at) (λ x n. ok (decl kind x unmarked [] [] noType) n)
 
 -- 8 impl: nothing; its name is empty
 unfoldable pub implAt : List ℕ → ℕ → Parsed Decl
@@ -56,7 +56,7 @@ implAt s at = ok (decl (number implKind) [] unmarked [] [] noType) at
 -- what follows the kind
 unfoldable pub declAt : Kind → List ℕ → ℕ → Parsed Decl
 declAt message s at = messageAt s at
-declAt enum s at = enum_at s at
+declAt enum s at = enumAt s at
 declAt flags s at = flagsAt s at
 declAt union s at = unionAt s at
 declAt newtype s at = newtypeAt s at
@@ -67,8 +67,8 @@ declAt impl s at = implAt s at
 declAt other s at = no (number kindRefusal)
 
 -- a whole body: nothing is left
-unfoldable pub body_of : List ℕ → Parsed Decl
-body_of s =
-    bind (byte_at (number bodyRefusal) s 0) (λ kind n₁.
-    bind (declAt (kind_of kind) s n₁) (λ d n₂.
+unfoldable pub bodyOf : List ℕ → Parsed Decl
+bodyOf s =
+    bind (byteAt (number bodyRefusal) s 0) (λ kind n₁.
+    bind (declAt (kindOf kind) s n₁) (λ d n₂.
     need (eqb n₂ (length s)) (number bodyRefusal) (ok d n₂)))

@@ -4,8 +4,8 @@ use Rattle.std.proofs.Math.Option.{Option, none, some}
 use Rattle.image.specs.Codes.{number, longRefusal, shortHeadRefusal, formatRefusal, crowdedRefusal, contentsRefusal}
 use Rattle.image.specs.Schema.{Decl, Schema}
 use Rattle.image.specs.Parse.{Parsed, ok, bind, pick, need, part, littleEndian}
-use Rattle.image.specs.Names.{names_at}
-use Rattle.image.specs.Bodies.{body_of}
+use Rattle.image.specs.Names.{namesAt}
+use Rattle.image.specs.Bodies.{bodyOf}
 
 unfoldable pub u16At : List ℕ → ℕ → ℕ
 u16At s at = littleEndian 2 (drop at s)
@@ -43,8 +43,8 @@ idsFrom zero s at = []
 idsFrom (suc count) s at = littleEndian 4 (drop at s) ∷ idsFrom count s (at + 4)
 
 -- "1, eight bytes there (2), 3, 4"
-unfoldable pub head_of : List ℕ → Parsed (Unit {0})
-head_of s =
+unfoldable pub headOf : List ℕ → Parsed (Unit {0})
+headOf s =
     need (leb (length s) 32768) (number longRefusal)
     (need (leb 8 (length s)) (number shortHeadRefusal)
     (need (eqb (format s) 1) (number formatRefusal)
@@ -52,8 +52,8 @@ head_of s =
     (ok tt 8))))
 
 -- the contents and the ids are there
-unfoldable pub tables_of : List ℕ → Parsed (List ℕ)
-tables_of s = need (leb (segmentsAt s) (length s)) (number shortHeadRefusal) (ok (idsFrom (idCount s) s (idsAt s)) (segmentsAt s))
+unfoldable pub tablesOf : List ℕ → Parsed (List ℕ)
+tablesOf s = need (leb (segmentsAt s) (length s)) (number shortHeadRefusal) (ok (idsFrom (idCount s) s (idsAt s)) (segmentsAt s))
 
 -- "Then the bodies, in contents order, without gaps, the last ending the image. With no body the names end the image." And: "0 and 0 for
 -- an empty entry; any other entry has a length of 1 or more". So of `count` entries from the i-th on, whose bodies start at `at`.
@@ -65,23 +65,23 @@ laid (suc count) s i at =
     (eqb (entryOffset s i) at && (leb (at + entryLength s i) (length s) && laid count s (i + 1) (at + entryLength s i)))
 
 -- the declaration of the i-th entry, if it has one
-unfoldable pub entry_of : List ℕ → ℕ → Parsed (Option Decl)
-entry_of s i =
+unfoldable pub entryOf : List ℕ → ℕ → Parsed (Option Decl)
+entryOf s i =
     pick (eqb (entryLength s i) 0)
     (ok none 0)
-    (bind (body_of (part (entryOffset s i) (entryLength s i) s)) (λ d n. ok (some d) n))
+    (bind (bodyOf (part (entryOffset s i) (entryLength s i) s)) (λ d n. ok (some d) n))
 
 -- `count` entries from the i-th on: "then bodies from left to right, first fault met"
 unfoldable pub entriesOf : ℕ → List ℕ → ℕ → Parsed (List (Option Decl))
 entriesOf zero s i = ok [] (length s)
-entriesOf (suc count) s i = bind (entry_of s i) (λ e n. bind (entriesOf count s (i + 1)) (λ es m. ok (e ∷ es) m))
+entriesOf (suc count) s i = bind (entryOf s i) (λ e n. bind (entriesOf count s (i + 1)) (λ es m. ok (e ∷ es) m))
 
 -- "in each 1, eight bytes there (2), 3, 4, rest of 2 and the segments' 7 from left to right, 5, then bodies from left to right"
 unfoldable pub readImage : List ℕ → Parsed Schema
 readImage s =
-    bind (head_of s) (λ h n₁.
-    bind (tables_of s) (λ ids n₂.
-    bind (names_at (number shortHeadRefusal) (segmentCount s) s n₂) (λ names n₃.
+    bind (headOf s) (λ h n₁.
+    bind (tablesOf s) (λ ids n₂.
+    bind (namesAt (number shortHeadRefusal) (segmentCount s) s n₂) (λ names n₃.
     need (laid (entryCount s) s 0 n₃) (number contentsRefusal)
     (bind (entriesOf (entryCount s) s 0) (λ es n₄.
     ok (record { registry = es; ids = ids; namespace = names }) n₄)))))

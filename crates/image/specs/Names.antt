@@ -2,7 +2,7 @@
 use Rattle.std.specs.Prelude.{Bool, true, ◌&&◌, ◌||◌, List, [], ◌∷◌, ℕ, ◌+◌, leb, eqb, length}
 use Rattle.image.specs.Codes.{number, nameRefusal}
 use Rattle.image.specs.Schema.{Name}
-use Rattle.image.specs.Parse.{Parsed, ok, bind, need, part, byte_at, many}
+use Rattle.image.specs.Parse.{Parsed, ok, bind, need, part, byteAt, many}
 
 -- a small letter, a capital, a digit or `_`
 unfoldable pub nameByte : ℕ → Bool
@@ -14,12 +14,12 @@ nameBytes (b ∷ s) = nameByte b && nameBytes s
 
 -- "Length of a name before its bytes": whether the bytes are there, then whether each is allowed.
 -- `short` is the refusal where they are not: `shortHeadRefusal` in the namespace, `bodyRefusal` in a body.
-unfoldable pub name_at : ℕ → List ℕ → ℕ → Parsed Name
-name_at short s at =
-    bind (byte_at short s at) (λ k n.
+unfoldable pub nameAt : ℕ → List ℕ → ℕ → Parsed Name
+nameAt short s at =
+    bind (byteAt short s at) (λ k n.
     need (leb (n + k) (length s)) short
     (need (nameBytes (part n k s)) (number nameRefusal)
     (ok (part n k s) (n + k))))
 
-unfoldable pub names_at : ℕ → ℕ → List ℕ → ℕ → Parsed (List Name)
-names_at short count s at = many (name_at short) count s at
+unfoldable pub namesAt : ℕ → ℕ → List ℕ → ℕ → Parsed (List Name)
+namesAt short count s at = many (nameAt short) count s at

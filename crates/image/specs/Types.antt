@@ -2,8 +2,8 @@
 use Rattle.std.specs.Prelude.{cond, ◌&&◌, List, [], ℕ, zero, suc, leb, eqb}
 use Rattle.image.specs.Codes.{number, bodyRefusal, codeRefusal, deepRefusal, primitiveTag, subByteTag, semanticTag, namedTag, optionalTag, fixedArrayTag, mapTag, resultTag, mat4Tag, bitsTag}
 use Rattle.image.specs.Schema.{Label, label, Ty, leaf, one, two}
-use Rattle.image.specs.Parse.{Parsed, ok, no, bind, within, byte_at, code_at, number_at}
-use Rattle.image.specs.Names.{names_at}
+use Rattle.image.specs.Parse.{Parsed, ok, no, bind, within, byteAt, codeAt, numberAt}
+use Rattle.image.specs.Names.{namesAt}
 
 -- what follows a tag: a code of at most so much, a sub-byte's sign and bits, an id, a size, nothing, bits; or the tag is none
 pub data Follows : Type 0 where
@@ -26,29 +26,29 @@ unfoldable pub innerTypes : ℕ → ℕ
 innerTypes tag = cond (leb (number optionalTag) tag && leb tag (number mat4Tag)) (cond (leb (number mapTag) tag && leb tag (number resultTag)) 2 1) 0
 
 unfoldable pub afterTag : ℕ → Follows → List ℕ → ℕ → Parsed Label
-afterTag tag (code highest) s at = bind (code_at 0 highest s at) (λ a n. ok (label tag a 0 []) n)
-afterTag tag subByte s at = bind (code_at 0 1 s at) (λ signed n. bind (code_at 1 64 s n) (λ width m. ok (label tag signed width []) m))
-afterTag tag identity s at = bind (number_at 4 s at) (λ id n. ok (label tag id 0 []) n)
-afterTag tag size s at = bind (number_at 8 s at) (λ k n. ok (label tag k 0 []) n)
+afterTag tag (code highest) s at = bind (codeAt 0 highest s at) (λ a n. ok (label tag a 0 []) n)
+afterTag tag subByte s at = bind (codeAt 0 1 s at) (λ signed n. bind (codeAt 1 64 s n) (λ width m. ok (label tag signed width []) m))
+afterTag tag identity s at = bind (numberAt 4 s at) (λ id n. ok (label tag id 0 []) n)
+afterTag tag size s at = bind (numberAt 8 s at) (λ k n. ok (label tag k 0 []) n)
 afterTag tag nothing s at = ok (label tag 0 0 []) at
-afterTag tag bits s at = bind (byte_at (number bodyRefusal) s at) (λ k n. bind (names_at (number bodyRefusal) k s n) (λ names m. ok (label tag 0 0 names) m))
+afterTag tag bits s at = bind (byteAt (number bodyRefusal) s at) (λ k n. bind (namesAt (number bodyRefusal) k s n) (λ names m. ok (label tag 0 0 names) m))
 afterTag tag unknown s at = no (number codeRefusal)
 
 -- the label at the start of a part
-unfoldable pub label_of : List ℕ → Parsed Label
-label_of s = bind (byte_at (number bodyRefusal) s 0) (λ tag n. afterTag tag (followsTag tag) s n)
+unfoldable pub labelOf : List ℕ → Parsed Label
+labelOf s = bind (byteAt (number bodyRefusal) s 0) (λ tag n. afterTag tag (followsTag tag) s n)
 
 -- "Each inner type is read from the part of the body that starts at it."
-unfoldable pub inner_at : ℕ → Label → (List ℕ → Parsed Ty) → List ℕ → ℕ → Parsed Ty
-inner_at zero l p s at = ok (leaf l) at
-inner_at (suc zero) l p s at = bind (within p s at) (λ t n. ok (one l t) n)
-inner_at (suc (suc k)) l p s at = bind (within p s at) (λ t n. bind (within p s n) (λ u m. ok (two l t u) m))
+unfoldable pub innerAt : ℕ → Label → (List ℕ → Parsed Ty) → List ℕ → ℕ → Parsed Ty
+innerAt zero l p s at = ok (leaf l) at
+innerAt (suc zero) l p s at = bind (within p s at) (λ t n. ok (one l t) n)
+innerAt (suc (suc k)) l p s at = bind (within p s at) (λ t n. bind (within p s n) (λ u m. ok (two l t u) m))
 
 -- A type of at most `left` nodes on a path, at the start of a part. One node more is refused before its tag is read.
-unfoldable pub type_of : ℕ → List ℕ → Parsed Ty
-type_of zero s = no (number deepRefusal)
-type_of (suc left) s = bind (label_of s) (λ l n. inner_at (innerTypes l.tag) l (type_of left) s n)
+unfoldable pub typeOf : ℕ → List ℕ → Parsed Ty
+typeOf zero s = no (number deepRefusal)
+typeOf (suc left) s = bind (labelOf s) (λ l n. innerAt (innerTypes l.tag) l (typeOf left) s n)
 
 -- "At most 32 nodes on a path from the root."
-unfoldable pub type_at : List ℕ → ℕ → Parsed Ty
-type_at s at = within (type_of 32) s at
+unfoldable pub typeAt : List ℕ → ℕ → Parsed Ty
+typeAt s at = within (typeOf 32) s at

@@ -4,7 +4,7 @@ use Rattle.std.specs.Prelude.{List, [], ℕ}
 use Rattle.image.specs.Codes.{number, primitiveTag}
 use Rattle.image.specs.Schema.{Label, label, Ty, noType}
 use Rattle.image.specs.Parse.{Parsed, ok, no}
-use Rattle.image.specs.Types.{label_of, type_of}
+use Rattle.image.specs.Types.{labelOf, typeOf}
 
 unfoldable pub Good : {A : Type 0} → Parsed A → Type 0
 Good (ok a n) = Unit {0}
@@ -14,13 +14,13 @@ unfoldable pub valueOr : {A : Type 0} → A → Parsed A → A
 valueOr d (ok a n) = a
 valueOr d (no k) = d
 
-unfoldable pub end_of : {A : Type 0} → Parsed A → ℕ
-end_of (ok a n) = n
-end_of (no k) = 0
+unfoldable pub endOf : {A : Type 0} → Parsed A → ℕ
+endOf (ok a n) = n
+endOf (no k) = 0
 
 -- the label and the type at the start of a part
 unfoldable pub labelIn : List ℕ → Label
-labelIn s = valueOr (label (number primitiveTag) 0 0 []) (label_of s)
+labelIn s = valueOr (label (number primitiveTag) 0 0 []) (labelOf s)
 
 unfoldable pub treeIn : ℕ → List ℕ → Ty
-treeIn depth s = valueOr noType (type_of depth s)
+treeIn depth s = valueOr noType (typeOf depth s)

@@ -2,7 +2,7 @@
 use Rattle.std.specs.Prelude.{List, [], ◌∷◌, ℕ}
 use Prim.Native.String.{String}
 use Prim.Native.Char.{code}
-use Rattle.image.specs.Kinds.{Kind, message, enum, flags, union, newtype, config, alias, trait, impl, other, kind_of}
+use Rattle.image.specs.Kinds.{Kind, message, enum, flags, union, newtype, config, alias, trait, impl, other, kindOf}
 
 -- the bytes of a text
 unfoldable pub bytes : String → List ℕ
@@ -37,4 +37,4 @@ kindNames =
 
 unfoldable pub kindWord : ℕ → List ℕ
 unfolding bytes
-kindWord kind = bytes (kindName (kind_of kind))
+kindWord kind = bytes (kindName (kindOf kind))

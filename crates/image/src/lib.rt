@@ -1,5 +1,7 @@
 // The image format, and the reads of its pieces: numbers, names, types, fields. Each read answers the position after what it read, or the
 // number of the first refusal, which the reads above it return unchanged. Refusals, sides, kinds and tags have their names here.
+#![tactic(auto)]
+
 pub mod fields;
 pub mod kinds;
 pub mod names;

@@ -1,7 +1,7 @@
 // Bytes, coded bytes and little-endian numbers.
 ghost use Rattle.std.specs.Prelude.{◌≡◌, ◌+◌, ◌^◌, ◌≤◌, ◌<◌, length, get_or, drop};
 ghost use Rattle.image.specs.Codes.{number, bodyRefusal};
-ghost use Rattle.image.specs.Parse.{byte_at, code_at, number_at, littleEndian};
+ghost use Rattle.image.specs.Parse.{byteAt, codeAt, numberAt, littleEndian};
 ghost use Rattle.image.specs.Reads.{skip};
 
 use crate::Read;
@@ -9,7 +9,7 @@ use crate::refusals::{BODY, CODE};
 
 // A byte of a body.
 pub fn read_byte(s: &[u8], at: usize) -> Read
-    ensures { result ≡ skip (byte_at (number bodyRefusal) s.now at) }
+    ensures { result ≡ skip (byteAt (number bodyRefusal) s.now at) }
 {
     if s.len() <= at {
         return Read::Refused(BODY);
@@ -19,7 +19,7 @@ pub fn read_byte(s: &[u8], at: usize) -> Read
 
 // A coded byte from lo to hi.
 pub(crate) fn read_code(s: &[u8], at: usize, lo: u8, hi: u8) -> Read
-    ensures { result ≡ skip (code_at lo hi s.now at) }
+    ensures { result ≡ skip (codeAt lo hi s.now at) }
 {
     if s.len() <= at {
         return Read::Refused(BODY);
@@ -36,7 +36,7 @@ pub(crate) fn read_code(s: &[u8], at: usize, lo: u8, hi: u8) -> Read
 
 // The bytes of a number, w of them.
 pub(crate) fn read_number(s: &[u8], at: usize, w: usize) -> Read
-    ensures { result ≡ skip (number_at w s.now at) }
+    ensures { result ≡ skip (numberAt w s.now at) }
 {
     if s.len() < at {
         return Read::Refused(BODY);

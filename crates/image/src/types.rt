@@ -1,7 +1,7 @@
 // Types: a label, and the inner types that its tag has.
 ghost use Rattle.std.specs.Prelude.{◌≡◌, ◌≤◌, length};
 ghost use Rattle.image.specs.Codes.{number, subByteTag, bitsTag};
-ghost use Rattle.image.specs.Types.{subByte, bits, afterTag, label_of, innerTypes, type_of, type_at};
+ghost use Rattle.image.specs.Types.{subByte, bits, afterTag, labelOf, innerTypes, typeOf, typeAt};
 ghost use Rattle.image.specs.Reads.{skip};
 
 use crate::names::read_names;
@@ -34,7 +34,7 @@ fn read_bits(s: &[u8], at: usize) -> Read
 
 // The label of a type: its tag, and what stands between the tag and the inner types.
 fn read_label(s: &[u8]) -> Read
-    ensures { result ≡ skip (label_of s.now) }
+    ensures { result ≡ skip (labelOf s.now) }
 {
     let step = read_byte(s, 0);
     let Read::At(next) = step else {
@@ -78,7 +78,7 @@ pub fn inner_types(tag: u8) -> usize
 
 // The type at the start of a part, of at most `left` nodes on a path.
 fn read_type(s: &[u8], left: usize) -> Read
-    ensures { result ≡ skip (type_of left s.now) }
+    ensures { result ≡ skip (typeOf left s.now) }
 {
     if left == 0 {
         return Read::Refused(DEEP);
@@ -109,7 +109,7 @@ fn read_type(s: &[u8], left: usize) -> Read
 // A whole type, at a position of a body.
 pub fn read_type_at(s: &[u8], at: usize) -> Read
     requires { at ≤ length s.now }
-    ensures { result ≡ skip (type_at s.now at) }
+    ensures { result ≡ skip (typeAt s.now at) }
 {
     let step = read_type(&s[at..], 32);
     let Read::At(used) = step else {

@@ -10,9 +10,9 @@ use Rattle.types.specs.declared.Reading.{Reading}
 use Rattle.lines.specs.declared.Site.{Site}
 use Rattle.lines.proofs.Clauses.{Reports, field-removed, field-added, variant-removed, variant-added, bit-removed, bit_added, bare-named, variant-named}
 use Rattle.survivors.specs.Runs.{itemIn}
-use Rattle.items.specs.Pairs.{context_of, BothAccepted}
+use Rattle.items.specs.Pairs.{contextOf, BothAccepted}
 use Rattle.items.specs.Sides.{on}
-use Rattle.items.specs.Items.{shape_of, rulesOf, OwnerHere, goneSite, cameSite, shape, hasOff, lone, unmatchedAt, ItemsIn, ItemIn}
+use Rattle.items.specs.Items.{shapeOf, rulesOf, OwnerHere, goneSite, cameSite, shape, hasOff, lone, unmatchedAt, ItemsIn, ItemIn}
 use Rattle.items.specs.declared.Side.{Side}
 use Rattle.items.specs.declared.Side.TheVariants as side
 use Rattle.items.specs.declared.Owner.{Owner}
@@ -21,18 +21,18 @@ use Rattle.items.specs.declared.Items.{Items}
 use Rattle.items.proofs.Standing.{unmatched-alone}
 
 module _ (reading : Reading) (old new : List ℕ) (b : BothAccepted old new) where
-  gone-reports : (o : Owner) → OwnerHere old new o → (at : ℕ) → ItemHere (shape_of o) old at
-      → Reports old new (goneSite o at) true ((rulesOf reading old new o).gone (itemIn (shape_of o) old at))
+  gone-reports : (o : Owner) → OwnerHere old new o → (at : ℕ) → ItemHere (shapeOf o) old at
+      → Reports old new (goneSite o at) true ((rulesOf reading old new o).gone (itemIn (shapeOf o) old at))
   unfolding OwnerHere enumRules unionRules
-  gone-reports (owner.Fields c) h at i = field-removed old new b.0 b.1 c h (context_of reading old new) at i
+  gone-reports (owner.Fields c) h at i = field-removed old new b.0 b.1 c h (contextOf reading old new) at i
   gone-reports (owner.Enum d j) h at i = variant-removed old new b.0 b.1 d h.0 (bareIn old at) at (bare-named i)
   gone-reports (owner.Flags d) h at i = bit-removed old new b.0 b.1 d h at i
   gone-reports (owner.Union d) h at i = variant-removed old new b.0 b.1 d h (variantIn old at) at (variant-named i)
 
-  came-reports : (o : Owner) → OwnerHere old new o → (at : ℕ) → ItemHere (shape_of o) new at
-      → Reports old new (cameSite new o at) true ((rulesOf reading old new o).came (itemIn (shape_of o) new at))
+  came-reports : (o : Owner) → OwnerHere old new o → (at : ℕ) → ItemHere (shapeOf o) new at
+      → Reports old new (cameSite new o at) true ((rulesOf reading old new o).came (itemIn (shapeOf o) new at))
   unfolding OwnerHere enumRules unionRules level
-  came-reports (owner.Fields c) h at i = field-added old new b.0 b.1 c h (context_of reading old new) at i
+  came-reports (owner.Fields c) h at i = field-added old new b.0 b.1 c h (contextOf reading old new) at i
   came-reports (owner.Enum d j) h at i =
       variant-added old new b.0 b.1 d h.0 (bareIn new at) (enumBump (declIn new j).marks) at (bare-named i)
   came-reports (owner.Flags d) h at i = bit_added old new b.0 b.1 d h at i

@@ -5,7 +5,7 @@ use mathlib.Core.List.{List}
 use Prim.Native.Nat.{ℕ}
 use lib.Dec.{ltb}
 use Rattle.maps.specs.Keyed.{lookup}
-use Rattle.maps.specs.Walk.{is_some}
+use Rattle.maps.specs.Walk.{isSome}
 use Rattle.parts.specs.Promise.{ItemsHere, ordinalIn}
 use Rattle.parts.specs.declared.Shape.{Shape}
 use Rattle.survivors.specs.Answers.{placeMap, ItemSurvives, ItemFollows}
@@ -30,7 +30,7 @@ module _ {old new : List ℕ} {x : Items} (p : ItemsIn old new x) {h : Shape} (q
     next-as a = rw (e, ← q) a
 
     pub has-as : (k : ℕ) {r : Bool}
-        → r ≡ is_some (lookup (ordinalIn (off t old new)) ltb k (placeMap h (off t old new) (off t x.old x.new)))
+        → r ≡ isSome (lookup (ordinalIn (off t old new)) ltb k (placeMap h (off t old new) (off t x.old x.new)))
         → r ≡ hasOff old new x s k
     has-as k a = rw (e, ← q) a
 

@@ -12,7 +12,7 @@ use Rattle.text.proofs.Pieces.{together}
 use Rattle.parts.specs.Promise.{ItemOf}
 use Rattle.rules.specs.Changes.{Change}
 use Rattle.types.specs.declared.Reading.{Reading}
-use Rattle.survivors.specs.Runs.{itemIn, itemOrdinal, items_of}
+use Rattle.survivors.specs.Runs.{itemIn, itemOrdinal, itemsOf}
 use Rattle.survivors.specs.declared.Ordinal.{Ordinal}
 use Rattle.survivors.specs.declared.Ordinal.TheVariants as ordinal
 use Rattle.survivors.specs.declared.Next.{Next}
@@ -23,7 +23,7 @@ use Rattle.tally.specs.Reporting.{Ready, Ran}
 use Rattle.tally.specs.declared.Tally.{Tally}
 use Rattle.tally.proofs.Running.{Owed, owed_start, owed-cut, owed-end}
 use Rattle.items.specs.Sides.{on, off}
-use Rattle.items.specs.Items.{shape, rules, standing, standingOff, NextOn, lone, unmatchedItems, unmatchedAt, keptItems, kept_at, ItemsIn, ItemIn}
+use Rattle.items.specs.Items.{shape, rules, standing, standingOff, NextOn, lone, unmatchedItems, unmatchedAt, keptItems, keptAt, ItemsIn, ItemIn}
 use Rattle.items.specs.declared.Side.{Side}
 use Rattle.items.specs.declared.Side.TheVariants as side
 use Rattle.items.specs.declared.Items.{Items}
@@ -45,13 +45,13 @@ module _ (old new : List ℕ) (x : Items) where
   unfoldable pub walkRest : Pairing → Side → Ordinal → List Change
   walkRest g s after =
       restItems (shape old new x) g
-      (items_of (shape old new x) (on s old new) (on s x.old x.new))
-      (items_of (shape old new x) (off s old new) (off s x.old x.new))
+      (itemsOf (shape old new x) (on s old new) (on s x.old x.new))
+      (itemsOf (shape old new x) (off s old new) (off s x.old x.new))
       after
 
   -- how many items of the side are left after an ordinal
   unfoldable pub walkLeft : Side → Ordinal → ℕ
-  walkLeft s after = itemsLeft (shape old new x) (items_of (shape old new x) (on s old new) (on s x.old x.new)) after
+  walkLeft s after = itemsLeft (shape old new x) (itemsOf (shape old new x) (on s old new) (on s x.old x.new)) after
 
 -- ---- the walks that there are
 
@@ -68,8 +68,8 @@ module _ (reading : Reading) (old new : List ℕ) (x : Items) where
   unfolding keptItems walkAll
   kept-all = refl
 
-  pub kept-at : (k at : ℕ) → kept_at reading old new x k at ≡ walkAt old new x (matched (rules reading old new x).kept) side.Old k at
-  unfolding kept_at walkAt
+  pub kept-at : (k at : ℕ) → keptAt reading old new x k at ≡ walkAt old new x (matched (rules reading old new x).kept) side.Old k at
+  unfolding keptAt walkAt
   kept-at k at = refl
 
 -- ---- any walk
@@ -79,7 +79,7 @@ module _ {old new : List ℕ} {x : Items} (p : ItemsIn old new x) (s : Side) whe
     pub walk-less : walkLeft old new x s (ordinal.Is k) < walkLeft old new x s after
     unfolding walkLeft
     walk-less =
-        items-less (shape old new x) (items_of (shape old new x) (on s old new) (on s x.old x.new))
+        items-less (shape old new x) (itemsOf (shape old new x) (on s old new) (on s x.old x.new))
         (on s old new) (on s x.old x.new) (on-holds p s) after a e
 
     -- the item that is met

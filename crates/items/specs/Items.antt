@@ -2,7 +2,7 @@
 use Rattle.std.specs.Prelude.{Bool, List, ℕ, ltb}
 use Rattle.std.proofs.Math.Option.{some}
 use Rattle.maps.specs.Keyed.{lookup}
-use Rattle.maps.specs.Walk.{is_some}
+use Rattle.maps.specs.Walk.{isSome}
 use Rattle.maps.specs.Compare.{Rules, unmatched, matched, between, compare}
 use Rattle.parts.specs.Promise.{DeclHere, declIn, ItemOf, ItemHere, ItemsHere, ordinalIn}
 use Rattle.parts.specs.declared.Shape.{Shape}
@@ -10,7 +10,7 @@ use Rattle.parts.specs.declared.Run.{Run}
 use Rattle.rules.specs.Changes.{Change, level}
 use Rattle.rules.specs.Clauses.{fieldRules, enumBump, enumRules, flagsRules, unionRules}
 use Rattle.survivors.specs.Answers.{placeMap, ItemSurvives, ItemFollows}
-use Rattle.survivors.specs.Runs.{itemIn, itemOrdinal, itemMap, items_of}
+use Rattle.survivors.specs.Runs.{itemIn, itemOrdinal, itemMap, itemsOf}
 use Rattle.survivors.specs.declared.Found.{Found}
 use Rattle.survivors.specs.declared.Ordinal.{Ordinal}
 use Rattle.survivors.specs.declared.Next.{Next}
@@ -21,7 +21,7 @@ use Rattle.details.specs.Details.{declarationOf, ScopeHere}
 use Rattle.lines.specs.Clauses.{fieldRemoved, fieldAdded, variantRemoved, variantAdded, bitRemoved, bitAdded}
 use Rattle.details.specs.declared.Scope.{Scope}
 use Rattle.lines.specs.declared.Site.{Site}
-use Rattle.items.specs.Pairs.{context_of, BothAccepted}
+use Rattle.items.specs.Pairs.{contextOf, BothAccepted}
 use Rattle.items.specs.Sides.{on, off}
 use Rattle.items.specs.declared.Side.{Side}
 use Rattle.items.specs.declared.Side.TheVariants as side
@@ -32,17 +32,17 @@ use Rattle.items.specs.declared.Walk.{Walk}
 
 -- ---- whose items they are
 
-abbrev pub shape_of : Owner → Shape
-shape_of (owner.Fields c) = Shape.Field
-shape_of (owner.Enum i j) = Shape.Bare
-shape_of (owner.Flags i) = Shape.Bare
-shape_of (owner.Union i) = Shape.Variant
+abbrev pub shapeOf : Owner → Shape
+shapeOf (owner.Fields c) = Shape.Field
+shapeOf (owner.Enum i j) = Shape.Bare
+shapeOf (owner.Flags i) = Shape.Bare
+shapeOf (owner.Union i) = Shape.Variant
 
-abbrev pub rulesOf : Reading → List ℕ → List ℕ → (o : Owner) → Rules (ItemOf (shape_of o)) Change
-rulesOf reading old new (owner.Fields c) = fieldRules (context_of reading old new) (declarationOf old new c)
+abbrev pub rulesOf : Reading → List ℕ → List ℕ → (o : Owner) → Rules (ItemOf (shapeOf o)) Change
+rulesOf reading old new (owner.Fields c) = fieldRules (contextOf reading old new) (declarationOf old new c)
 rulesOf reading old new (owner.Enum i j) = enumRules (declIn old i).name (declIn new j).marks
 rulesOf reading old new (owner.Flags i) = flagsRules (declIn old i).name
-rulesOf reading old new (owner.Union i) = unionRules (context_of reading old new) (declIn old i).name
+rulesOf reading old new (owner.Union i) = unionRules (contextOf reading old new) (declIn old i).name
 
 unfoldable pub OwnerHere : List ℕ → List ℕ → Owner → Type 0
 OwnerHere old new (owner.Fields c) = ScopeHere old new c
@@ -53,7 +53,7 @@ OwnerHere old new (owner.Union i) = DeclHere old i
 pub record ItemsIn (old new : List ℕ) (x : Items) : Type 0 where
   pub accepted : BothAccepted old new
   pub owner : OwnerHere old new x.of
-  pub here : ItemsHere (shape_of x.of) old x.old.count x.old.start × ItemsHere (shape_of x.of) new x.new.count x.new.start
+  pub here : ItemsHere (shapeOf x.of) old x.old.count x.old.start × ItemsHere (shapeOf x.of) new x.new.count x.new.start
 
 -- the fields of what a scope names
 abbrev pub fieldItems : Scope → Run → Run → Items
@@ -65,14 +65,14 @@ unionItems i a b = record { of = owner.Union i; old = a; new = b }
 
 module _ (old new : List ℕ) (x : Items) where
   abbrev pub shape : Shape
-  shape = shape_of x.of
+  shape = shapeOf x.of
 
   -- the items that stand on a side, and on the other
   abbrev pub standing : Side → List (ItemOf shape)
-  standing s = itemMap shape (items_of shape (on s old new) (on s x.old x.new))
+  standing s = itemMap shape (itemsOf shape (on s old new) (on s x.old x.new))
 
   abbrev pub standingOff : Side → List (ItemOf shape)
-  standingOff s = itemMap shape (items_of shape (off s old new) (off s x.old x.new))
+  standingOff s = itemMap shape (itemsOf shape (off s old new) (off s x.old x.new))
 
   -- ---- what the searches answer: the item that comes next on a side, and what stands under an ordinal on the other
 
@@ -80,7 +80,7 @@ module _ (old new : List ℕ) (x : Items) where
   NextOn s after r = ItemFollows shape (on s old new) (on s x.old x.new) after r
 
   abbrev pub hasOff : Side → ℕ → Bool
-  hasOff s k = is_some (lookup (ordinalIn (off s old new)) ltb k (placeMap shape (off s old new) (off s x.old x.new)))
+  hasOff s k = isSome (lookup (ordinalIn (off s old new)) ltb k (placeMap shape (off s old new) (off s x.old x.new)))
 
   abbrev pub FoundOff : Side → ℕ → Found → Type 0
   FoundOff s k r = ItemSurvives shape (off s old new) (off s x.old x.new) k r
@@ -108,8 +108,8 @@ module _ (reading : Reading) (old new : List ℕ) (x : Items) where
   keptItems = between (itemOrdinal (shape old new x)) ltb (matched rules.kept) (standing old new x side.Old) (standing old new x side.New)
 
   -- of one ordinal, under which the old item at a place stands
-  unfoldable pub kept_at : ℕ → ℕ → List Change
-  kept_at k at = matched rules.kept (some (itemIn (shape old new x) old at)) (lookup (itemOrdinal (shape old new x)) ltb k (standing old new x side.New))
+  unfoldable pub keptAt : ℕ → ℕ → List Change
+  keptAt k at = matched rules.kept (some (itemIn (shape old new x) old at)) (lookup (itemOrdinal (shape old new x)) ltb k (standing old new x side.New))
 
   -- ---- all of them
 
@@ -133,7 +133,7 @@ abbrev pub keptFields : Reading → List ℕ → List ℕ → Scope → Run → 
 keptFields reading old new c a b = keptItems reading old new (fieldItems c a b)
 
 abbrev pub keptField : Reading → List ℕ → List ℕ → Scope → Run → Run → ℕ → ℕ → List Change
-keptField reading old new c a b k i = kept_at reading old new (fieldItems c a b) k i
+keptField reading old new c a b k i = keptAt reading old new (fieldItems c a b) k i
 
 abbrev pub fieldChanges : Reading → List ℕ → List ℕ → Scope → Run → Run → List Change
 fieldChanges reading old new c a b = itemChanges reading old new (fieldItems c a b)
@@ -148,7 +148,7 @@ abbrev pub keptVariants : Reading → List ℕ → List ℕ → ℕ → Run → 
 keptVariants reading old new d a b = keptItems reading old new (unionItems d a b)
 
 abbrev pub keptVariant : Reading → List ℕ → List ℕ → ℕ → Run → Run → ℕ → ℕ → List Change
-keptVariant reading old new d a b k i = kept_at reading old new (unionItems d a b) k i
+keptVariant reading old new d a b k i = keptAt reading old new (unionItems d a b) k i
 
 -- ---- the sites of an item at a place
 

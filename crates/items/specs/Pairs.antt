@@ -5,9 +5,9 @@ use Rattle.parts.specs.Promise.{Accepted, schemaOf, TypeHere, DeclHere, declIn, 
 use Rattle.parts.specs.declared.Shape.{Shape}
 use Rattle.rules.specs.Changes.{Change, only}
 use Rattle.rules.specs.Equal.{sameOption}
-use Rattle.rules.specs.Clauses.{Context, context, sameEncoding, compareFields, compareMessages, compareEnums, compare_flags, compareUnions, compareNewtypes}
+use Rattle.rules.specs.Clauses.{Context, context, sameEncoding, compareFields, compareMessages, compareEnums, compareFlags, compareUnions, compareNewtypes}
 use Rattle.types.specs.Resolved.{typeIn}
-use Rattle.types.specs.Readings.{reading_of}
+use Rattle.types.specs.Readings.{readingOf}
 use Rattle.types.specs.declared.Reading.{Reading}
 use Rattle.details.specs.Details.{declarationOf, ScopeHere}
 use Rattle.details.specs.declared.Scope.{Scope}
@@ -15,8 +15,8 @@ use Rattle.lines.specs.Sites.{changeOf, SiteHere}
 use Rattle.lines.specs.declared.Site.{Site}
 
 -- what the clauses compare types by: how these are read, each with its own image's registry
-abbrev pub context_of : Reading → List ℕ → List ℕ → Context
-context_of reading old new = context (reading_of reading) (schemaOf old).registry (schemaOf new).registry
+abbrev pub contextOf : Reading → List ℕ → List ℕ → Context
+contextOf reading old new = context (readingOf reading) (schemaOf old).registry (schemaOf new).registry
 
 abbrev pub BothAccepted : List ℕ → List ℕ → Type 0
 BothAccepted old new = Accepted old × Accepted new
@@ -33,7 +33,7 @@ pub record KindPair (kind : ℕ) (old new : List ℕ) (i j : ℕ) : Type 0 where
 
 -- what a clause reports of them, under the old one's name
 abbrev pub ofPair : (Context → Name → Decl → Decl → List Change) → Reading → List ℕ → List ℕ → ℕ → ℕ → List Change
-ofPair clause reading old new i j = clause (context_of reading old new) (declIn old i).name (declIn old i) (declIn new j)
+ofPair clause reading old new i j = clause (contextOf reading old new) (declIn old i).name (declIn old i) (declIn new j)
 
 abbrev pub ofMessages : Reading → List ℕ → List ℕ → ℕ → ℕ → List Change
 ofMessages = ofPair compareMessages
@@ -42,7 +42,7 @@ abbrev pub ofEnums : Reading → List ℕ → List ℕ → ℕ → ℕ → List 
 ofEnums = ofPair (λ r. compareEnums)
 
 abbrev pub ofFlags : Reading → List ℕ → List ℕ → ℕ → ℕ → List Change
-ofFlags = ofPair (λ r. compare_flags)
+ofFlags = ofPair (λ r. compareFlags)
 
 abbrev pub ofUnions : Reading → List ℕ → List ℕ → ℕ → ℕ → List Change
 ofUnions = ofPair compareUnions
@@ -57,7 +57,7 @@ pub record TypePair (old new : List ℕ) (i j : ℕ) (c : Site) : Type 0 where
   pub site : SiteHere old new c
 
 abbrev pub typesDiffer : Reading → List ℕ → List ℕ → ℕ → ℕ → Bool
-typesDiffer reading old new i j = not ((reading_of reading).same (typeIn old i) (typeIn new j))
+typesDiffer reading old new i j = not ((readingOf reading).same (typeIn old i) (typeIn new j))
 
 abbrev pub ofTypes : Reading → List ℕ → List ℕ → ℕ → ℕ → Site → List Change
 ofTypes reading old new i j site = only (typesDiffer reading old new i j) (changeOf old new site)
@@ -72,5 +72,5 @@ pub record FieldPair (old new : List ℕ) (c : Scope) (i j : ℕ) : Type 0 where
   pub scope : ScopeHere old new c
   pub here : ItemHere Shape.Field old i × ItemHere Shape.Field new j
 
-abbrev pub of_fields : Reading → List ℕ → List ℕ → Scope → ℕ → ℕ → List Change
-of_fields reading old new c i j = compareFields (context_of reading old new) (declarationOf old new c) (fieldIn old i) (fieldIn new j)
+abbrev pub ofFields : Reading → List ℕ → List ℕ → Scope → ℕ → ℕ → List Change
+ofFields reading old new c i j = compareFields (contextOf reading old new) (declarationOf old new c) (fieldIn old i) (fieldIn new j)

@@ -1,5 +1,7 @@
 // Two runs of numbered items: what stands on one side only, by rising ordinal, in one walk for fields, variants and bits, removed or
 // added.
+#![tactic(auto)]
+
 pub mod sides;
 mod sites;
 pub mod unmatched;

@@ -1,6 +1,6 @@
 // The searches among the items of a side, or of the other: all that a walk over items asks.
 ghost use Rattle.std.specs.Prelude.{◌≡◌};
-ghost use Rattle.items.specs.Items.{shape_of, ItemsIn, NextOn, hasOff, FoundOff};
+ghost use Rattle.items.specs.Items.{shapeOf, ItemsIn, NextOn, hasOff, FoundOff};
 
 use crate::{Items, Owner, Side};
 use parts::Shape;
@@ -8,7 +8,7 @@ use survivors::items::{has_item, next_item, survivor_item};
 use survivors::{Found, Next, Ordinal};
 
 fn shape_of(of: Owner) -> Shape
-    ensures { result ≡ shape_of of }
+    ensures { result ≡ shapeOf of }
 {
     match of {
         Owner::Fields(_) => Shape::Field,

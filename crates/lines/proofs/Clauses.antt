@@ -23,7 +23,7 @@ use Rattle.tally.specs.Reporting.{Ready, Ran}
 use Rattle.tally.specs.declared.Tally.{Tally}
 use Rattle.tally.proofs.Running.{ran-none}
 use Rattle.lines.specs.Sites.{bumpAt, changeOf, SiteHere}
-use Rattle.details.specs.Details.{declarationOf, item_of, wordText, itemText, newtypeText, fieldNameText, fieldOrdinalText, subjectText, verbText, valueText, valuesText, detailText, ScopeHere, ItemOfHere, SubjectHere, ValueHere, ValuesHere}
+use Rattle.details.specs.Details.{declarationOf, itemOf, wordText, itemText, newtypeText, fieldNameText, fieldOrdinalText, subjectText, verbText, valueText, valuesText, detailText, ScopeHere, ItemOfHere, SubjectHere, ValueHere, ValuesHere}
 use Rattle.lines.specs.Clauses.{namespaceChanged, declRemoved, declAdded, kindChanged, fieldRemoved, fieldAdded, fieldRenamed, fieldTypeChanged, fieldEncodingChanged, fieldDeprecated, declDeprecated, nonExhaustiveChanged, variantRemoved, variantAdded, bitRemoved, bitAdded, newtypeChanged}
 use Rattle.details.specs.declared.Scope.{Scope}
 use Rattle.details.specs.declared.Word.{Word}
@@ -121,28 +121,28 @@ module _ (old new : List ℕ) (a : Accepted old) (b : Accepted new) where
   pub namespace-changed :
       Reports old new namespaceChanged (not (sameNames (schemaOf old).namespace (schemaOf new).namespace))
       (compareNamespaces (schemaOf old).namespace (schemaOf new).namespace)
-  unfolding changeOf bumpAt declarationOf item_of detailText subjectText verbText valuesText valueText bytes ScopeHere ItemOfHere SubjectHere ValuesHere ValueHere compareNamespaces
+  unfolding changeOf bumpAt declarationOf itemOf detailText subjectText verbText valuesText valueText bytes ScopeHere ItemOfHere SubjectHere ValuesHere ValueHere compareNamespaces
   namespace-changed = record { here = places namespaceChanged (omega arith) (omega arith) tt tt tt (tt, tt); are = refl }
 
   -- ---- 2. and 3. declarations
 
   module _ (r : Context) where
     pub decl-removed : (i : ℕ) → DeclHere old i → Reports old new (declRemoved i) true ((declRules r).gone (declIn old i))
-    unfolding changeOf bumpAt declarationOf item_of detailText subjectText verbText valuesText valueText bytes ScopeHere ItemOfHere SubjectHere ValuesHere ValueHere declRules
+    unfolding changeOf bumpAt declarationOf itemOf detailText subjectText verbText valuesText valueText bytes ScopeHere ItemOfHere SubjectHere ValuesHere ValueHere declRules
     decl-removed i h = record {
       here = places (declRemoved i) (omega arith) (omega arith) h tt h tt;
       are = always (same-change refl (said (declText (declIn old i)) (bytes " was removed")));
     }
 
     pub decl-added : (j : ℕ) → DeclHere new j → Reports old new (declAdded j) true ((declRules r).came (declIn new j))
-    unfolding changeOf bumpAt declarationOf item_of detailText subjectText verbText valuesText valueText bytes ScopeHere ItemOfHere SubjectHere ValuesHere ValueHere declRules
+    unfolding changeOf bumpAt declarationOf itemOf detailText subjectText verbText valuesText valueText bytes ScopeHere ItemOfHere SubjectHere ValuesHere ValueHere declRules
     decl-added j h = record {
       here = places (declAdded j) (omega arith) (omega arith) h tt h tt;
       are = always (same-change refl (said (declText (declIn new j)) (bytes " was added")));
     }
 
   pub kind-changed : (i j : ℕ) → DeclHere old i → DeclHere new j → Reports old new (kindChanged i j) true (kindsDiffer (declIn old i) (declIn new j))
-  unfolding changeOf bumpAt declarationOf item_of detailText subjectText verbText valuesText valueText bytes ScopeHere ItemOfHere SubjectHere ValuesHere ValueHere kindsDiffer
+  unfolding changeOf bumpAt declarationOf itemOf detailText subjectText verbText valuesText valueText bytes ScopeHere ItemOfHere SubjectHere ValuesHere ValueHere kindsDiffer
   kind-changed i j g h = record { here = places (kindChanged i j) (omega arith) (omega arith) g tt g (g, h); are = always refl }
 
   -- ---- 4. fields, and a message's own deprecation
@@ -151,7 +151,7 @@ module _ (old new : List ℕ) (a : Accepted old) (b : Accepted new) where
     module _ (r : Context) where
       pub field-removed : (i : ℕ) → ItemHere Shape.Field old i
           → Reports old new (fieldRemoved c i) true ((fieldRules r (declarationOf old new c)).gone (fieldIn old i))
-      unfolding changeOf bumpAt declarationOf item_of detailText subjectText verbText valuesText valueText bytes ScopeHere ItemOfHere SubjectHere ValuesHere ValueHere fieldRules fieldText wordText
+      unfolding changeOf bumpAt declarationOf itemOf detailText subjectText verbText valuesText valueText bytes ScopeHere ItemOfHere SubjectHere ValuesHere ValueHere fieldRules fieldText wordText
       field-removed i h =
           let n = field-named h in
           record {
@@ -161,7 +161,7 @@ module _ (old new : List ℕ) (a : Accepted old) (b : Accepted new) where
 
       pub field-added : (j : ℕ) → ItemHere Shape.Field new j
           → Reports old new (fieldAdded c j) true ((fieldRules r (declarationOf old new c)).came (fieldIn new j))
-      unfolding changeOf bumpAt declarationOf item_of detailText subjectText verbText valuesText valueText bytes ScopeHere ItemOfHere SubjectHere ValuesHere ValueHere fieldRules fieldText wordText
+      unfolding changeOf bumpAt declarationOf itemOf detailText subjectText verbText valuesText valueText bytes ScopeHere ItemOfHere SubjectHere ValuesHere ValueHere fieldRules fieldText wordText
       field-added j h =
           let n = field-named h in
           record {
@@ -172,7 +172,7 @@ module _ (old new : List ℕ) (a : Accepted old) (b : Accepted new) where
     module _ (i j : ℕ) (g : ItemHere Shape.Field old i) (h : ItemHere Shape.Field new j) where
       pub field-renamed : Reports old new (fieldRenamed c i j) (not (sameName (itemName old i) (itemName new j)))
           (compareFieldNames (declarationOf old new c) (fieldIn old i) (fieldIn new j))
-      unfolding changeOf bumpAt declarationOf item_of detailText subjectText verbText valuesText valueText bytes ScopeHere ItemOfHere SubjectHere ValuesHere ValueHere fieldOrdinalText compareFieldNames
+      unfolding changeOf bumpAt declarationOf itemOf detailText subjectText verbText valuesText valueText bytes ScopeHere ItemOfHere SubjectHere ValuesHere ValueHere fieldOrdinalText compareFieldNames
       field-renamed =
           let n = field-named h in
           let p = field-name old i g in
@@ -186,7 +186,7 @@ module _ (old new : List ℕ) (a : Accepted old) (b : Accepted new) where
           (not (by.same (resolve (schemaOf old).registry (treeIn old (typePlace old i))) (resolve (schemaOf new).registry (treeIn new (typePlace new j)))))
           (compareTypes (context by (schemaOf old).registry (schemaOf new).registry) (declarationOf old new c) (some (fieldIn new j).name)
           (fieldText (fieldIn new j)) (fieldIn old i).type (fieldIn new j).type)
-      unfolding changeOf bumpAt declarationOf item_of detailText subjectText verbText valuesText valueText bytes ScopeHere ItemOfHere SubjectHere ValuesHere ValueHere compareTypes fieldText wordText itemText
+      unfolding changeOf bumpAt declarationOf itemOf detailText subjectText verbText valuesText valueText bytes ScopeHere ItemOfHere SubjectHere ValuesHere ValueHere compareTypes fieldText wordText itemText
       field-type-changed by =
           let n = field-named h in
           record {
@@ -197,7 +197,7 @@ module _ (old new : List ℕ) (a : Accepted old) (b : Accepted new) where
       pub field-encoding-changed : Reports old new (fieldEncodingChanged c i j)
           (not (sameEncoding (fieldIn old i).encoding (fieldIn new j).encoding && sameOption eqb (fieldIn old i).limit (fieldIn new j).limit))
           (compareEncodings (declarationOf old new c) (fieldIn old i) (fieldIn new j))
-      unfolding changeOf bumpAt declarationOf item_of detailText subjectText verbText valuesText valueText bytes ScopeHere ItemOfHere SubjectHere ValuesHere ValueHere compareEncodings fieldText wordText itemText
+      unfolding changeOf bumpAt declarationOf itemOf detailText subjectText verbText valuesText valueText bytes ScopeHere ItemOfHere SubjectHere ValuesHere ValueHere compareEncodings fieldText wordText itemText
       field-encoding-changed =
           let n = field-named h in
           record {
@@ -209,7 +209,7 @@ module _ (old new : List ℕ) (a : Accepted old) (b : Accepted new) where
           (not (fieldIn old i).marks.deprecated && (fieldIn new j).marks.deprecated)
           (compareDeprecated (declarationOf old new c) (some (fieldIn new j).name) (bytes "field " ++ quoted (fieldIn new j).name)
           (fieldIn old i).marks (fieldIn new j).marks)
-      unfolding changeOf bumpAt declarationOf item_of detailText subjectText verbText valuesText valueText bytes ScopeHere ItemOfHere SubjectHere ValuesHere ValueHere fieldNameText compareDeprecated
+      unfolding changeOf bumpAt declarationOf itemOf detailText subjectText verbText valuesText valueText bytes ScopeHere ItemOfHere SubjectHere ValuesHere ValueHere fieldNameText compareDeprecated
       field-deprecated =
           let n = field-named h in
           record {
@@ -221,7 +221,7 @@ module _ (old new : List ℕ) (a : Accepted old) (b : Accepted new) where
     pub decl-deprecated : Reports old new (declDeprecated i)
         (not (declIn old i).marks.deprecated && (declIn new j).marks.deprecated)
         (compareDeprecated (declIn old i).name none (bytes "declaration") (declIn old i).marks (declIn new j).marks)
-    unfolding changeOf bumpAt declarationOf item_of detailText subjectText verbText valuesText valueText bytes ScopeHere ItemOfHere SubjectHere ValuesHere ValueHere compareDeprecated
+    unfolding changeOf bumpAt declarationOf itemOf detailText subjectText verbText valuesText valueText bytes ScopeHere ItemOfHere SubjectHere ValuesHere ValueHere compareDeprecated
     decl-deprecated = record { here = places (declDeprecated i) (omega arith) (omega arith) g tt tt tt; are = refl }
 
     -- ---- 5. and 7. variants of enums and of unions
@@ -229,13 +229,13 @@ module _ (old new : List ℕ) (a : Accepted old) (b : Accepted new) where
     pub non-exhaustive-changed : Reports old new (nonExhaustiveChanged i j)
         (not (beq (declIn old i).marks.nonExhaustive (declIn new j).marks.nonExhaustive))
         (compareNonExhaustive (declIn old i).name (declIn old i).marks (declIn new j).marks)
-    unfolding changeOf bumpAt declarationOf item_of detailText subjectText verbText valuesText valueText bytes ScopeHere ItemOfHere SubjectHere ValuesHere ValueHere compareNonExhaustive
+    unfolding changeOf bumpAt declarationOf itemOf detailText subjectText verbText valuesText valueText bytes ScopeHere ItemOfHere SubjectHere ValuesHere ValueHere compareNonExhaustive
     non-exhaustive-changed = record { here = places (nonExhaustiveChanged i j) (omega arith) (omega arith) g tt tt (g, h); are = refl }
 
   module _ (d : ℕ) (g : DeclHere old d) where
     module _ (v : Variant) where
       pub variant-removed : (i : ℕ) → Named old i v.name v.ordinal → Reports old new (variantRemoved d i) true (variantGone (declIn old d).name v)
-      unfolding changeOf bumpAt declarationOf item_of detailText subjectText verbText valuesText valueText bytes ScopeHere ItemOfHere SubjectHere ValuesHere ValueHere variantGone variantText wordText
+      unfolding changeOf bumpAt declarationOf itemOf detailText subjectText verbText valuesText valueText bytes ScopeHere ItemOfHere SubjectHere ValuesHere ValueHere variantGone variantText wordText
       variant-removed i n = record {
         here = places (variantRemoved d i) (omega arith) (omega arith) g n.here n.here tt;
         are = always (same-change (ap some n.called) (item-said n Word.Variant (bytes " was removed")));
@@ -243,7 +243,7 @@ module _ (old new : List ℕ) (a : Accepted old) (b : Accepted new) where
 
       pub variant-added : (b : Bump) (j : ℕ) → Named new j v.name v.ordinal
           → Reports old new (variantAdded (level b) d j) true (variantCame b (declIn old d).name v)
-      unfolding changeOf declarationOf item_of detailText subjectText verbText valuesText valueText bytes ScopeHere ItemOfHere SubjectHere ValuesHere ValueHere variantCame variantText wordText
+      unfolding changeOf declarationOf itemOf detailText subjectText verbText valuesText valueText bytes ScopeHere ItemOfHere SubjectHere ValuesHere ValueHere variantCame variantText wordText
       variant-added b j n = record {
         here = places (variantAdded (level b) d j) (omega arith) (bump-bound b) g n.here n.here tt;
         are = always (rw (bump-level b) (same-change (ap some n.called) (item-said n Word.Variant (bytes " was added"))));
@@ -252,14 +252,14 @@ module _ (old new : List ℕ) (a : Accepted old) (b : Accepted new) where
     -- ---- 6. flags
 
     pub bit-removed : (i : ℕ) → ItemHere Shape.Bare old i → Reports old new (bitRemoved d i) true ((flagsRules (declIn old d).name).gone (bareIn old i))
-    unfolding changeOf bumpAt declarationOf item_of detailText subjectText verbText valuesText valueText bytes ScopeHere ItemOfHere SubjectHere ValuesHere ValueHere flagsRules bitText wordText
+    unfolding changeOf bumpAt declarationOf itemOf detailText subjectText verbText valuesText valueText bytes ScopeHere ItemOfHere SubjectHere ValuesHere ValueHere flagsRules bitText wordText
     bit-removed i h = record {
       here = places (bitRemoved d i) (omega arith) (omega arith) g h h tt;
       are = always (same-change refl (item-said (bare-named h) Word.Bit (bytes " was removed")));
     }
 
     pub bit_added : (j : ℕ) → ItemHere Shape.Bare new j → Reports old new (bitAdded d j) true ((flagsRules (declIn old d).name).came (bareIn new j))
-    unfolding changeOf bumpAt declarationOf item_of detailText subjectText verbText valuesText valueText bytes ScopeHere ItemOfHere SubjectHere ValuesHere ValueHere flagsRules bitText wordText
+    unfolding changeOf bumpAt declarationOf itemOf detailText subjectText verbText valuesText valueText bytes ScopeHere ItemOfHere SubjectHere ValuesHere ValueHere flagsRules bitText wordText
     bit_added j h = record {
       here = places (bitAdded d j) (omega arith) (omega arith) g h h tt;
       are = always (same-change refl (item-said (bare-named h) Word.Bit (bytes " was added")));
@@ -271,7 +271,7 @@ module _ (old new : List ℕ) (a : Accepted old) (b : Accepted new) where
     pub newtype-changed : (by : Reading) → Reports old new (newtypeChanged i (innerPlace old i) (innerPlace new j))
         (not (by.same (resolve (schemaOf old).registry (treeIn old (innerPlace old i))) (resolve (schemaOf new).registry (treeIn new (innerPlace new j)))))
         (compareNewtypes (context by (schemaOf old).registry (schemaOf new).registry) (declIn old i).name (declIn old i) (declIn new j))
-    unfolding changeOf bumpAt declarationOf item_of detailText subjectText verbText valuesText valueText bytes ScopeHere ItemOfHere SubjectHere ValuesHere ValueHere newtypeText compareNewtypes compareTypes
+    unfolding changeOf bumpAt declarationOf itemOf detailText subjectText verbText valuesText valueText bytes ScopeHere ItemOfHere SubjectHere ValuesHere ValueHere newtypeText compareNewtypes compareTypes
     newtype-changed by = record {
       here = places (newtypeChanged i (innerPlace old i) (innerPlace new j)) (omega arith) (omega arith) g tt g (inner-here old i g e, inner-here new j h f);
       are = rw (inner-tree old i g e, inner-tree new j h f);

@@ -6,14 +6,14 @@ use Prim.Native.Nat.{ℕ, zero, suc, ◌≤◌, ◌<◌}
 use native.Mathlib.Omega.{arith}
 use lib.Dec.{eqb}
 use Rattle.rules.specs.Changes.{level, Change}
-use Rattle.rules.specs.Verdict.{result_at}
+use Rattle.rules.specs.Verdict.{resultAt}
 use Rattle.rules.specs.Report.{changeWord, bumpWord, fieldPart, changeLine, lastLine}
 use Rattle.text.proofs.Pieces.{together}
 use Rattle.tally.specs.Tallies.{TallyOf}
 use Rattle.tally.specs.declared.Tally.{Tally}
 use Rattle.tally.proofs.Lines.{linePieces, line-pieces}
 use Rattle.lines.specs.Sites.{bumpAt, changeOf}
-use Rattle.details.specs.Details.{declarationOf, item_of, detailText}
+use Rattle.details.specs.Details.{declarationOf, itemOf, detailText}
 use Rattle.lines.specs.Last.{lastLineOf}
 use Rattle.lines.specs.declared.Site.{Site}
 
@@ -29,14 +29,14 @@ pub site-line :
     → s.bump.level ≤ 2
     → changeLine (changeOf old new s)
     ≡ together (linePieces (changeWord s.kind ∷ bumpWord s.bump.level ∷ declarationOf old new s.scope
-    ∷ fieldPart (item_of old new s.item) ∷ detailText old new s.detail ∷ []))
+    ∷ fieldPart (itemOf old new s.item) ∷ detailText old new s.detail ∷ []))
 unfolding changeLine changeOf
 site-line old new s h =
     rw (level-bump s.bump.level h)
     (line-pieces (changeWord s.kind ∷ bumpWord s.bump.level ∷ declarationOf old new s.scope
-    ∷ fieldPart (item_of old new s.item) ∷ detailText old new s.detail ∷ []))
+    ∷ fieldPart (itemOf old new s.item) ∷ detailText old new s.detail ∷ []))
 
-pub result-most : (l : ℕ) → result_at l < 2
+pub result-most : (l : ℕ) → resultAt l < 2
 result-most l = go (eqb l 2)
   where
     go : (b : Bool) → cond b 1 0 < 2

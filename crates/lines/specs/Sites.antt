@@ -2,7 +2,7 @@
 -- Assumes nothing.
 use Rattle.std.specs.Prelude.{List, ℕ, zero, suc, ◌≤◌, ◌<◌}
 use Rattle.rules.specs.Changes.{Bump, patch, minor, major, kindCount, Change, change}
-use Rattle.details.specs.Details.{declarationOf, item_of, detailText, ScopeHere, ItemOfHere, DetailHere}
+use Rattle.details.specs.Details.{declarationOf, itemOf, detailText, ScopeHere, ItemOfHere, DetailHere}
 use Rattle.lines.specs.declared.Site.{Site}
 
 -- the bump of a level
@@ -13,7 +13,7 @@ bumpAt (suc (suc n)) = major
 
 unfoldable pub changeOf : List ℕ → List ℕ → Site → Change
 changeOf old new s =
-    change s.kind (bumpAt s.bump.level) (declarationOf old new s.scope) (item_of old new s.item) (detailText old new s.detail)
+    change s.kind (bumpAt s.bump.level) (declarationOf old new s.scope) (itemOf old new s.item) (detailText old new s.detail)
 
 pub record SiteHere (old new : List ℕ) (s : Site) : Type 0 where
   pub known : s.kind < kindCount

@@ -1,4 +1,6 @@
 // Changes and their lines: where a change is, and the one place where it is counted and its line measured or written.
+#![tactic(auto)]
+
 pub mod reporting;
 pub mod sites;
 

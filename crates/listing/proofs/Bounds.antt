@@ -11,15 +11,15 @@ use Rattle.parts.specs.Promise.{Accepted, schemaOf}
 use Rattle.parts.proofs.Promise.{accepted-most, entries-most, entry-short}
 use Rattle.rules.proofs.Texts.{kind-length}
 use Rattle.text.proofs.Numbers.{decimal-length}
-use Rattle.listing.specs.Listing.{line_of, entryLine, entryText, lines_from, listing}
+use Rattle.listing.specs.Listing.{lineOf, entryLine, entryText, linesFrom, listing}
 
-line-length : (id kind : ℕ) (name : Name) → length (line_of id kind name) ≤ 36 + length name
-unfolding line_of bytes
+line-length : (id kind : ℕ) (name : Name) → length (lineOf id kind name) ≤ 36 + length name
+unfolding lineOf bytes
 line-length id kind name = simp length-append (omega (arith, decimal-length id, kind-length kind))
 
 lines-length : (most id : ℕ) (R : List (Option Decl)) → ((j : ℕ) → j < length R → (i : ℕ) → length (entryText i (get_or R j none)) ≤ most)
-    → length (lines_from id R) ≤ most * length R
-unfolding lines_from
+    → length (linesFrom id R) ≤ most * length R
+unfolding linesFrom
 lines-length most id [] h = omega arith
 lines-length most id (e ∷ R) h = simp length-append (omega (arith, h 0 (omega arith) id, lines-length most (suc id) R (λ j l. h (suc j) (omega arith))))
 
@@ -35,7 +35,7 @@ module _ (s : List ℕ) (g : Accepted s) where
       go none q = omega arith
       go (some d) q = omega (arith, line-length i d.kind d.name, entry-short s g j l d q, accepted-most s g)
 
-  lines-small : (id : ℕ) → length (lines_from id (schemaOf s).registry) < 2 ^ 62
+  lines-small : (id : ℕ) → length (linesFrom id (schemaOf s).registry) < 2 ^ 62
   lines-small id = omega (arith, lines-length 32804 id (schemaOf s).registry short, few)
 
   pub listing-small : length (listing (schemaOf s)) < 2 ^ 62

@@ -9,22 +9,22 @@ use lib.ListN.{length, get_or, drop, drop_of_length-le}
 use Rattle.image.specs.Schema.{Name, Decl}
 use Rattle.parts.specs.Promise.{schemaOf, DeclHere, declIn, BodyIn, bytesIn}
 use Rattle.parts.proofs.Promise.{decl-most}
-use Rattle.text.specs.Text.{Space, Puts, start_in}
+use Rattle.text.specs.Text.{Space, Puts, startIn}
 use Rattle.text.specs.declared.Mode.{Mode}
 use Rattle.text.proofs.Writing.{in-nil}
 use Rattle.text.proofs.Pieces.{together, Owes, owes-start, owes-cut, owes-room, owes-next, owes-end}
 use Rattle.text.proofs.Lending.{part, withPart, Lent, lent}
-use Rattle.listing.specs.Listing.{line_of, entryLine, entryText, lines_from}
+use Rattle.listing.specs.Listing.{lineOf, entryLine, entryText, linesFrom}
 
 -- ---- one entry
 
 -- the line of a kind and a name that are those of the declaration at the start of a body
 module _ (s : List ℕ) (id : ℕ) {m : Mode} {d : List ℕ} {k : ℕ} {n : Name} (p : k ≡ (declIn s 0).kind) (q : n ≡ (declIn s 0).name) where
-  pub line-ready : DeclHere s 0 → Space m d 0 (length (entryLine id (declIn s 0))) → (k ≤ 8) × Space m d 0 (length (line_of id k n))
+  pub line-ready : DeclHere s 0 → Space m d 0 (length (entryLine id (declIn s 0))) → (k ≤ 8) × Space m d 0 (length (lineOf id k n))
   unfolding entryLine
   line-ready here space = (omega (arith, decl-most s 0 here), rw (p, q) space)
 
-  pub line-puts : {r : ℕ} {d' : List ℕ} → Puts m d 0 (line_of id k n) r d' → Puts m d 0 (entryLine id (declIn s 0)) r d'
+  pub line-puts : {r : ℕ} {d' : List ℕ} → Puts m d 0 (lineOf id k n) r d' → Puts m d 0 (entryLine id (declIn s 0)) r d'
   unfolding entryLine
   line-puts w = rw (p, q) at w
 
@@ -35,7 +35,7 @@ none-puts {m} {d} {at} id e = rw e record { end = omega arith; bytes = sym (in-n
 
 -- one with a body, whose line's writer is lent the part of the buffer from a on
 module _ {m : Mode} {s d : List ℕ} {at id from count a : ℕ} (b : BodyIn s id from count)
-    (space : Space m d at (length (entryText id (get_or (schemaOf s).registry id none)))) (e : a ≡ start_in m at) where
+    (space : Space m d at (length (entryText id (get_or (schemaOf s).registry id none)))) (e : a ≡ startIn m at) where
   is : entryText id (get_or (schemaOf s).registry id none) ≡ entryLine id (declIn (bytesIn s from count) 0)
   unfolding entryText
   is = ap (entryText id) b.is
@@ -57,27 +57,27 @@ next-drop d (x ∷ l) (suc i) h = next-drop d l i (omega arith)
 module _ (R : List (Option Decl)) where
   -- the lines of the entries from an id on
   abbrev pub linesAt : ℕ → List ℕ
-  linesAt id = lines_from id (drop id R)
+  linesAt id = linesFrom id (drop id R)
 
   turn : (id : ℕ) → id < length R → linesAt id ≡ entryText id (get_or R id none) ++ linesAt (id + 1)
-  unfolding lines_from
-  turn id h = ap (lines_from id) (next-drop none R id h) ∙ rw (add-one id)
+  unfolding linesFrom
+  turn id h = ap (linesFrom id) (next-drop none R id h) ∙ rw (add-one id)
 
   done : (id : ℕ) → length R ≤ id → linesAt id ≡ []
-  unfolding lines_from
-  done id h = ap (lines_from id) (drop_of_length-le R {i = id} h)
+  unfolding linesFrom
+  done id h = ap (linesFrom id) (drop_of_length-le R {i = id} h)
 
   -- a writer of all lines into d that stands at a place, with the buffer d', before the line of an id
   abbrev pub Before : Mode → List ℕ → ℕ → ℕ → List ℕ → Type 0
-  Before m d id at d' = Owes m d 0 (lines_from 0 R) at d' (linesAt id ∷ [])
+  Before m d id at d' = Owes m d 0 (linesFrom 0 R) at d' (linesAt id ∷ [])
 
   module _ {m : Mode} {d : List ℕ} where
-    pub lines_start : Space m d 0 (length (lines_from 0 R)) → Before m d 0 0 d
+    pub lines_start : Space m d 0 (length (linesFrom 0 R)) → Before m d 0 0 d
     unfolding together
     lines_start s = owes-start refl s
 
     module _ {id at : ℕ} {d' : List ℕ} (o : Before m d id at d') where
-      cut : id < length R → Owes m d 0 (lines_from 0 R) at d' (entryText id (get_or R id none) ∷ linesAt (id + 1) ∷ [])
+      cut : id < length R → Owes m d 0 (linesFrom 0 R) at d' (entryText id (get_or R id none) ∷ linesAt (id + 1) ∷ [])
       unfolding together
       cut h = owes-cut (turn id h) o
 
@@ -87,6 +87,6 @@ module _ (R : List (Option Decl)) where
       pub lines_next : {r : ℕ} {d'' : List ℕ} → id < length R → Puts m d' at (entryText id (get_or R id none)) r d'' → Before m d (id + 1) r d''
       lines_next h p = owes-next (cut h) p
 
-      pub lines_end : length R ≤ id → Puts m d 0 (lines_from 0 R) at d'
+      pub lines_end : length R ≤ id → Puts m d 0 (linesFrom 0 R) at d'
       unfolding together
       lines_end h = owes-end (owes-cut (done id h) o)

@@ -4,10 +4,10 @@ use mathlib.Core.Path.{◌≡◌, refl}
 use mathlib.Core.Option.{none, some}
 use mathlib.Core.List.{[], ◌∷◌}
 use Rattle.image.specs.Schema.{unmarked, noType, decl, Schema}
-use Rattle.parts.specs.Kinds.{kind_of}
+use Rattle.parts.specs.Kinds.{kindOf}
 use Rattle.image.specs.Words.{bytes, kindWord}
 use Rattle.text.specs.Decimal.{digits, decimal}
-use Rattle.listing.specs.Listing.{line_of, entryLine, entryText, lines_from, listing}
+use Rattle.listing.specs.Listing.{lineOf, entryLine, entryText, linesFrom, listing}
 
 pub two : Schema
 unfolding bytes
@@ -18,9 +18,9 @@ two = record {
 }
 
 pub two-lines : listing two ≡ bytes "1;message;Drive\n3;impl;\n"
-unfolding two listing lines_from entryText entryLine line_of decimal digits kind_of kindWord bytes
+unfolding two listing linesFrom entryText entryLine lineOf decimal digits kindOf kindWord bytes
 two-lines = refl
 
 pub no_line : listing (record { registry = none ∷ none ∷ []; ids = []; namespace = [] }) ≡ []
-unfolding listing lines_from entryText
+unfolding listing linesFrom entryText
 no_line = refl

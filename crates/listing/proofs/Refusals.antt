@@ -15,13 +15,13 @@ use Rattle.rules.specs.Changes.{kindCount}
 use Rattle.rules.specs.Outcome.{Outcome, refused, textOnly, selected, select, fit}
 use Rattle.parts.specs.Codes.{number, oldSide}
 use Rattle.rules.proofs.Outcomes.{not-answered, nothing-told, nothing_written, length-selected}
-use Rattle.listing.specs.Listing.{entryText, lines_from, listing, accept, outcome, listingVerdict}
+use Rattle.listing.specs.Listing.{entryText, linesFrom, listing, accept, outcome, listingVerdict}
 use Rattle.listing.specs.Refusals.{Holds, RefusedBy, ListingRefusals}
 use Rattle.listing.proofs.Outcomes.{Case, turned, full, fits, case}
 
 -- entries that are all empty
-lines_none : (id : ℕ) (R : List (Option Decl)) → ((j : ℕ) → get_or R j none ≡ none) → lines_from id R ≡ []
-unfolding lines_from entryText
+lines_none : (id : ℕ) (R : List (Option Decl)) → ((j : ℕ) → get_or R j none ≡ none) → linesFrom id R ≡ []
+unfolding linesFrom entryText
 lines_none id [] h = refl
 lines_none id (e ∷ R) h = rw (h 0, lines_none (suc id) R (λ j. h (suc j)))
 

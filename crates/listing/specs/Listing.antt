@@ -13,11 +13,11 @@ use Rattle.parts.specs.Codes.{number, oldSide}
 -- ---- the text
 
 -- "id, the kind's word from `decl_kind_name` and the name, parted by `;`. Each line ends with byte 10, ids are decimal"
-unfoldable pub line_of : ℕ → ℕ → Name → List ℕ
-line_of id kind name = decimal id ++ (bytes ";" ++ (kindWord kind ++ (bytes ";" ++ (name ++ bytes "\n"))))
+unfoldable pub lineOf : ℕ → ℕ → Name → List ℕ
+lineOf id kind name = decimal id ++ (bytes ";" ++ (kindWord kind ++ (bytes ";" ++ (name ++ bytes "\n"))))
 
 unfoldable pub entryLine : ℕ → Decl → List ℕ
-entryLine id d = line_of id d.kind d.name
+entryLine id d = lineOf id d.kind d.name
 
 -- "a line for each entry that isn't empty"
 unfoldable pub entryText : ℕ → Option Decl → List ℕ
@@ -25,16 +25,16 @@ entryText id none = []
 entryText id (some d) = entryLine id d
 
 -- "in id order": entries, the first of which has this id
-unfoldable pub lines_from : ℕ → List (Option Decl) → List ℕ
-lines_from id [] = []
-lines_from id (e ∷ es) = entryText id e ++ lines_from (suc id) es
+unfoldable pub linesFrom : ℕ → List (Option Decl) → List ℕ
+linesFrom id [] = []
+linesFrom id (e ∷ es) = entryText id e ++ linesFrom (suc id) es
 
 -- of an entry of an accepted image
 abbrev pub entryIn : List ℕ → ℕ → List ℕ
 entryIn image id = entryText id (get_or (schemaOf image).registry id none)
 
 unfoldable pub listing : Schema → List ℕ
-listing x = lines_from 0 x.registry
+listing x = linesFrom 0 x.registry
 
 -- ---- an image and a buffer
 

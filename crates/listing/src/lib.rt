@@ -1,4 +1,6 @@
 // The contents of one image: a line for each entry that is not empty, for all bytes.
+#![tactic(auto)]
+
 mod body;
 mod line;
 

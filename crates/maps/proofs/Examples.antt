@@ -7,7 +7,7 @@ use mathlib.Core.Option.{none, some}
 use Prim.Native.Nat.{ℕ}
 use lib.Dec.{ltb}
 use Rattle.maps.specs.Lists.{pass, largest, total, count}
-use Rattle.maps.specs.Orders.{same, order_of, before}
+use Rattle.maps.specs.Orders.{same, orderOf, before}
 use Rattle.maps.specs.Keyed.{insert, survivors, lookup}
 use Rattle.maps.specs.Compare.{Rules, unmatched, matched, between, compare}
 
@@ -46,25 +46,25 @@ not_found = refl
 
 -- the empty name before every other, and a name before its extensions
 empty-first : before [] (97 ∷ []) ≡ true
-unfolding before order_of
+unfolding before orderOf
 empty-first = refl
 
 name-first : before (97 ∷ []) (97 ∷ 98 ∷ []) ≡ true
-unfolding before order_of
+unfolding before orderOf
 name-first = refl
 
 extension-not : before (97 ∷ 98 ∷ []) (97 ∷ []) ≡ false
-unfolding before order_of
+unfolding before orderOf
 extension-not = refl
 
 -- by the first difference, not by length
 by_byte : before (97 ∷ 98 ∷ []) (98 ∷ []) ≡ true
-unfolding before order_of
+unfolding before orderOf
 by_byte = refl
 
 -- capital letters first, as their bytes are
 by-case : before (66 ∷ []) (97 ∷ []) ≡ true
-unfolding before order_of
+unfolding before orderOf
 by-case = refl
 
 -- ---- two maps compared: gone is told by 1 and the number, came by 2, kept by 3 and the two values

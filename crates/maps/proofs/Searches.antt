@@ -13,7 +13,7 @@ use lib.Seq.{take-suc, take-length}
 use Rattle.maps.specs.Lists.{pass}
 use Rattle.maps.specs.Orders.{Strict, same}
 use Rattle.maps.specs.Keyed.{survivors, lookup}
-use Rattle.maps.specs.Walk.{is_some, better, least, has, seen, lastSeen, latest}
+use Rattle.maps.specs.Walk.{isSome, better, least, has, seen, lastSeen, latest}
 use Rattle.maps.proofs.Lists.{flatMap-append}
 use Rattle.maps.proofs.Survivors.{lookup-lastSeen}
 
@@ -129,25 +129,25 @@ module _ {K E : Type 0} (key : E → K) (lt : K → K → Bool) (k : K) where
   unfolding has
   has-nil = refl
 
-  seen-has : (o : Option E) (l : List E) → is_some (lastSeen key lt k o l) ≡ is_some o || has key lt k l
-  unfolding has seen is_some
-  seen-has o [] = ap is_some (lastSeen-nil key lt k o) ∙ or-false (is_some o)
+  seen-has : (o : Option E) (l : List E) → isSome (lastSeen key lt k o l) ≡ isSome o || has key lt k l
+  unfolding has seen isSome
+  seen-has o [] = ap isSome (lastSeen-nil key lt k o) ∙ or-false (isSome o)
     where
       or-false : (u : Bool) → u ≡ u || false
       or-false true = refl
       or-false false = refl
-  seen-has o (e ∷ l) = ap is_some (lastSeen-cons key lt k o e l) ∙ seen-has (seen key lt k o e) l ∙ go (same lt k (key e)) refl (is_some o) refl
+  seen-has o (e ∷ l) = ap isSome (lastSeen-cons key lt k o e l) ∙ seen-has (seen key lt k o e) l ∙ go (same lt k (key e)) refl (isSome o) refl
     where
-      go : (u : Bool) → same lt k (key e) ≡ u → (v : Bool) → is_some o ≡ v → is_some (seen key lt k o e) || has key lt k l ≡ v || (u || has key lt k l)
+      go : (u : Bool) → same lt k (key e) ≡ u → (v : Bool) → isSome o ≡ v → isSome (seen key lt k o e) || has key lt k l ≡ v || (u || has key lt k l)
       go true p true q = rw p
       go true p false q = rw p
       go false p v q = rw (p, q)
 
 -- something stands under a key if something is listed under it
 pub lookup-has : {K E : Type 0} {lt : K → K → Bool} (key : E → K) (S : Strict K lt) (k : K) (l : List E)
-    → is_some (lookup key lt k (survivors key lt l)) ≡ has key lt k l
-unfolding is_some
-lookup-has {lt = lt} key S k l = ap is_some (lookup-lastSeen key S k l) ∙ seen-has key lt k none l
+    → isSome (lookup key lt k (survivors key lt l)) ≡ has key lt k l
+unfolding isSome
+lookup-has {lt = lt} key S k l = ap isSome (lookup-lastSeen key S k l) ∙ seen-has key lt k none l
 
 -- ---- the best entry, from the front
 

@@ -76,15 +76,15 @@ module _ {K E : Type 0} {lt : K → K → Bool} (key : E → K) (S : Strict K lt
 
   module _ {C : Type 0} (w : C → ℕ) where
     -- the weight of what `between` gives, entry by entry
-    abbrev sum_of : (Option E → Option E → List C) → List E → List E → ℕ
-    sum_of g m n = total (λ e. total w (g (some e) (lookup key lt (key e) n))) m
+    abbrev sumOf : (Option E → Option E → List C) → List E → List E → ℕ
+    sumOf g m n = total (λ e. total w (g (some e) (lookup key lt (key e) n))) m
 
-    total-between : (g : Option E → Option E → List C) (m n : List E) → total w (between key lt g m n) ≡ sum_of g m n
+    total-between : (g : Option E → Option E → List C) (m n : List E) → total w (between key lt g m n) ≡ sumOf g m n
     unfolding between
     total-between g m n = total-flatMap (λ e. g (some e) (lookup key lt (key e) n)) w m
 
     total-compare : (r : Rules E C) (m n : List E) → total w (compare key lt r m n)
-        ≡ sum_of (unmatched r.gone) m n + (sum_of (unmatched r.came) n m + sum_of (matched r.kept) m n)
+        ≡ sumOf (unmatched r.gone) m n + (sumOf (unmatched r.came) n m + sumOf (matched r.kept) m n)
     unfolding compare
     total-compare r m n =
         omega (
@@ -96,7 +96,7 @@ module _ {K E : Type 0} {lt : K → K → Bool} (key : E → K) (S : Strict K lt
           total-between (matched r.kept) m n,
         )
 
-    sum-matched : (k : E → E → List C) (m n : List E) → sum_of (matched k) m n ≡ met (λ e f. total w (k e f)) m n
+    sum-matched : (k : E → E → List C) (m n : List E) → sumOf (matched k) m n ≡ met (λ e f. total w (k e f)) m n
     unfolding met ifAny matched total
     sum-matched k m n = total-same _ _ m (all (λ e. lookup-cases key S e n (λ o. total w (matched k (some e) o) ≡ ifAny (λ f. total w (k e f)) o) refl (λ f p. refl)) m)
 
@@ -136,7 +136,7 @@ module _ {K E : Type 0} {lt : K → K → Bool} (key : E → K) (S : Strict K lt
   -- ---- the opposite comparison
 
   module _ {C : Type 0} (v w : C → ℕ) where
-    sum-unmatched : (c d : E → List C) → ((e : E) → total v (c e) ≡ total w (d e)) → (m n : List E) → sum_of v (unmatched c) m n ≡ sum_of w (unmatched d) m n
+    sum-unmatched : (c d : E → List C) → ((e : E) → total v (c e) ≡ total w (d e)) → (m n : List E) → sumOf v (unmatched c) m n ≡ sumOf w (unmatched d) m n
     unfolding unmatched total
     sum-unmatched c d h m n =
         total-same _ _ m (all (λ e. lookup-cases key S e n (λ o. total v (unmatched c (some e) o) ≡ total w (unmatched d (some e) o)) (h e) (λ f p. refl)) m)

@@ -12,7 +12,7 @@ use Rattle.maps.specs.Lists.{All}
 use Rattle.maps.specs.Orders.{Strict}
 use Rattle.maps.specs.Keyed.{insert, survivors, lookup}
 use Rattle.maps.specs.Compare.{unmatched, between}
-use Rattle.maps.specs.Walk.{is_some, past, Rising, above, following, rest, nearer, better, least, covers}
+use Rattle.maps.specs.Walk.{isSome, past, Rising, above, following, rest, nearer, better, least, covers}
 use Rattle.maps.proofs.Lists.{pass-view, every-all}
 use Rattle.maps.proofs.Tests.{no_both}
 use Rattle.maps.proofs.Orders.{asym, same_self, after-other}
@@ -151,12 +151,12 @@ module _ {K E : Type 0} {lt : K → K → Bool} (key : E → K) (S : Strict K lt
 -- ---- a walk that has nothing to report
 
 module _ {K E C : Type 0} (key : E → K) (lt : K → K → Bool) (c : E → List C) (n : List E) where
-  unmatched-has : (e : E) (o : Option E) → is_some o ≡ true → unmatched c (some e) o ≡ []
-  unfolding unmatched is_some
+  unmatched-has : (e : E) (o : Option E) → isSome o ≡ true → unmatched c (some e) o ≡ []
+  unfolding unmatched isSome
   unmatched-has e none p = no_both p refl
   unmatched-has e (some f) p = refl
 
-  matched-all : (m : List E) → All (λ e. is_some (lookup key lt (key e) n) ≡ true) m → between key lt (unmatched c) m n ≡ []
+  matched-all : (m : List E) → All (λ e. isSome (lookup key lt (key e) n) ≡ true) m → between key lt (unmatched c) m n ≡ []
   unfolding between flat_map All
   matched-all [] h = refl
   matched-all (e ∷ m) h = rw (unmatched-has e (lookup key lt (key e) n) h.0) (matched-all m h.1)
@@ -166,4 +166,4 @@ module _ {K E C : Type 0} (key : E → K) (lt : K → K → Bool) (c : E → Lis
   unfolding covers
   covered_none l p =
       matched-all (survivors key lt l)
-      (all-survivors key lt (λ e. is_some (lookup key lt (key e) n) ≡ true) l (every-all (λ e. is_some (lookup key lt (key e) n)) l p))
+      (all-survivors key lt (λ e. isSome (lookup key lt (key e) n) ≡ true) l (every-all (λ e. isSome (lookup key lt (key e) n)) l p))

@@ -1,6 +1,8 @@
 // The byte order of names.
+#![tactic(auto)]
+
 ghost use Rattle.std.specs.Prelude.{◌≡◌};
-ghost use Rattle.maps.specs.Orders.{order_of};
+ghost use Rattle.maps.specs.Orders.{orderOf};
 
 #[derive(Drop)]
 pub enum Order {
@@ -11,7 +13,7 @@ pub enum Order {
 
 // How two names stand: by their first difference, a name before its extensions.
 pub fn compared(a: &[u8], b: &[u8]) -> Order
-    ensures { result ≡ order_of a.now b.now }
+    ensures { result ≡ orderOf a.now b.now }
 {
     let mut i = 0;
     loop {

@@ -1,7 +1,7 @@
 // Items of declarations: fields, variants and bits. Each starts with its ordinal and its name, so these are found without its shape.
 ghost use Rattle.std.specs.Prelude.{◌≡◌, ◌+◌, ◌≤◌, length};
 ghost use Rattle.image.specs.Codes.{number, unionKind};
-ghost use Rattle.parts.specs.Promise.{DeclHere, declIn, items_in, ItemHere, itemEnd, ItemsHere, itemsEnd, ordinalIn, itemName, itemsAt, variantItems};
+ghost use Rattle.parts.specs.Promise.{DeclHere, declIn, itemsIn, ItemHere, itemEnd, ItemsHere, itemsEnd, ordinalIn, itemName, itemsAt, variantItems};
 
 use crate::fields::field_end;
 use image::kinds::ENUM;
@@ -39,7 +39,7 @@ fn items_at(image: &[u8], at: usize) -> Run
 // The items of a message, an enum, flags or a union.
 pub fn decl_items(image: &[u8], at: usize) -> Run
     requires { DeclHere image.now at × ((declIn image.now at).kind ≤ number unionKind) }
-    ensures { result ≡ items_in image.now at }
+    ensures { result ≡ itemsIn image.now at }
 {
     let end = name_end(image, at + 1);
     if ENUM < image[at] {

@@ -1,4 +1,6 @@
 // The members of declarations in an accepted image: items (fields, variants, bits) and the parts of a field. The promise that they rest on
 // is that of `parts`.
+#![tactic(auto)]
+
 pub mod fields;
 pub mod items;

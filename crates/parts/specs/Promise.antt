@@ -4,16 +4,16 @@
 use Rattle.std.specs.Prelude.{◌≡◌, cond, List, [], ◌∷◌, map, ℕ, zero, suc, ◌+◌, ◌-◌, ◌≤◌, ◌<◌, leb, length, get_or, take, drop}
 use Rattle.std.proofs.Math.Option.{Option, none, some}
 use Rattle.image.specs.Codes.{number, bodyRefusal, enumKind, implKind, primitiveTag, subByteTag, semanticTag, namedTag, fixedArrayTag, bitsTag}
-use Rattle.image.specs.Kinds.{kind_of}
+use Rattle.image.specs.Kinds.{kindOf}
 use Rattle.image.specs.Schema.{Name, unmarked, Label, label, Ty, noType, Field, Variant, Decl, decl, Schema}
 use Rattle.image.specs.Schema.{Encoding as Coding}
-use Rattle.image.specs.Parse.{Parsed, bind, littleEndian, byte_at, many}
-use Rattle.image.specs.Names.{name_at, names_at}
-use Rattle.image.specs.Types.{label_of, type_of}
+use Rattle.image.specs.Parse.{Parsed, bind, littleEndian, byteAt, many}
+use Rattle.image.specs.Names.{nameAt, namesAt}
+use Rattle.image.specs.Types.{labelOf, typeOf}
 use Rattle.image.specs.Fields.{plain, encodingAt, limitAt, fieldAt, bareAt, variantAt}
 use Rattle.image.specs.Bodies.{declAt}
 use Rattle.image.specs.Image.{segmentCount, segmentsAt, readImage}
-use Rattle.image.specs.WellFormed.{Good, valueOr, end_of}
+use Rattle.image.specs.WellFormed.{Good, valueOr, endOf}
 use Rattle.parts.specs.declared.Entry.{Entry}
 use Rattle.parts.specs.declared.Entry.TheVariants.{Body, Unresolvable}
 use Rattle.parts.specs.declared.Shape.{Shape}
@@ -31,11 +31,11 @@ unfoldable pub schemaOf : List ℕ → Schema
 schemaOf s = valueOr (record { registry = []; ids = []; namespace = [] }) (readImage s)
 
 -- of places where none stands
-abbrev pub no_label : Label
-no_label = label (number primitiveTag) 0 0 []
+abbrev pub noLabel : Label
+noLabel = label (number primitiveTag) 0 0 []
 
-abbrev pub no_field : Field
-no_field = record { ordinal = 0; name = []; marks = unmarked; encoding = plain 0; limit = none; type = noType }
+abbrev pub noField : Field
+noField = record { ordinal = 0; name = []; marks = unmarked; encoding = plain 0; limit = none; type = noType }
 
 abbrev pub noVariant : Variant
 noVariant = record { ordinal = 0; name = []; fields = [] }
@@ -45,28 +45,28 @@ noDecl = decl (number implKind) [] unmarked [] [] noType
 
 -- Names.
 unfoldable pub NameHere : List ℕ → ℕ → Type 0
-NameHere s at = Good (name_at (number bodyRefusal) s at)
+NameHere s at = Good (nameAt (number bodyRefusal) s at)
 
 unfoldable pub nameIn : List ℕ → ℕ → Name
-nameIn s at = valueOr [] (name_at (number bodyRefusal) s at)
+nameIn s at = valueOr [] (nameAt (number bodyRefusal) s at)
 
 unfoldable pub nameEnd : List ℕ → ℕ → ℕ
-nameEnd s at = end_of (name_at (number bodyRefusal) s at)
+nameEnd s at = endOf (nameAt (number bodyRefusal) s at)
 
 -- Things one after the other: the places of so many, from the first one's and what ends one.
-unfoldable pub places_by : (ℕ → ℕ) → ℕ → ℕ → List ℕ
-places_by end zero at = []
-places_by end (suc count) at = at ∷ places_by end count (end at)
+unfoldable pub placesBy : (ℕ → ℕ) → ℕ → ℕ → List ℕ
+placesBy end zero at = []
+placesBy end (suc count) at = at ∷ placesBy end count (end at)
 
 unfoldable pub NamesHere : List ℕ → ℕ → ℕ → Type 0
-NamesHere s count at = Good (names_at (number bodyRefusal) count s at)
+NamesHere s count at = Good (namesAt (number bodyRefusal) count s at)
 
 unfoldable pub namePlaces : List ℕ → ℕ → ℕ → List ℕ
-namePlaces s count at = places_by (nameEnd s) count at
+namePlaces s count at = placesBy (nameEnd s) count at
 
 -- the place after so many names
 unfoldable pub namesEnd : List ℕ → ℕ → ℕ → ℕ
-namesEnd s count at = end_of (names_at (number bodyRefusal) count s at)
+namesEnd s count at = endOf (namesAt (number bodyRefusal) count s at)
 
 -- so many names stand in a row, and are these
 pub record NamesListed (s : List ℕ) (n : Run) (xs : List Name) : Type 0 where
@@ -75,10 +75,10 @@ pub record NamesListed (s : List ℕ) (n : Run) (xs : List Name) : Type 0 where
 
 -- Types. A label is a node without its inner types.
 unfoldable pub LabelHere : List ℕ → ℕ → Type 0
-LabelHere s at = Good (label_of (drop at s))
+LabelHere s at = Good (labelOf (drop at s))
 
 unfoldable pub labelIn : List ℕ → ℕ → Label
-labelIn s at = valueOr no_label (label_of (drop at s))
+labelIn s at = valueOr noLabel (labelOf (drop at s))
 
 -- what its tag has is within document 01's values, and what it has not is 0 or empty
 pub record Regular (l : Label) : Type 0 where
@@ -93,7 +93,7 @@ pub record Regular (l : Label) : Type 0 where
 
 -- where the first inner type starts, if there is one
 unfoldable pub labelEnd : List ℕ → ℕ → ℕ
-labelEnd s at = at + end_of (label_of (drop at s))
+labelEnd s at = at + endOf (labelOf (drop at s))
 
 -- the names of bits
 unfoldable pub bitsIn : List ℕ → ℕ → Run
@@ -102,13 +102,13 @@ bitsIn s at = record { start = at + 2; count = get_or s (at + 1) 0 }
 -- a type of at most `left` nodes on a path; at most 32 stand anywhere
 pub record TypeHere (left : ℕ) (s : List ℕ) (at : ℕ) : Type 0 where
   pub few : left ≤ 32
-  pub good : Good (type_of left (drop at s))
+  pub good : Good (typeOf left (drop at s))
 
 unfoldable pub treeIn : List ℕ → ℕ → Ty
-treeIn s at = valueOr noType (type_of 32 (drop at s))
+treeIn s at = valueOr noType (typeOf 32 (drop at s))
 
 unfoldable pub typeEnd : List ℕ → ℕ → ℕ
-typeEnd s at = at + end_of (type_of 32 (drop at s))
+typeEnd s at = at + endOf (typeOf 32 (drop at s))
 
 -- Items.
 abbrev pub ItemOf : Shape → Type 0
@@ -116,26 +116,26 @@ ItemOf shape.Field = Field
 ItemOf shape.Bare = Variant
 ItemOf shape.Variant = Variant
 
-unfoldable pub item_at : (h : Shape) → List ℕ → ℕ → Parsed (ItemOf h)
-item_at shape.Field = fieldAt
-item_at shape.Bare = bareAt
-item_at shape.Variant = variantAt
+unfoldable pub itemAt : (h : Shape) → List ℕ → ℕ → Parsed (ItemOf h)
+itemAt shape.Field = fieldAt
+itemAt shape.Bare = bareAt
+itemAt shape.Variant = variantAt
 
 unfoldable pub ItemHere : Shape → List ℕ → ℕ → Type 0
-ItemHere h s at = Good (item_at h s at)
+ItemHere h s at = Good (itemAt h s at)
 
 unfoldable pub itemEnd : Shape → List ℕ → ℕ → ℕ
-itemEnd h s at = end_of (item_at h s at)
+itemEnd h s at = endOf (itemAt h s at)
 
 unfoldable pub ItemsHere : Shape → List ℕ → ℕ → ℕ → Type 0
-ItemsHere h s count at = Good (many (item_at h) count s at)
+ItemsHere h s count at = Good (many (itemAt h) count s at)
 
 -- the place after so many items
 unfoldable pub itemsEnd : Shape → List ℕ → ℕ → ℕ → ℕ
-itemsEnd h s count at = end_of (many (item_at h) count s at)
+itemsEnd h s count at = endOf (many (itemAt h) count s at)
 
 unfoldable pub placesFrom : Shape → List ℕ → ℕ → ℕ → List ℕ
-placesFrom h s count at = places_by (itemEnd h s) count at
+placesFrom h s count at = placesBy (itemEnd h s) count at
 
 -- so many items of a shape stand in a row, and are these
 pub record ItemsListed (h : Shape) (s : List ℕ) (n : Run) (item : ℕ → ItemOf h) (xs : List (ItemOf h)) : Type 0 where
@@ -165,7 +165,7 @@ itemName s at = (bareIn s at).name
 
 -- Fields.
 unfoldable pub fieldIn : List ℕ → ℕ → Field
-fieldIn s at = valueOr no_field (fieldAt s at)
+fieldIn s at = valueOr noField (fieldAt s at)
 
 -- its parts after the name
 unfoldable pub marksPlace : List ℕ → ℕ → ℕ
@@ -178,10 +178,10 @@ unfoldable pub encodingIn : List ℕ → ℕ → Coding
 encodingIn s at = valueOr (plain 0) (encodingAt s at)
 
 unfoldable pub limitPlace : List ℕ → ℕ → ℕ
-limitPlace s at = end_of (encodingAt s (encodingPlace s at))
+limitPlace s at = endOf (encodingAt s (encodingPlace s at))
 
 unfoldable pub typePlace : List ℕ → ℕ → ℕ
-typePlace s at = end_of (limitAt s (limitPlace s at))
+typePlace s at = endOf (limitAt s (limitPlace s at))
 
 -- the values of the code's answers
 unfoldable pub codingOf : Encoding → Coding
@@ -192,18 +192,18 @@ limitOf (Most n) = some n
 limitOf Unlimited = none
 
 -- Declarations.
-unfoldable pub body_at : List ℕ → ℕ → Parsed Decl
-body_at s at = bind (byte_at (number bodyRefusal) s at) (λ kind n. declAt (kind_of kind) s n)
+unfoldable pub bodyAt : List ℕ → ℕ → Parsed Decl
+bodyAt s at = bind (byteAt (number bodyRefusal) s at) (λ kind n. declAt (kindOf kind) s n)
 
 unfoldable pub DeclHere : List ℕ → ℕ → Type 0
-DeclHere s at = Good (body_at s at)
+DeclHere s at = Good (bodyAt s at)
 
 unfoldable pub declIn : List ℕ → ℕ → Decl
-declIn s at = valueOr noDecl (body_at s at)
+declIn s at = valueOr noDecl (bodyAt s at)
 
 -- the items of a message, an enum, flags or a union: only the first two have marks before the count
-unfoldable pub items_in : List ℕ → ℕ → Run
-items_in s at = itemsAt s (nameEnd s (at + 1) + cond (leb (declIn s at).kind (number enumKind)) 1 0)
+unfoldable pub itemsIn : List ℕ → ℕ → Run
+itemsIn s at = itemsAt s (nameEnd s (at + 1) + cond (leb (declIn s at).kind (number enumKind)) 1 0)
 
 -- the type of a newtype
 unfoldable pub innerPlace : List ℕ → ℕ → ℕ

@@ -1,6 +1,8 @@
 // The parts of an accepted image: the entry of an id, and what stands in its declaration, down to the names and the types. Its items are
 // read by the crate `members`. Each accessor takes the image and a place in it, which the promise (specs/Promise.antt, proofs/Promise.antt)
 // shows to be well formed, and reads no more than it must: nothing is validated again.
+#![tactic(auto)]
+
 pub mod decls;
 pub mod entries;
 pub mod names;

@@ -1,6 +1,8 @@
 // Compares two images and prints the report or the refusal: `vexil_compat [OLD NEW]`, without arguments old.img and new.img of the current
 // folder; or lists the contents of one: `vexil_compat --list IMAGE`. What is printed is the answer: a Rattle program can't choose its exit
 // status, which is always 0.
+#![tactic(auto)]
+
 mod arguments;
 mod contents;
 mod files;

@@ -13,8 +13,8 @@ use Rattle.maps.specs.Lists.{total, count}
 use Rattle.maps.proofs.Tests.{no_both, both}
 use Rattle.parts.specs.Promise.{Accepted, schemaOf}
 use Rattle.parts.proofs.Promise.{accepted-read}
-use Rattle.rules.specs.Survivors.{stands_for, view_of}
-use Rattle.rules.specs.Reached.{named_by, namedFrom, member, resolvable, IdSet, has, reachedSet}
+use Rattle.rules.specs.Survivors.{standsFor, viewOf}
+use Rattle.rules.specs.Reached.{namedBy, namedFrom, member, resolvable, IdSet, has, reachedSet}
 use Rattle.rules.proofs.Held.{accepted-held}
 use Rattle.rules.proofs.ReachedSets.{below-has, no-marks, markAll-below, markAll-has}
 use Rattle.rules.proofs.Reached.{resolvable-in, Within, within-marks, within_first, first_marks, Least, least-is, reached-is, reached-resolvable}
@@ -93,7 +93,7 @@ pub record Following (s : List ℕ) (m f : IdSet) : Type 0 where
   -- all marks are of reached ids
   pub within : Within (schemaOf s) m
   -- what is named by a followed entry is marked
-  pub closed : (via id : ℕ) → has f via ≡ true → member id (named_by (stands_for (schemaOf s).registry via)) ≡ true
+  pub closed : (via id : ℕ) → has f via ≡ true → member id (namedBy (standsFor (schemaOf s).registry via)) ≡ true
       → resolvable (schemaOf s).registry id ≡ true → has m id ≡ true
 
 module _ {s : List ℕ} {m f : IdSet} (w : Following s m f) {n : ℕ} (e : n ≡ length (schemaOf s).registry) where
@@ -109,7 +109,7 @@ module _ {s : List ℕ} {m f : IdSet} (w : Following s m f) {n : ℕ} (e : n ≡
       pub turn-less : unfollowed (set f i true) < unfollowed f
       turn-less = fewer f i (o.found l).1 (omega (arith, open-inside, w.follows))
 
-      pub turn-following : {m' : IdSet} → Marked s m (named_by (stands_for (schemaOf s).registry i)) m' → Following s m' (set f i true)
+      pub turn-following : {m' : IdSet} → Marked s m (namedBy (standsFor (schemaOf s).registry i)) m' → Following s m' (set f i true)
       turn-following {m'} d = record {
         started = record { ready = ready-after d w.started.ready; first = λ id h r. kept id (w.started.first id h r) };
         marks = marked-length d ∙ w.marks;
@@ -121,17 +121,17 @@ module _ {s : List ℕ} {m f : IdSet} (w : Following s m f) {n : ℕ} (e : n ≡
           kept : (id : ℕ) → has m id ≡ true → has m' id ≡ true
           kept id h =
               subst (λ x. has x id ≡ true) (sym d.is)
-              (below-has (markAll-below (schemaOf s).registry m (named_by (stands_for (schemaOf s).registry i))) id h)
+              (below-has (markAll-below (schemaOf s).registry m (namedBy (standsFor (schemaOf s).registry i))) id h)
 
           inside : (id : ℕ) → resolvable (schemaOf s).registry id ≡ true → id < length m
           inside id r = omega (arith, resolvable-in (schemaOf s).registry id r, w.started.ready.room)
 
           closing : (via id : ℕ) (c : Bool) → eqb via i ≡ c → has (set f i true) via ≡ true
-              → member id (named_by (stands_for (schemaOf s).registry via)) ≡ true → resolvable (schemaOf s).registry id ≡ true → has m' id ≡ true
+              → member id (namedBy (standsFor (schemaOf s).registry via)) ≡ true → resolvable (schemaOf s).registry id ≡ true → has m' id ≡ true
           closing via id true q h k r =
               subst (λ x. has x id ≡ true) (sym d.is)
-              (markAll-has (schemaOf s).registry m (named_by (stands_for (schemaOf s).registry i)) id
-              (subst (λ x. member id (named_by (stands_for (schemaOf s).registry x)) ≡ true) (eqb-true via i q) k) r (inside id r))
+              (markAll-has (schemaOf s).registry m (namedBy (standsFor (schemaOf s).registry i)) id
+              (subst (λ x. member id (namedBy (standsFor (schemaOf s).registry x)) ≡ true) (eqb-true via i q) k) r (inside id r))
           closing via id false q h k r = kept id (w.closed via id (has_other f i via q h) k r)
 
     -- the end
@@ -169,7 +169,7 @@ module _ (s : List ℕ) (g : Accepted s) where
   pub ready-start : Ready s noMarks
   ready-start = record { accepted = g; room = few-marks }
 
-  pub start-following : {m : IdSet} → Marked s noMarks (namedFrom (view_of (schemaOf s))) m → Following s m noMarks
+  pub start-following : {m : IdSet} → Marked s noMarks (namedFrom (viewOf (schemaOf s))) m → Following s m noMarks
   start-following d = record {
     started = record {
       ready = ready-after d ready-start;

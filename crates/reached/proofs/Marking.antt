@@ -7,14 +7,14 @@ use native.Mathlib.Omega.{arith}
 use borrow.Author.Tests.{eq-eqb, ne_eqb}
 use lib.ListN.{length, set}
 use Rattle.maps.specs.Lists.{pass}
-use Rattle.maps.specs.Walk.{is_some}
+use Rattle.maps.specs.Walk.{isSome}
 use Rattle.maps.proofs.Lists.{pass-append}
 use Rattle.parts.specs.Codes.{number, namedTag}
 use Rattle.parts.specs.Promise.{schemaOf, labelIn, labelEnd, treeIn, typeEnd, Resolved}
 use Rattle.parts.specs.declared.Entry.{Entry}
 use Rattle.parts.proofs.Promise.{resolved-body, resolved-none}
-use Rattle.rules.specs.Survivors.{stands_for}
-use Rattle.rules.specs.Reached.{namedLabel, named_in, resolvable, IdSet, mark, markAll}
+use Rattle.rules.specs.Survivors.{standsFor}
+use Rattle.rules.specs.Reached.{namedLabel, namedIn, resolvable, IdSet, mark, markAll}
 use Rattle.rules.proofs.ReachedSets.{below_length, markAll-below}
 use Rattle.rules.proofs.Reached.{resolvable-in}
 use Rattle.types.specs.Nodes.{Leaf, One, Two}
@@ -70,11 +70,11 @@ module _ {s : List ℕ} {m₀ m : IdSet} {whole rest : List ℕ} (o : Owing s m�
 
 module _ (s : List ℕ) (id : ℕ) {r : Entry} (h : Resolved s id r) where
   id-resolvable : {at : ℕ} → r ≡ Entry.Body at → resolvable (schemaOf s).registry id ≡ true
-  unfolding resolvable stands_for is_some
-  id-resolvable e = ap is_some (resolved-body s id h e)
+  unfolding resolvable standsFor isSome
+  id-resolvable e = ap isSome (resolved-body s id h e)
 
   pub id-skipped : {m : IdSet} → r ≡ Entry.Unresolvable → Marked s m (id ∷ []) m
-  unfolding markAll pass mark resolvable stands_for is_some
+  unfolding markAll pass mark resolvable standsFor isSome
   id-skipped e = record { is = rw (resolved-none s id h e) }
 
   pub id-marked : {m : IdSet} {at : ℕ} → r ≡ Entry.Body at → {n : IdSet} → n ≡ set m id true → Marked s m (id ∷ []) n
@@ -100,22 +100,22 @@ module _ (s : List ℕ) (at : ℕ) {x : ℕ} (e : x ≡ (labelIn s at).tag) wher
 
 module _ (s : List ℕ) (at : ℕ) {m n : IdSet} (k : Marked s m (namedLabel (labelIn s at)) n) {p : ℕ} (f : p ≡ labelEnd s at) where
   pub leaf-marked : Leaf s at → TypeMarked s at m p n
-  unfolding named_in
+  unfolding namedIn
   leaf-marked l = record { end = f ∙ sym l.end; marks = rw l.tree k }
 
   module _ {q : ℕ} {n' : IdSet} (c : TypeMarked s p n q n') where
     pub second_at : q ≡ typeEnd s (labelEnd s at)
     second_at = c.end ∙ ap (typeEnd s) f
 
-    first_marks : Marked s n (named_in (treeIn s (labelEnd s at))) n'
+    first_marks : Marked s n (namedIn (treeIn s (labelEnd s at))) n'
     first_marks = rw (← f) c.marks
 
     pub one-marked : One s at → TypeMarked s at m q n'
-    unfolding named_in
+    unfolding namedIn
     one-marked o = record { end = second_at ∙ sym o.end; marks = rw o.tree (marked-then k first_marks) }
 
     pub two-marked : Two s at → {r : ℕ} {n'' : IdSet} → TypeMarked s q n' r n'' → TypeMarked s at m r n''
-    unfolding named_in
+    unfolding namedIn
     two-marked t {r} {n''} d =
-        let e : Marked s n' (named_in (treeIn s (typeEnd s (labelEnd s at)))) n'' = (rw (← second_at) d.marks) in
+        let e : Marked s n' (namedIn (treeIn s (typeEnd s (labelEnd s at)))) n'' = (rw (← second_at) d.marks) in
         record { end = d.end ∙ (ap (typeEnd s) second_at ∙ sym t.end); marks = rw t.tree (marked-then k (marked-then first_marks e)) }

@@ -4,8 +4,8 @@ use Rattle.std.proofs.Math.Option.{some}
 use Rattle.maps.specs.Keyed.{lookup}
 use Rattle.maps.specs.Orders.{before}
 use Rattle.parts.specs.Promise.{Accepted, schemaOf, declIn, treeIn, typeEnd}
-use Rattle.rules.specs.Survivors.{name_of, declarations, view_of}
-use Rattle.rules.specs.Reached.{named_in, namedFrom, member, resolvable, IdSet, has, markAll, reachedSet}
+use Rattle.rules.specs.Survivors.{nameOf, declarations, viewOf}
+use Rattle.rules.specs.Reached.{namedIn, namedFrom, member, resolvable, IdSet, has, markAll, reachedSet}
 use Rattle.reached.specs.declared.Reached.{Reached}
 
 -- an accepted image, and marks for all its ids
@@ -20,16 +20,16 @@ pub record Marked (s : List ℕ) (m : IdSet) (ids : List ℕ) (n : IdSet) : Type
 -- r is the place after the type at a place, and what the type names is marked
 pub record TypeMarked (s : List ℕ) (at : ℕ) (m : IdSet) (r : ℕ) (n : IdSet) : Type 0 where
   pub end : r ≡ typeEnd s at
-  pub marks : Marked s m (named_in (treeIn s at)) n
+  pub marks : Marked s m (namedIn (treeIn s at)) n
 
 -- what the survivors name is marked
 pub record Started (s : List ℕ) (m : IdSet) : Type 0 where
   pub ready : Ready s m
-  pub first : (id : ℕ) → member id (namedFrom (view_of (schemaOf s))) ≡ true → resolvable (schemaOf s).registry id ≡ true → has m id ≡ true
+  pub first : (id : ℕ) → member id (namedFrom (viewOf (schemaOf s))) ≡ true → resolvable (schemaOf s).registry id ≡ true → has m id ≡ true
 
 -- the declaration at a place is the survivor of its name, if the answer is true
 pub record StandsAt (s : List ℕ) (at : ℕ) (r : Bool) : Type 0 where
-  pub stands : r ≡ true → lookup name_of before (declIn s at).name (declarations (schemaOf s)) ≡ some (declIn s at)
+  pub stands : r ≡ true → lookup nameOf before (declIn s at).name (declarations (schemaOf s)) ≡ some (declIn s at)
 
 -- an id below n that is in m and not in f, or n if there is none
 pub record Open (m f : IdSet) (n r : ℕ) : Type 0 where

@@ -6,15 +6,15 @@ use Rattle.parts.specs.declared.Run.{Run}
 use Rattle.parts.specs.declared.Shape.{Shape}
 use Rattle.parts.specs.declared.Shape.TheVariants as shape
 use Rattle.rules.specs.Survivors.{fieldMap}
-use Rattle.rules.specs.Reached.{named_in}
-use Rattle.survivors.specs.Runs.{itemMap, items_of}
+use Rattle.rules.specs.Reached.{namedIn}
+use Rattle.survivors.specs.Runs.{itemMap, itemsOf}
 
 -- a field's type, and the fields of a union's variant
 unfoldable pub itemNames : (h : Shape) → ItemOf h → List ℕ
-itemNames shape.Field f = named_in f.type
+itemNames shape.Field f = namedIn f.type
 itemNames shape.Bare v = []
-itemNames shape.Variant v = flat_map (λ f. named_in f.type) (fieldMap v.fields)
+itemNames shape.Variant v = flat_map (λ f. namedIn f.type) (fieldMap v.fields)
 
 -- the items that stand in a run
 unfoldable pub namedItems : (h : Shape) → List ℕ → Run → List ℕ
-namedItems h s n = flat_map (itemNames h) (itemMap h (items_of h s n))
+namedItems h s n = flat_map (itemNames h) (itemMap h (itemsOf h s n))

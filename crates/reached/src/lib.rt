@@ -1,4 +1,6 @@
 // The entries of an accepted image that are reached through named nodes: what the verdict with imports compares besides the survivors.
+#![tactic(auto)]
+
 mod decls;
 mod fields;
 pub mod follow;

@@ -1,7 +1,7 @@
 // The named nodes of a type, marked.
 ghost use Rattle.std.specs.Prelude.{[], ◌∷◌};
 ghost use Rattle.parts.specs.Promise.{LabelHere, labelIn, TypeHere, treeIn};
-ghost use Rattle.rules.specs.Reached.{namedLabel, named_in};
+ghost use Rattle.rules.specs.Reached.{namedLabel, namedIn};
 ghost use Rattle.reached.specs.Marks.{Ready, Marked, TypeMarked};
 
 use parts::Entry;
@@ -54,7 +54,7 @@ fn mark_nodes(image: &[u8], at: usize, left: usize, marks: &mut [bool]) -> usize
 // A whole type.
 pub(crate) fn mark_type(image: &[u8], at: usize, marks: &mut [bool])
     requires { Ready image.now marks.old × TypeHere 32 image.now at }
-    ensures { Marked image.now marks.old (named_in (treeIn image.now at)) marks.new }
+    ensures { Marked image.now marks.old (namedIn (treeIn image.now at)) marks.new }
 {
     mark_nodes(image, at, 32, marks);
 }

@@ -1,7 +1,7 @@
 // Bodies: a kind, and what it has.
 ghost use Rattle.std.specs.Prelude.{◌≡◌};
-ghost use Rattle.image.specs.Kinds.{kind_of};
-ghost use Rattle.image.specs.Bodies.{messageAt, enum_at, flagsAt, unionAt, newtypeAt, declAt, body_of};
+ghost use Rattle.image.specs.Kinds.{kindOf};
+ghost use Rattle.image.specs.Bodies.{messageAt, enumAt, flagsAt, unionAt, newtypeAt, declAt, bodyOf};
 ghost use Rattle.image.specs.Reads.{skip};
 
 use image::fields::{read_bares, read_fields, read_marks, read_variants};
@@ -28,7 +28,7 @@ fn read_message(s: &[u8], at: usize) -> Read
 
 // Name, marks, variants without fields.
 fn read_enum(s: &[u8], at: usize) -> Read
-    ensures { result ≡ skip (enum_at s.now at) }
+    ensures { result ≡ skip (enumAt s.now at) }
 {
     let name = read_name(s, at, BODY);
     let Read::At(marks_at) = name else {
@@ -76,7 +76,7 @@ fn read_newtype(s: &[u8], at: usize) -> Read
 
 // What follows the kind: configs, generic aliases and traits have only a name, impls have nothing.
 fn read_decl(kind: u8, s: &[u8], at: usize) -> Read
-    ensures { result ≡ skip (declAt (kind_of kind) s.now at) }
+    ensures { result ≡ skip (declAt (kindOf kind) s.now at) }
 {
     match kind {
         kinds::MESSAGE => read_message(s, at),
@@ -92,7 +92,7 @@ fn read_decl(kind: u8, s: &[u8], at: usize) -> Read
 
 // A whole body: nothing is left.
 pub(crate) fn read_body(s: &[u8]) -> Read
-    ensures { result ≡ skip (body_of s.now) }
+    ensures { result ≡ skip (bodyOf s.now) }
 {
     let kind = read_byte(s, 0);
     let Read::At(start) = kind else {

@@ -1,6 +1,6 @@
 // Head, contents, ids and namespace, and the bodies that the contents place.
 ghost use Rattle.std.specs.Prelude.{◌≡◌, true, ◌+◌, ◌*◌, ◌≤◌, ◌<◌, length};
-ghost use Rattle.image.specs.Image.{entryCount, idCount, segmentCount, entryOffset, entryLength, head_of, tables_of, laid, entry_of, entriesOf, readImage};
+ghost use Rattle.image.specs.Image.{entryCount, idCount, segmentCount, entryOffset, entryLength, headOf, tablesOf, laid, entryOf, entriesOf, readImage};
 ghost use Rattle.image.specs.Reads.{skip};
 
 use crate::bodies::read_body;
@@ -51,7 +51,7 @@ pub fn entry_length(s: &[u8], i: usize) -> usize
 
 // The head: its length, its format and its counts.
 fn read_head(s: &[u8]) -> Read
-    ensures { result ≡ skip (head_of s.now) }
+    ensures { result ≡ skip (headOf s.now) }
 {
     if 32768 < s.len() {
         return Read::Refused(LONG);
@@ -77,7 +77,7 @@ fn read_head(s: &[u8]) -> Read
 // The contents and the ids are there.
 fn read_tables(s: &[u8]) -> Read
     requires { 8 ≤ length s.now }
-    ensures { result ≡ skip (tables_of s.now) }
+    ensures { result ≡ skip (tablesOf s.now) }
 {
     let end = 8 + 4 * entry_count(s) + 4 * id_count(s);
     if s.len() < end {
@@ -117,7 +117,7 @@ fn is_laid(s: &[u8], n: usize, from: usize) -> bool
 // The body of an entry, if it has one.
 fn read_entry(s: &[u8], i: usize) -> Read
     requires { (8 + 4 * i + 4 ≤ length s.now) × (entryOffset s.now i + entryLength s.now i ≤ length s.now) }
-    ensures { result ≡ skip (entry_of s.now i) }
+    ensures { result ≡ skip (entryOf s.now i) }
 {
     let len = entry_length(s, i);
     if len == 0 {

@@ -1,5 +1,7 @@
 // The reader of whole images: contents, bodies, and the answer. What is accepted and which refusal is given first: document 01, as the
 // crate `image` says it.
+#![tactic(auto)]
+
 mod bodies;
 pub mod contents;
 

@@ -13,22 +13,22 @@ use Rattle.maps.proofs.Orders.{byNumber}
 use Rattle.maps.proofs.Reorderings.{reordered-all}
 use Rattle.maps.proofs.Alike.{survivors-once, compare_alike}
 use Rattle.image.specs.Schema.{Name, Label, label, Ty, Field, Variant, Decl}
-use Rattle.image.specs.Kinds.{Kind, kind_of, message, enum, flags, union, newtype, config, alias, trait, impl, other}
+use Rattle.image.specs.Kinds.{Kind, kindOf, message, enum, flags, union, newtype, config, alias, trait, impl, other}
 use Rattle.image.specs.Codes.{number, implKind}
-use Rattle.rules.specs.Survivors.{Registry, stands_for, name_of, ordinalOf, fieldMap, variantOrdinal, variantMap}
+use Rattle.rules.specs.Survivors.{Registry, standsFor, nameOf, ordinalOf, fieldMap, variantOrdinal, variantMap}
 use Rattle.rules.specs.Types.{nameOrNone, resolveLabel, resolve}
 use Rattle.rules.specs.Changes.{Bump, Change}
-use Rattle.rules.specs.Clauses.{clausesBy, Context, context, compareTypes, fieldText, compareFieldNames, compareEncodings, compareDeprecated, compareFields, fieldRules, compareFieldSets, compareMessages, variantText, variantGone, variantCame, enumRules, compareEnums, bitText, flagsRules, compare_flags, variantDecl, unionRules, compareUnions, compareNewtypes, compareKind, kindChanged, compareAlike, compareDecls, declText, declRules}
+use Rattle.rules.specs.Clauses.{clausesBy, Context, context, compareTypes, fieldText, compareFieldNames, compareEncodings, compareDeprecated, compareFields, fieldRules, compareFieldSets, compareMessages, variantText, variantGone, variantCame, enumRules, compareEnums, bitText, flagsRules, compareFlags, variantDecl, unionRules, compareUnions, compareNewtypes, compareKind, kindChanged, compareAlike, compareDecls, declText, declRules}
 use Rattle.refiling.specs.Refiling.{Impls, NumbersOnce, Unresolvable, Resolvable, RefiledId, renumbered, unresolvable, RefiledLabel, named, other, RefiledType, aLeaf, aOne, aTwo, RefiledField, RefiledVariant, RefiledDecl, Renumbered}
 
 -- ---- ids, types
 
 -- by what entry an id stands for
-pub by-entry : (R : Registry) (i : ℕ) {A : Type 0} → Resolvable R i → ((d : Decl) → stands_for R i ≡ some d → A) → A
+pub by-entry : (R : Registry) (i : ℕ) {A : Type 0} → Resolvable R i → ((d : Decl) → standsFor R i ≡ some d → A) → A
 unfolding Resolvable Unresolvable
-by-entry R i {A} r f = go (stands_for R i) refl
+by-entry R i {A} r f = go (standsFor R i) refl
   where
-    go : (o : Option Decl) → stands_for R i ≡ o → A
+    go : (o : Option Decl) → standsFor R i ≡ o → A
     go none p = absurd (r p)
     go (some d) p = f d p
 
@@ -36,8 +36,8 @@ by-entry R i {A} r f = go (stands_for R i) refl
 pub record Moved (R S : Registry) (to : ℕ → ℕ) (i : ℕ) : Type 0 where
   pub before : Decl
   pub after : Decl
-  pub stood : stands_for R i ≡ some before
-  pub stands : stands_for S (to i) ≡ some after
+  pub stood : standsFor R i ≡ some before
+  pub stands : standsFor S (to i) ≡ some after
   pub anew : RefiledDecl R S to before after
 
 -- of a node that is not named nothing is looked up
@@ -56,7 +56,7 @@ module _ {R S : Registry} {to from : ℕ → ℕ} (N : Renumbered R S to from) w
       by-entry S (to i) (N.there i r).0 (λ e b.
       record { before = d; after = e; stood = a; stands = b; anew = N.entry i d e a b }))
 
-  name-refiled : {i j : ℕ} → RefiledId R S to i j → nameOrNone (stands_for R i) ≡ nameOrNone (stands_for S j)
+  name-refiled : {i j : ℕ} → RefiledId R S to i j → nameOrNone (standsFor R i) ≡ nameOrNone (standsFor S j)
   unfolding nameOrNone Unresolvable
   name-refiled {i} (renumbered r e) = let x = moved i r in rw (e, x.stood, x.stands, x.anew.name)
   name-refiled (unresolvable a b) = rw (a, b)
@@ -189,8 +189,8 @@ module _ (same : Ty → Ty → Bool) {R R' S S' : Registry} {to from to' from' :
         (variants-same (enumRules name e.marks) (enumRules name e.marks) (variant-gone name) (variant-came _ name)
         (λ v v' w w' x y. refl) d d' e e' m n a b)
 
-    flags-same : compare_flags name d e ≡ compare_flags name d' e'
-    unfolding compare_flags flagsRules bitText
+    flags-same : compareFlags name d e ≡ compareFlags name d' e'
+    unfolding compareFlags flagsRules bitText
     flags-same = variants-same (flagsRules name) (flagsRules name) (λ v w x. cc) (λ v w x. cc) (λ v v' w w' x y. refl) d d' e e' m n a b
 
     unions-same : compareUnions first name d e ≡ compareUnions second name d' e'
@@ -212,7 +212,7 @@ module _ (same : Ty → Ty → Bool) {R R' S S' : Registry} {to from to' from' :
   unfolding compareKind
   kinds-same message d d' e e' m n a b = messages-same d d' e e' m n a b d.name ∙ ap (λ x. compareMessages second x d' e') a.name
   kinds-same enum d d' e e' m n a b = enums-same d d' e e' m n a b d.name ∙ ap (λ x. compareEnums x d' e') a.name
-  kinds-same flags d d' e e' m n a b = flags-same d d' e e' m n a b d.name ∙ ap (λ x. compare_flags x d' e') a.name
+  kinds-same flags d d' e e' m n a b = flags-same d d' e e' m n a b d.name ∙ ap (λ x. compareFlags x d' e') a.name
   kinds-same union d d' e e' m n a b =
       unions-same d d' e e' m n a b d.name ∙ ap (λ x. compareUnions second x d' e') a.name
   kinds-same newtype d d' e e' m n a b =
@@ -232,14 +232,14 @@ module _ (same : Ty → Ty → Bool) {R R' S S' : Registry} {to from to' from' :
   NewDecl = LikeDecl S S' to'
 
   -- impls are silent
-  impl-silent : (r : Context) (d e : Decl) (k : ℕ) → k ≡ number implKind → compareKind (kind_of k) r d e ≡ []
-  unfolding compareKind kind_of
+  impl-silent : (r : Context) (d e : Decl) (k : ℕ) → k ≡ number implKind → compareKind (kindOf k) r d e ≡ []
+  unfolding compareKind kindOf
   impl-silent r d e k p = rw p
 
   kind-same : (d d' e e' : Decl) → OldDecl d d' → NewDecl e e' → d.kind ≡ e.kind
-      → compareKind (kind_of d.kind) first d e ≡ compareKind (kind_of d.kind) second d' e'
+      → compareKind (kindOf d.kind) first d e ≡ compareKind (kindOf d.kind) second d' e'
   unfolding Impls
-  kind-same d d' e e' (refiled a m) (refiled b n) k = kinds-same (kind_of d.kind) d d' e e' m n a b
+  kind-same d d' e e' (refiled a m) (refiled b n) k = kinds-same (kindOf d.kind) d d' e e' m n a b
   kind-same d d' e e' (refiled a m) (impls i x) k =
       impl-silent first d e d.kind (k ∙ i.0) ∙ sym (impl-silent second d' e' d.kind (k ∙ i.0))
   kind-same d d' e e' (impls i x) b k = impl-silent first d e d.kind i.0 ∙ sym (impl-silent second d' e' d.kind i.0)
@@ -251,13 +251,13 @@ module _ (same : Ty → Ty → Bool) {R R' S S' : Registry} {to from to' from' :
   decls-same : (d d' e e' : Decl) → OldDecl d d' → NewDecl e e' → compareDecls first d e ≡ compareDecls second d' e'
   unfolding compareDecls compareAlike
   decls-same d d' e e' a b =
-      ap (cond (eqb d.kind e.kind) (compareKind (kind_of d.kind) first d e ++ [])) (changed-same d d' e e' a b)
+      ap (cond (eqb d.kind e.kind) (compareKind (kindOf d.kind) first d e ++ [])) (changed-same d d' e e' a b)
       ∙ go (eqb d.kind e.kind) refl
       ∙ cc (like-kind a, like-kind b)
     where
       go : (t : Bool) → eqb d.kind e.kind ≡ t
-          → cond t (compareKind (kind_of d.kind) first d e ++ []) (kindChanged d' e')
-          ≡ cond t (compareKind (kind_of d.kind) second d' e' ++ []) (kindChanged d' e')
+          → cond t (compareKind (kindOf d.kind) first d e ++ []) (kindChanged d' e')
+          ≡ cond t (compareKind (kindOf d.kind) second d' e' ++ []) (kindChanged d' e')
       go true p = ap (λ (z : List Change). z ++ []) (kind-same d d' e e' a b (eqb-true d.kind e.kind p))
       go false p = refl
 
@@ -270,8 +270,8 @@ module _ (same : Ty → Ty → Bool) {R R' S S' : Registry} {to from to' from' :
   decl-came e e' b = cc (like-name b, like-kind b)
 
   pub all_same : {m m' n n' : List Decl} → Forall₂ OldDecl m m' → Forall₂ NewDecl n n'
-      → compare name_of before (declRules first) m n ≡ compare name_of before (declRules second) m' n'
+      → compare nameOf before (declRules first) m n ≡ compare nameOf before (declRules second) m' n'
   unfolding declRules
   all_same v w =
-      compare_alike name_of before (λ d e x. like-name x) (λ d e x. like-name x) (declRules first) (declRules second) decl-gone decl-came
+      compare_alike nameOf before (λ d e x. like-name x) (λ d e x. like-name x) (declRules first) (declRules second) decl-gone decl-came
       decls-same v w

@@ -13,7 +13,7 @@ use Rattle.image.specs.Schema.{Name, unmarked, label, Ty, leaf, two, noType, Fie
 use Rattle.image.specs.Parse.{ok}
 use Rattle.image.specs.Image.{readImage}
 use Rattle.rules.specs.Equal.{sameName}
-use Rattle.rules.specs.Survivors.{Registry, stands_for}
+use Rattle.rules.specs.Survivors.{Registry, standsFor}
 use Rattle.rules.specs.Outcome.{written}
 use Rattle.rules.specs.Edges.{named as namedType, around, u8, impl}
 use Rattle.rules.specs.Pinned.{told}
@@ -190,11 +190,11 @@ from j = get_or (0 ∷ 2 ∷ 4 ∷ 1 ∷ 3 ∷ 0 ∷ []) j 0
 
 -- the unresolvable id
 lost : RefiledId R R' to 9 0
-unfolding Unresolvable stands_for
+unfolding Unresolvable standsFor
 lost = unresolvable refl refl
 
 message-anew : RefiledDecl R R' to (message (a (around 5 (namedType 1)) ∷ b 9 ∷ [])) (message (b 0 ∷ a (around 5 (namedType 3)) ∷ []))
-unfolding stands_for
+unfolding standsFor
 message-anew =
     decl-anew 0 _
     (each (field-anew 0 _ (aOne (stays 5 0 [] (λ e. omega arith)) (named-anew (moved-id 1 refl))))
@@ -202,7 +202,7 @@ message-anew =
     nothing (primitive-anew 0)
 
 union-anew : RefiledDecl R R' to (union (x ∷ y (f ∷ g 0 ∷ []) ∷ [])) (union (y (g 5 ∷ f ∷ []) ∷ x ∷ []))
-unfolding stands_for
+unfolding standsFor
 union-anew =
     decl-anew 3 _ nothing
     (each (item-anew 0 _ nothing)
@@ -219,7 +219,7 @@ impl-anew : RefiledDecl R R' to impl impl
 impl-anew = decl-anew 8 _ nothing nothing (primitive-anew 0)
 
 first-renumbered : Renumbered R R' to from
-unfolding Rows stands_for
+unfolding Rows standsFor
 first-renumbered =
     renumbered-by R R' to from (
       (_, refl, refl, message-anew),
@@ -228,7 +228,7 @@ first-renumbered =
     ((_, refl, refl), ((_, refl, refl), ((_, refl, refl), ((_, refl, refl), ((_, refl, refl), tt)))))
 
 first-anew : Refiled (rideOf R (0 ∷ 1 ∷ 2 ∷ 3 ∷ 9 ∷ 4 ∷ [])) (rideOf R' (4 ∷ 5 ∷ 0 ∷ 3 ∷ 1 ∷ 2 ∷ []))
-unfolding stands_for
+unfolding standsFor
 first-anew = record {
   to = to;
   from = from;
@@ -251,13 +251,13 @@ abbrev off : ℕ → ℕ
 off j = get_or (4 ∷ 5 ∷ 3 ∷ 2 ∷ 1 ∷ 0 ∷ []) j 9
 
 later-message : RefiledDecl S S' on (message (a u8 ∷ b 5 ∷ [])) (message (b 1 ∷ a u8 ∷ []))
-unfolding stands_for
+unfolding standsFor
 later-message =
     decl-anew 0 _ (each (field-anew 0 _ (primitive-anew 1)) (each (field-anew 1 _ (named-anew (moved-id 5 refl))) nothing here) (later here))
     nothing (primitive-anew 0)
 
 later-union : RefiledDecl S S' on (union (y (f ∷ h 1 ∷ []) ∷ [])) (union (y (h 4 ∷ f ∷ []) ∷ []))
-unfolding stands_for
+unfolding standsFor
 later-union =
     decl-anew 3 _ nothing
     (each
@@ -273,7 +273,7 @@ enum-anew : RefiledDecl S S' on (enum (r ∷ s ∷ [])) (enum (s ∷ r ∷ []))
 enum-anew = decl-anew 1 _ nothing (each (item-anew 0 _ nothing) (each (item-anew 1 _ nothing) nothing here) (later here)) (primitive-anew 0)
 
 newtype-anew : RefiledDecl S S' on (newtype (mapOf 3)) (newtype (mapOf 2))
-unfolding stands_for
+unfolding standsFor
 newtype-anew =
     decl-anew 4 _ nothing nothing
     (aTwo (stays 8 0 [] (λ e. omega arith)) (named-anew (moved-id 3 refl)) (aLeaf (stays 16 0 _ (λ e. omega arith))))
@@ -282,7 +282,7 @@ config-anew : RefiledDecl S S' on config config
 config-anew = decl-anew 5 _ nothing nothing (primitive-anew 0)
 
 second-renumbered : Renumbered S S' on off
-unfolding Rows stands_for
+unfolding Rows standsFor
 second-renumbered =
     renumbered-by S S' on off (
       (_, refl, refl, later-message),
@@ -297,7 +297,7 @@ second-renumbered =
     ((_, refl, refl), ((_, refl, refl), ((_, refl, refl), ((_, refl, refl), ((_, refl, refl), ((_, refl, refl), tt))))))
 
 second-anew : Refiled (rideOf S (0 ∷ 1 ∷ 2 ∷ 3 ∷ 4 ∷ [])) (rideOf S' (0 ∷ 3 ∷ 5 ∷ 2 ∷ 4 ∷ []))
-unfolding stands_for
+unfolding standsFor
 second-anew = record {
   to = on;
   from = off;

@@ -50,7 +50,7 @@ refiled-image {s = s} {t = t} {m = m} {n = n} p q h r = record {
   before = s;
   after = t;
   beforeEnd = m;
-  after_end = n;
+  afterEnd = n;
   beforeRead = p;
   afterRead = q;
   holds = h;

@@ -10,7 +10,7 @@ use Rattle.maps.specs.Reordered.{here, later, Reordered, nothing, each, EachTwo,
 use Rattle.maps.proofs.Reorderings.{reordered-map, reordered-then}
 use Rattle.image.specs.Schema.{Schema}
 use Rattle.image.specs.Words.{bytes}
-use Rattle.rules.specs.Survivors.{stands_for}
+use Rattle.rules.specs.Survivors.{standsFor}
 use Rattle.rules.specs.Edges.{told}
 use Rattle.rules.proofs.Computed.{reports}
 use Rattle.refiling.specs.Refiling.{Impls, NamesOnce, entries, RefiledId, Refiled}
@@ -49,7 +49,7 @@ listed-anew s ids w = let r = refilings.itself s in record {
 
 -- two fields of one number, in the other order
 twice-turned : Refiled twice turned
-unfolding bytes stands_for Rows
+unfolding bytes standsFor Rows
 twice-turned = record {
   to = λ i. i;
   from = λ i. i;

@@ -10,7 +10,7 @@ use Rattle.maps.specs.Reordered.{Reordered}
 use Rattle.maps.proofs.Tests.{no_both}
 use Rattle.maps.proofs.Reorderings.{reordered-self, reordered-back, reordered-map, reordered-then}
 use Rattle.image.specs.Schema.{Label, label, Ty, leaf, one, two, Field, Variant, Decl, Schema}
-use Rattle.rules.specs.Survivors.{Registry, stands_for}
+use Rattle.rules.specs.Survivors.{Registry, standsFor}
 use Rattle.refiling.specs.Refiling.{Unresolvable, Resolvable, RefiledId, renumbered, unresolvable, RefiledLabel, named, other, RefiledType, aLeaf, aOne, aTwo, RefiledField, RefiledVariant, RefiledDecl, Renumbered, Refiled, Refilings}
 use Rattle.refiling.proofs.Clauses.{moved}
 use Rattle.refiling.proofs.Repeats.{entry-resolvable, no-repeats-refiled}
@@ -23,9 +23,9 @@ module _ (R : Registry) where
 
   id-self : (i : ℕ) → RefiledId R R same i i
   unfolding Resolvable Unresolvable
-  id-self i = go (stands_for R i) refl
+  id-self i = go (standsFor R i) refl
     where
-      go : (o : Option Decl) → stands_for R i ≡ o → RefiledId R R same i i
+      go : (o : Option Decl) → standsFor R i ≡ o → RefiledId R R same i i
       go none p = unresolvable p p
       go (some d) p = renumbered (λ q. some-ne-none d (sym p ∙ q)) refl
 
@@ -126,7 +126,7 @@ module _ {R S : Registry} {to from : ℕ → ℕ} (N : Renumbered R S to from) w
     there = N.back;
     back = N.there;
     entry = λ j e d p q.
-        decl-back e d (N.entry (from j) d e q (ap (stands_for S) (N.back j (entry-resolvable S j e p)).1 ∙ p));
+        decl-back e d (N.entry (from j) d e q (ap (standsFor S) (N.back j (entry-resolvable S j e p)).1 ∙ p));
   }
 
 refiled-back : (s t : Schema) → Refiled s t → Refiled t s
@@ -147,7 +147,7 @@ module _ {R S T : Registry} {to from to' from' : ℕ → ℕ} (M : Renumbered R 
   id-further : {i j k : ℕ} → RefiledId R S to i j → RefiledId S T to' j k → RefiledId R T on i k
   unfolding Resolvable Unresolvable
   id-further (renumbered r e) (renumbered q d) = renumbered r (d ∙ ap to' e)
-  id-further {i} (renumbered r e) (unresolvable p q) = absurd ((M.there i r).0 (ap (stands_for S) (sym e) ∙ p))
+  id-further {i} (renumbered r e) (unresolvable p q) = absurd ((M.there i r).0 (ap (standsFor S) (sym e) ∙ p))
   id-further (unresolvable p q) (renumbered r e) = absurd (r q)
   id-further (unresolvable p q) (unresolvable r u) = unresolvable p u
 

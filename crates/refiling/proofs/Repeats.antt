@@ -10,7 +10,7 @@ use Rattle.maps.specs.Reordered.{Once}
 use Rattle.maps.proofs.Lists.{all_map}
 use Rattle.maps.proofs.Reorderings.{In, all_in, each_two, each-two-map, each-two-of, all-reordered, each-two-reordered, once-reordered}
 use Rattle.image.specs.Schema.{Decl, Schema}
-use Rattle.rules.specs.Survivors.{Registry, stands_for, resolved, listed, ordinalOf, variantOrdinal}
+use Rattle.rules.specs.Survivors.{Registry, standsFor, resolved, listed, ordinalOf, variantOrdinal}
 use Rattle.refiling.specs.Refiling.{Impls, NamesOnce, NumbersOnce, entries, NoRepeats, EntriesOnce, ListedOnce, Unresolvable, Resolvable, RefiledDecl, Renumbered, Refiled}
 use Rattle.refiling.proofs.Clauses.{moved, impls-turn}
 use Rattle.refiling.proofs.Standing.{listed-refiled}
@@ -18,13 +18,13 @@ use Rattle.refiling.proofs.Standing.{listed-refiled}
 -- ---- ids and entries
 
 -- an entry is not empty
-pub entry-resolvable : (R : Registry) (i : ℕ) (d : Decl) → stands_for R i ≡ some d → Resolvable R i
+pub entry-resolvable : (R : Registry) (i : ℕ) (d : Decl) → standsFor R i ≡ some d → Resolvable R i
 unfolding Resolvable Unresolvable
 entry-resolvable R i d p q = some-ne-none d (sym p ∙ q)
 
 -- what an id stands for is an entry
-entry_in : (R : Registry) (i : ℕ) (d : Decl) → stands_for R i ≡ some d → In d (entries R)
-unfolding stands_for entries resolved
+entry_in : (R : Registry) (i : ℕ) (d : Decl) → standsFor R i ≡ some d → In d (entries R)
+unfolding standsFor entries resolved
 entry_in [] i d p = absurd (none-ne-some d p)
 entry_in (none ∷ R) zero d p = absurd (none-ne-some d p)
 entry_in (none ∷ R) (suc i) d p = entry_in R i d p
@@ -32,8 +32,8 @@ entry_in (some e ∷ R) zero d p = Memᴰ.head (sym (some-injective e d p))
 entry_in (some e ∷ R) (suc i) d p = Memᴰ.tail (entry_in R i d p)
 
 -- what holds of all that ids stand for holds of all entries
-all-entries : (P : Decl → Type 0) (R : Registry) → ((i : ℕ) (d : Decl) → stands_for R i ≡ some d → P d) → All P (entries R)
-unfolding stands_for entries resolved All
+all-entries : (P : Decl → Type 0) (R : Registry) → ((i : ℕ) (d : Decl) → standsFor R i ≡ some d → P d) → All P (entries R)
+unfolding standsFor entries resolved All
 all-entries P [] h = tt
 all-entries P (none ∷ R) h = all-entries P R (λ i. h (suc i))
 all-entries P (some d ∷ R) h = (h 0 d refl, all-entries P R (λ i. h (suc i)))
@@ -41,9 +41,9 @@ all-entries P (some d ∷ R) h = (h 0 d refl, all-entries P R (λ i. h (suc i)))
 listed-entries : (R : Registry) (ids : List ℕ) → All (λ d. In d (entries R)) (listed R ids)
 unfolding listed resolved All
 listed-entries R [] = tt
-listed-entries R (i ∷ ids) = go (stands_for R i) refl (listed-entries R ids)
+listed-entries R (i ∷ ids) = go (standsFor R i) refl (listed-entries R ids)
   where
-    go : (o : Option Decl) → stands_for R i ≡ o → All (λ d. In d (entries R)) (listed R ids) → All (λ d. In d (entries R)) (resolved o (listed R ids))
+    go : (o : Option Decl) → standsFor R i ≡ o → All (λ d. In d (entries R)) (listed R ids) → All (λ d. In d (entries R)) (resolved o (listed R ids))
     go none p h = h
     go (some d) p h = (entry_in R i d p, h)
 
@@ -88,11 +88,11 @@ numbers-refiled r n = record {
 entries-refiled : {R S : Registry} {to from : ℕ → ℕ} → Renumbered R S to from → All NumbersOnce (entries R) → All NumbersOnce (entries S)
 entries-refiled {R} {S} {to} {from} N h = all-entries NumbersOnce S once
   where
-    once : (j : ℕ) (e : Decl) → stands_for S j ≡ some e → NumbersOnce e
+    once : (j : ℕ) (e : Decl) → standsFor S j ≡ some e → NumbersOnce e
     once j e p =
         let b = N.back j (entry-resolvable S j e p) in
         let m = moved N (from j) b.0 in
-        let q : m.after ≡ e = some-injective m.after e (sym m.stands ∙ (ap (stands_for S) b.1 ∙ p)) in
+        let q : m.after ≡ e = some-injective m.after e (sym m.stands ∙ (ap (standsFor S) b.1 ∙ p)) in
         subst NumbersOnce q (numbers-refiled m.anew (all_in NumbersOnce h (entry_in R (from j) m.before m.stood)))
 
 pub no-repeats-refiled : (s t : Schema) → Refiled s t → NoRepeats s → NoRepeats t

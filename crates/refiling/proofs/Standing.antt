@@ -12,7 +12,7 @@ use Rattle.maps.proofs.Names.{byName}
 use Rattle.maps.proofs.Reorderings.{In, each_two, reordered-map, reordered-all}
 use Rattle.maps.proofs.Alike.{Both, neither, these, survivors-alike, lookup-alike}
 use Rattle.image.specs.Schema.{Ty, Decl, Schema}
-use Rattle.rules.specs.Survivors.{Registry, stands_for, resolved, listed, name_of, declarations, view_of}
+use Rattle.rules.specs.Survivors.{Registry, standsFor, resolved, listed, nameOf, declarations, viewOf}
 use Rattle.rules.specs.Types.{sameType}
 use Rattle.rules.specs.Clauses.{clausesBy, changes}
 use Rattle.rules.specs.Verdict.{alias, isAlias, any, aliasPair}
@@ -23,15 +23,15 @@ use Rattle.refiling.proofs.Clauses.{moved, impls-turn, LikeDecl, refiled, impls,
 -- ---- what stands
 
 module _ {R S : Registry} {to from : ℕ → ℕ} (N : Renumbered R S to from) where
-  put-none : {j : ℕ} {is js : List ℕ} → stands_for S j ≡ none → Put j is js → listed S is ≡ listed S js
+  put-none : {j : ℕ} {is js : List ℕ} → standsFor S j ≡ none → Put j is js → listed S is ≡ listed S js
   unfolding listed resolved
   put-none p here = rw p
-  put-none p (later {b = b} q) = ap (resolved (stands_for S b)) (put-none p q)
+  put-none p (later {b = b} q) = ap (resolved (standsFor S b)) (put-none p q)
 
-  put_some : {j : ℕ} {e : Decl} {is js : List ℕ} → stands_for S j ≡ some e → Put j is js → Put e (listed S is) (listed S js)
+  put_some : {j : ℕ} {e : Decl} {is js : List ℕ} → standsFor S j ≡ some e → Put j is js → Put e (listed S is) (listed S js)
   unfolding listed resolved
   put_some p here = rw p here
-  put_some {e = e} p (later {b = b} {l = l} {m = m} q) = go (stands_for S b) (put_some p q)
+  put_some {e = e} p (later {b = b} {l = l} {m = m} q) = go (standsFor S b) (put_some p q)
     where
       go : (o : Option Decl) → Put e (listed S l) (listed S m) → Put e (resolved o (listed S l)) (resolved o (listed S m))
       go none ih = ih
@@ -42,7 +42,7 @@ module _ {R S : Registry} {to from : ℕ → ℕ} (N : Renumbered R S to from) w
   unfolding listed resolved Unresolvable
   listed-refiled nothing = nothing
   listed-refiled (each {a = i} (renumbered r e) rest p) =
-      let x = moved N i r in rw x.stood (each x.anew (listed-refiled rest) (put_some (ap (stands_for S) e ∙ x.stands) p))
+      let x = moved N i r in rw x.stood (each x.anew (listed-refiled rest) (put_some (ap (standsFor S) e ∙ x.stands) p))
   listed-refiled (each {l = l} (unresolvable a b) rest p) =
       rw a (subst (Reordered (RefiledDecl R S to) (listed R l)) (put-none b p) (listed-refiled rest))
 
@@ -68,7 +68,7 @@ standing-alike : (s t : Schema) → ListedOnce s → (r : Refiled s t)
     → Forall₂ (LikeDecl s.registry t.registry r.to) (declarations s) (declarations t)
 unfolding declarations
 standing-alike s t o r =
-    survivors-alike name_of byName (LikeDecl s.registry t.registry r.to) (λ d e x. like-name x) (listed s.registry s.ids)
+    survivors-alike nameOf byName (LikeDecl s.registry t.registry r.to) (λ d e x. like-name x) (listed s.registry s.ids)
     (listed t.registry t.ids)
     (reordered-map (λ d e x. refiled x.0 x.1) (reordered-all NumbersOnce o.numbers (listed-refiled r.registry r.ids)))
     (like-agree o.names)
@@ -91,19 +91,19 @@ isAlias-same neither = refl
 isAlias-same (these x) = alias-same x
 
 alias-found : {R R' S S' : Registry} {to to' : ℕ → ℕ} {m n : List Decl} → Forall₂ (LikeDecl S S' to') m n → (d e : Decl) → LikeDecl R R' to d e
-    → alias d && isAlias (lookup name_of before d.name m) ≡ alias e && isAlias (lookup name_of before e.name n)
-alias-found w d e x = cc (alias-same x, like-name x, isAlias-same (lookup-alike name_of before (λ f g y. like-name y) e.name w))
+    → alias d && isAlias (lookup nameOf before d.name m) ≡ alias e && isAlias (lookup nameOf before e.name n)
+alias-found w d e x = cc (alias-same x, like-name x, isAlias-same (lookup-alike nameOf before (λ f g y. like-name y) e.name w))
 
 module _ {old old' new new' : Schema} (o : ListedOnce old) (n : ListedOnce new) (a : Refiled old old') (b : Refiled new new') where
   -- for any way to read types
   pub changes-refiled : (same : Ty → Ty → Bool)
-      → changes (clausesBy same) (view_of old) (view_of new) ≡ changes (clausesBy same) (view_of old') (view_of new')
-  unfolding changes view_of
+      → changes (clausesBy same) (viewOf old) (viewOf new) ≡ changes (clausesBy same) (viewOf old') (viewOf new')
+  unfolding changes viewOf
   changes-refiled same =
       cc (a.namespace, b.namespace, all_same same a.registry b.registry (standing-alike old old' o a) (standing-alike new new' n b))
 
-  pub alias-refiled : aliasPair (view_of old) (view_of new) ≡ aliasPair (view_of old') (view_of new')
-  unfolding aliasPair view_of
+  pub alias-refiled : aliasPair (viewOf old) (viewOf new) ≡ aliasPair (viewOf old') (viewOf new')
+  unfolding aliasPair viewOf
   alias-refiled = any-alike _ _ (alias-found (standing-alike new new' n b)) (standing-alike old old' o a)
 
   pub pair-refiled : comparePair plain old new ≡ comparePair plain old' new'

@@ -6,7 +6,7 @@ use Prim.Native.Nat.{ℕ, zero, suc}
 use native.Mathlib.Omega.{arith}
 use Rattle.maps.specs.Reordered.{Reordered}
 use Rattle.image.specs.Schema.{Name, unmarked, label, Ty, Field, Variant, Decl, decl}
-use Rattle.rules.specs.Survivors.{Registry, stands_for}
+use Rattle.rules.specs.Survivors.{Registry, standsFor}
 use Rattle.rules.specs.Edges.{named as namedType, primitive}
 use Rattle.refiling.specs.Refiling.{RefiledId, renumbered, RefiledLabel, named, other, RefiledType, aLeaf, RefiledField, RefiledVariant, RefiledDecl, Renumbered}
 use Rattle.refiling.proofs.Clauses.{by-entry}
@@ -20,8 +20,8 @@ Rows P [] n = Unit {0}
 Rows P (none ∷ R) n = Rows P R (λ k. n (suc k))
 Rows P (some d ∷ R) n = P (n 0) d × Rows P R (λ k. n (suc k))
 
-row : (P : ℕ → Decl → Type 0) (R : Registry) (n : ℕ → ℕ) → Rows P R n → (i : ℕ) (d : Decl) → stands_for R i ≡ some d → P (n i) d
-unfolding Rows stands_for
+row : (P : ℕ → Decl → Type 0) (R : Registry) (n : ℕ → ℕ) → Rows P R n → (i : ℕ) (d : Decl) → standsFor R i ≡ some d → P (n i) d
+unfolding Rows standsFor
 row P [] n h i d p = absurd (none-ne-some d p)
 row P (none ∷ R) n h zero d p = absurd (none-ne-some d p)
 row P (none ∷ R) n h (suc i) d p = row P R (λ k. n (suc k)) h i d p
@@ -31,10 +31,10 @@ row P (some e ∷ R) n h (suc i) d p = row P R (λ k. n (suc k)) h.1 i d p
 module _ (R S : Registry) (to from : ℕ → ℕ) where
   -- what is shown of an entry of R, and of one of S
   abbrev pub There : ℕ → Decl → Type 0
-  There i d = (e : Decl) × (stands_for S (to i) ≡ some e) × (from (to i) ≡ i) × RefiledDecl R S to d e
+  There i d = (e : Decl) × (standsFor S (to i) ≡ some e) × (from (to i) ≡ i) × RefiledDecl R S to d e
 
   abbrev pub Back : ℕ → Decl → Type 0
-  Back j e = (d : Decl) × (stands_for R (from j) ≡ some d) × (to (from j) ≡ j)
+  Back j e = (d : Decl) × (standsFor R (from j) ≡ some d) × (to (from j) ≡ j)
 
   pub renumbered-by : Rows There R (λ i. i) → Rows Back S (λ j. j) → Renumbered R S to from
   renumbered-by there back = record {
@@ -56,7 +56,7 @@ item ordinal name fs = record { ordinal = ordinal; name = name; fields = fs }
 
 module _ {R S : Registry} {to : ℕ → ℕ} where
   -- an id that has an entry, by its new number
-  pub moved-id : (i : ℕ) {d : Decl} → stands_for R i ≡ some d → RefiledId R S to i (to i)
+  pub moved-id : (i : ℕ) {d : Decl} → standsFor R i ≡ some d → RefiledId R S to i (to i)
   moved-id i {d} p = renumbered (entry-resolvable R i d p) refl
 
   -- a node of another tag than 3

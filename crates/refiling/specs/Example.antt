@@ -145,8 +145,8 @@ abbrev pub single : Schema
 single = message (field 3 "y" unmarked none u8 ∷ [])
 
 -- newtype A of inline bits
-abbrev pub of_bits : List String → Schema
-of_bits names = newtype (leaf (label (number bitsTag) 0 0 (map bytes names))) []
+abbrev pub ofBits : List String → Schema
+ofBits names = newtype (leaf (label (number bitsTag) 0 0 (map bytes names))) []
 
 -- newtype A of the named type with id 1, a config of that name
 abbrev pub ofNamed : String → Schema
@@ -162,5 +162,5 @@ pub record Needed : Type 0 where
   pub ordinals : Refiled twice turned
   pub ordinalsMatter : toldOf twice single ≡ toldOf turned single → ⊥
   -- inline bits in another order, and an id that does not follow (it now has the number of another entry), are changes
-  pub bitsMatter : toldOf (of_bits ("a" ∷ "b" ∷ [])) (of_bits ("a" ∷ "b" ∷ [])) ≡ toldOf (of_bits ("a" ∷ "b" ∷ [])) (of_bits ("b" ∷ "a" ∷ [])) → ⊥
+  pub bitsMatter : toldOf (ofBits ("a" ∷ "b" ∷ [])) (ofBits ("a" ∷ "b" ∷ [])) ≡ toldOf (ofBits ("a" ∷ "b" ∷ [])) (ofBits ("b" ∷ "a" ∷ [])) → ⊥
   pub idsMatter : toldOf (ofNamed "B") (ofNamed "B") ≡ toldOf (ofNamed "B") (ofNamed "C") → ⊥

@@ -8,7 +8,7 @@ use Rattle.image.specs.Schema.{Name, Label, label, Ty, leaf, one, two, Field, Va
 use Rattle.image.specs.Codes.{number, implKind, namedTag}
 use Rattle.image.specs.Parse.{ok}
 use Rattle.image.specs.Image.{readImage}
-use Rattle.rules.specs.Survivors.{Registry, stands_for, resolved, listed, ordinalOf, variantOrdinal, view_of}
+use Rattle.rules.specs.Survivors.{Registry, standsFor, resolved, listed, ordinalOf, variantOrdinal, viewOf}
 use Rattle.rules.specs.Clauses.{clausesBy, changes}
 use Rattle.rules.specs.Answer.{checked, verdictOf, returned, leaves}
 
@@ -53,7 +53,7 @@ pub record ListedOnce (s : Schema) : Type 0 where
 
 -- "An id that is N or more, or whose entry is empty, is unresolvable"
 unfoldable pub Unresolvable : Registry → ℕ → Type 0
-Unresolvable R i = stands_for R i ≡ none
+Unresolvable R i = standsFor R i ≡ none
 
 unfoldable pub Resolvable : Registry → ℕ → Type 0
 Resolvable R i = Unresolvable R i → ⊥
@@ -102,7 +102,7 @@ module _ (R S : Registry) (to : ℕ → ℕ) where
 pub record Renumbered (R S : Registry) (to from : ℕ → ℕ) : Type 0 where
   pub there : (i : ℕ) → Resolvable R i → Resolvable S (to i) × (from (to i) ≡ i)
   pub back : (j : ℕ) → Resolvable S j → Resolvable R (from j) × (to (from j) ≡ j)
-  pub entry : (i : ℕ) (d e : Decl) → stands_for R i ≡ some d → stands_for S (to i) ≡ some e → RefiledDecl R S to d e
+  pub entry : (i : ℕ) (d e : Decl) → standsFor R i ≡ some d → standsFor S (to i) ≡ some e → RefiledDecl R S to d e
 
 -- t is s filed anew
 pub record Refiled (s t : Schema) : Type 0 where
@@ -131,9 +131,9 @@ pub record RefiledImage (P : Schema → Type 0) (a b : List ℕ) : Type 0 where
   pub before : Schema
   pub after : Schema
   pub beforeEnd : ℕ
-  pub after_end : ℕ
+  pub afterEnd : ℕ
   pub beforeRead : readImage a ≡ ok before beforeEnd
-  pub afterRead : readImage b ≡ ok after after_end
+  pub afterRead : readImage b ≡ ok after afterEnd
   pub holds : P before
   pub refiled : Refiled before after
 
@@ -161,4 +161,4 @@ pub record FilingOrder : Type 0 where
   pub entriesOnce : Unaffected EntriesOnce
   pub listedOnce : Unaffected ListedOnce
   pub anyTypes : (same : Ty → Ty → Bool) (old new old' new' : Schema) → ListedOnce old → ListedOnce new → Refiled old old' → Refiled new new'
-      → changes (clausesBy same) (view_of old) (view_of new) ≡ changes (clausesBy same) (view_of old') (view_of new')
+      → changes (clausesBy same) (viewOf old) (viewOf new) ≡ changes (clausesBy same) (viewOf old') (viewOf new')

@@ -3,14 +3,14 @@ use mathlib.Core.List.{List}
 use Prim.Native.Nat.{ℕ, zero, suc, ◌+◌, ◌≤◌}
 use lib.Dec.{T, leb, lit≤}
 use Rattle.image.specs.Schema.{Ty, Label}
-use Rattle.image.specs.Parse.{Parsed, no, byte_at, code_at, number_at, counted}
-use Rattle.image.specs.Names.{name_at, names_at}
-use Rattle.image.specs.Types.{Follows, code, subByte, identity, size, nothing, bits, unknown, followsTag, innerTypes, afterTag, label_of, inner_at, type_of, type_at}
+use Rattle.image.specs.Parse.{Parsed, no, byteAt, codeAt, numberAt, counted}
+use Rattle.image.specs.Names.{nameAt, namesAt}
+use Rattle.image.specs.Types.{Follows, code, subByte, identity, size, nothing, bits, unknown, followsTag, innerTypes, afterTag, labelOf, innerAt, typeOf, typeAt}
 use Rattle.image.specs.Fields.{marksAt, encodingOf, encodingAt, limitAt, fieldAt, bareAt, variantAt}
 use Rattle.image.specs.Codes.{number, kindRefusal, bodyRefusal}
-use Rattle.image.specs.Kinds.{Kind, message, enum, flags, union, newtype, config, alias, trait, impl, other, kind_of}
-use Rattle.image.specs.Bodies.{messageAt, enum_at, flagsAt, unionAt, newtypeAt, otherAt, implAt, declAt, body_of}
-use Rattle.image.specs.Image.{entry_of, entriesOf}
+use Rattle.image.specs.Kinds.{Kind, message, enum, flags, union, newtype, config, alias, trait, impl, other, kindOf}
+use Rattle.image.specs.Bodies.{messageAt, enumAt, flagsAt, unionAt, newtypeAt, otherAt, implAt, declAt, bodyOf}
+use Rattle.image.specs.Image.{entryOf, entriesOf}
 use Rattle.refusals.proofs.Told.{Told, told-ok, told-no, Any, told-bind, told-pick, told-within, told-many}
 
 pub record Body (k : ℕ) : Type 0 where
@@ -20,17 +20,17 @@ pub record Body (k : ℕ) : Type 0 where
 by : (k : ℕ) {A : Type 0} {P : A → ℕ → Type 0} → T (leb 6 k) → T (leb k 10) → Told P Body (no k)
 by k low high = told-no (record { low = lit≤ low; high = lit≤ high })
 
-byte-told : (s : List ℕ) (at : ℕ) → Told Any Body (byte_at 8 s at)
-unfolding byte_at
+byte-told : (s : List ℕ) (at : ℕ) → Told Any Body (byteAt 8 s at)
+unfolding byteAt
 byte-told s at = told-pick _ (λ h. told-ok tt) (λ h. by 8 tt tt)
 
-code-told : (lo hi : ℕ) (s : List ℕ) (at : ℕ) → Told Any Body (code_at lo hi s at)
-unfolding code_at
+code-told : (lo hi : ℕ) (s : List ℕ) (at : ℕ) → Told Any Body (codeAt lo hi s at)
+unfolding codeAt
 code-told lo hi s at =
     told-bind _ (byte-told s at) (λ b n _. told-pick _ (λ h. told-ok tt) (λ h. by 9 tt tt))
 
-number-told : (w : ℕ) (s : List ℕ) (at : ℕ) → Told Any Body (number_at w s at)
-unfolding number_at
+number-told : (w : ℕ) (s : List ℕ) (at : ℕ) → Told Any Body (numberAt w s at)
+unfolding numberAt
 number-told w s at = told-pick _ (λ h. told-ok tt) (λ h. by 8 tt tt)
 
 counted-told : {A : Type 0} (p : List ℕ → ℕ → Parsed A) → ((s : List ℕ) (at : ℕ) → Told Any Body (p s at))
@@ -38,17 +38,17 @@ counted-told : {A : Type 0} (p : List ℕ → ℕ → Parsed A) → ((s : List �
 unfolding counted
 counted-told p h s at = told-bind _ (number-told 2 s at) (λ c n _. told-many p h c s n)
 
-name-told : (s : List ℕ) (at : ℕ) → Told Any Body (name_at 8 s at)
-unfolding name_at
+name-told : (s : List ℕ) (at : ℕ) → Told Any Body (nameAt 8 s at)
+unfolding nameAt
 name-told s at =
     told-bind _ (byte-told s at) (λ k n _.
     told-pick _
     (λ h. told-pick _ (λ g. told-ok tt) (λ g. by 7 tt tt))
     (λ h. by 8 tt tt))
 
-names-told : (count : ℕ) (s : List ℕ) (at : ℕ) → Told Any Body (names_at 8 count s at)
-unfolding names_at
-names-told count s at = told-many (name_at 8) name-told count s at
+names-told : (count : ℕ) (s : List ℕ) (at : ℕ) → Told Any Body (namesAt 8 count s at)
+unfolding namesAt
+names-told count s at = told-many (nameAt 8) name-told count s at
 
 after-told : (tag : ℕ) (f : Follows) (s : List ℕ) (at : ℕ) → Told Any Body (afterTag tag f s at)
 unfolding afterTag
@@ -61,23 +61,23 @@ after-told tag bits s at = told-bind _ (byte-told s at) (λ k n _. told-bind _ (
 after-told tag unknown s at = by 9 tt tt
 
 inner-told : (p : List ℕ → Parsed Ty) → ((s : List ℕ) → Told Any Body (p s)) → (i : ℕ) (l : Label) (s : List ℕ) (at : ℕ)
-    → Told Any Body (inner_at i l p s at)
-unfolding inner_at
+    → Told Any Body (innerAt i l p s at)
+unfolding innerAt
 inner-told p h zero l s at = told-ok tt
 inner-told p h (suc zero) l s at = told-bind _ (told-within p h s at) (λ t n _. told-ok tt)
 inner-told p h (suc (suc k)) l s at =
     told-bind _ (told-within p h s at) (λ t n _. told-bind _ (told-within p h s n) (λ u m _. told-ok tt))
 
-type-told : (left : ℕ) (s : List ℕ) → Told Any Body (type_of left s)
-unfolding type_of label_of
+type-told : (left : ℕ) (s : List ℕ) → Told Any Body (typeOf left s)
+unfolding typeOf labelOf
 type-told zero s = by 10 tt tt
 type-told (suc left) s =
     told-bind _ (told-bind _ (byte-told s 0) (λ tag n _. after-told tag (followsTag tag) s n)) (λ l n _.
-    inner-told (type_of left) (type-told left) (innerTypes l.tag) l s n)
+    inner-told (typeOf left) (type-told left) (innerTypes l.tag) l s n)
 
-typeAt-told : (s : List ℕ) (at : ℕ) → Told Any Body (type_at s at)
-unfolding type_at
-typeAt-told s at = told-within (type_of 32) (type-told 32) s at
+typeAt-told : (s : List ℕ) (at : ℕ) → Told Any Body (typeAt s at)
+unfolding typeAt
+typeAt-told s at = told-within (typeOf 32) (type-told 32) s at
 
 marks-told : (s : List ℕ) (at : ℕ) → Told Any Body (marksAt s at)
 unfolding marksAt
@@ -119,7 +119,7 @@ variant-told s at =
     told-bind _ (counted-told fieldAt field_told s n₂) (λ fs n₃ _. told-ok tt)))
 
 decl-told : (kind : Kind) (s : List ℕ) (at : ℕ) → Told Any Body (declAt kind s at)
-unfolding declAt messageAt enum_at flagsAt unionAt newtypeAt otherAt implAt
+unfolding declAt messageAt enumAt flagsAt unionAt newtypeAt otherAt implAt
 decl-told message s at =
     told-bind _ (name-told s at) (λ x n₁ _.
     told-bind _ (marks-told s n₁) (λ m n₂ _.
@@ -140,15 +140,15 @@ decl-told trait s at = told-bind _ (name-told s at) (λ x n _. told-ok tt)
 decl-told impl s at = told-ok tt
 decl-told other s at = by (number kindRefusal) tt tt
 
-body-told : (s : List ℕ) → Told Any Body (body_of s)
-unfolding body_of
+body-told : (s : List ℕ) → Told Any Body (bodyOf s)
+unfolding bodyOf
 body-told s =
     told-bind _ (byte-told s 0) (λ kind n₁ _.
-    told-bind _ (decl-told (kind_of kind) s n₁) (λ d n₂ _.
+    told-bind _ (decl-told (kindOf kind) s n₁) (λ d n₂ _.
     told-pick _ (λ h. told-ok tt) (λ h. by (number bodyRefusal) tt tt)))
 
-entry-told : (s : List ℕ) (i : ℕ) → Told Any Body (entry_of s i)
-unfolding entry_of
+entry-told : (s : List ℕ) (i : ℕ) → Told Any Body (entryOf s i)
+unfolding entryOf
 entry-told s i = told-pick _ (λ h. told-ok tt) (λ h. told-bind _ (body-told _) (λ d n _. told-ok tt))
 
 pub entries-told : (count : ℕ) (s : List ℕ) (i : ℕ) → Told Any Body (entriesOf count s i)

@@ -11,8 +11,8 @@ use lib.Dec.{leb}
 use lib.ListN.{length}
 use Rattle.image.specs.Schema.{Schema, Name}
 use Rattle.image.specs.Parse.{Parsed, ok, no, bind, pick}
-use Rattle.image.specs.Names.{names_at}
-use Rattle.image.specs.Image.{format, entryCount, idCount, segmentCount, segmentsAt, head_of, tables_of, laid, readImage}
+use Rattle.image.specs.Names.{namesAt}
+use Rattle.image.specs.Image.{format, entryCount, idCount, segmentCount, segmentsAt, headOf, tablesOf, laid, readImage}
 use Rattle.refusals.specs.Refusals.{Long, Eight, Format, Over, entries, ids, segments, Crowded, Head, segmentAt, Segment, ShortHead, head, tables, namespace, bodyStart, Misplaced, entry, after, Tables, Contents, ExactlyIf}
 use Rattle.maps.proofs.Tests.{no_both, both}
 use Rattle.refusals.proofs.Told.{Told, told-ok, told-no, Any, told-bind, told-pick, told-then}
@@ -60,8 +60,8 @@ over-told s e = go (leb (entryCount s) 512) (leb (idCount s) 512) refl refl e
     go true false p q r = ids (leb-false _ _ q)
     go false b p q r = entries (leb-false _ _ p)
 
-pub head-told : (s : List ℕ) → Told (λ h n. Head s) (Given s) (head_of s)
-unfolding head_of Given
+pub head-told : (s : List ℕ) → Told (λ h n. Head s) (Given s) (headOf s)
+unfolding headOf Given
 head-told s =
     told-pick _
     (λ a. told-pick _
@@ -77,8 +77,8 @@ head-told s =
     eight : leb (length s) 32768 ≡ true → leb 8 (length s) ≡ true → Eight s
     eight a b = record { fits = leb-true _ _ a; there = leb-true _ _ b }
 
-tables-told : (s : List ℕ) → Head s → Told (λ is n. (segmentsAt s ≤ length s) × (n ≡ segmentsAt s)) (Given s) (tables_of s)
-unfolding tables_of Given
+tables-told : (s : List ℕ) → Head s → Told (λ is n. (segmentsAt s ≤ length s) × (n ≡ segmentsAt s)) (Given s) (tablesOf s)
+unfolding tablesOf Given
 tables-told s h = told-pick _ (λ e. told-ok (leb-true _ _ e, refl)) (λ e. told-no (tables h (leb-false _ _ e)))
 
 fault-given : (s : List ℕ) → Head s → (k : ℕ) → Fault s k → Given s k
@@ -90,7 +90,7 @@ fault-given s h k f = go f.wrong
     go (bad e l n) = rw e (omega arith)
 
 pub names-told : (s : List ℕ) (at : ℕ) → at ≡ segmentsAt s
-    → Told (Named s) (Fault s) (names_at 2 (segmentCount s) s at)
+    → Told (Named s) (Fault s) (namesAt 2 (segmentCount s) s at)
 unfolding segmentAt
 names-told s at e = rw e (segments-told s (segmentCount s) 0 (omega arith) (λ j h. absurd (omega arith)))
 
@@ -137,24 +137,24 @@ reason s k e = go (rw e at (image-told s))
     go (told-no g) = g
 
 -- And each reason gives its number. First the head.
-from-head : (s : List ℕ) (k : ℕ) → head_of s ≡ no k → readImage s ≡ no k
+from-head : (s : List ℕ) (k : ℕ) → headOf s ≡ no k → readImage s ≡ no k
 unfolding readImage bind
 from-head s k e = rw e
 
 long-given : (s : List ℕ) → Long s → readImage s ≡ no 1
-unfolding head_of pick
+unfolding headOf pick
 long-given s l = from-head s 1 (simp (lt-leb _ _ l))
 
 head-given : (s : List ℕ) → length s < 8 → readImage s ≡ no 2
-unfolding head_of pick
+unfolding headOf pick
 head-given s l = from-head s 2 (simp (le-leb (length s) 32768 (omega arith), lt-leb 8 (length s) l))
 
 format-given : (s : List ℕ) → Format s → readImage s ≡ no 3
-unfolding head_of pick
+unfolding headOf pick
 format-given s f = from-head s 3 (simp (le-leb _ _ f.eight.fits, le-leb _ _ f.eight.there, ne_eqb _ _ f.other))
 
 crowded-given : (s : List ℕ) → Crowded s → readImage s ≡ no 4
-unfolding head_of pick
+unfolding headOf pick
 crowded-given s c = from-head s 4 (simp (le-leb _ _ c.eight.fits, le-leb _ _ c.eight.there, eq-eqb _ _ c.one, crowd c.over))
   where
     crowd : Over s → leb (entryCount s) 512 && (leb (idCount s) 512 && leb (segmentCount s) 16) ≡ false
@@ -162,20 +162,20 @@ crowded-given s c = from-head s 4 (simp (le-leb _ _ c.eight.fits, le-leb _ _ c.e
     crowd (ids l) = simp (lt-leb _ _ l, and-false)
     crowd (segments l) = simp (lt-leb _ _ l, and-false)
 
-pub head_passed : (s : List ℕ) → Head s → head_of s ≡ ok tt 8
-unfolding head_of pick
+pub head_passed : (s : List ℕ) → Head s → headOf s ≡ ok tt 8
+unfolding headOf pick
 head_passed s h =
     let eight = h.eight in
     simp (le-leb _ _ eight.fits, le-leb _ _ eight.there, eq-eqb _ _ h.one, le-leb _ _ h.entries, le-leb _ _ h.ids, le-leb _ _ h.segments)
 
 -- then the tables
 tables-given : (s : List ℕ) → Head s → length s < segmentsAt s → readImage s ≡ no 2
-unfolding readImage tables_of bind pick
+unfolding readImage tablesOf bind pick
 tables-given s h l = simp (head_passed s h, lt-leb _ _ l)
 
 -- then the namespace
-from-names : (s : List ℕ) (k : ℕ) → Head s → segmentsAt s ≤ length s → names_at 2 (segmentCount s) s (segmentsAt s) ≡ no k → readImage s ≡ no k
-unfolding readImage tables_of bind pick
+from-names : (s : List ℕ) (k : ℕ) → Head s → segmentsAt s ≤ length s → namesAt 2 (segmentCount s) s (segmentsAt s) ≡ no k → readImage s ≡ no k
+unfolding readImage tablesOf bind pick
 from-names s k h l e = simp (head_passed s h, le-leb _ _ l, e)
 
 namespace-given : (s : List ℕ) → Head s → (i : ℕ) → i < segmentCount s → ((j : ℕ) → j < i → Segment s j) → length s < segmentAt s (suc i)
@@ -197,15 +197,15 @@ short-given s (namespace h i inside before l) = namespace-given s h i inside (λ
 
 -- then the contents
 contents-given : (s : List ℕ) → Contents s → readImage s ≡ no 5
-unfolding readImage tables_of bind pick
+unfolding readImage tablesOf bind pick
 contents-given s c = go (names-told s (segmentsAt s) refl) refl
   where
-    from : (names : List Name) → names_at 2 (segmentCount s) s (segmentsAt s) ≡ ok names (segmentAt s (segmentCount s)) → readImage s ≡ no 5
+    from : (names : List Name) → namesAt 2 (segmentCount s) s (segmentsAt s) ≡ ok names (segmentAt s (segmentCount s)) → readImage s ≡ no 5
     from names e =
         let t = c.tables in
         simp (head_passed s t.head, le-leb _ _ t.inside, e, told-misplaced (fits_told s t) c.misplaced)
 
-    go : {p : Parsed (List Name)} → Told (Named s) (Fault s) p → names_at 2 (segmentCount s) s (segmentsAt s) ≡ p → readImage s ≡ no 5
+    go : {p : Parsed (List Name)} → Told (Named s) (Fault s) p → namesAt 2 (segmentCount s) s (segmentsAt s) ≡ p → readImage s ≡ no 5
     go (told-ok {a = names} q) e = from names (e ∙ ap (ok names) q.1)
     go (told-no f) e = absurd (fault-none s c.tables.segments f)
 

@@ -9,8 +9,8 @@ use borrow.Author.Tests.{ltb-false, leb-true, leb-false}
 use lib.ListN.{length, get_or}
 use lib.Seq.{drop-cons}
 use Rattle.image.specs.Schema.{Name}
-use Rattle.image.specs.Parse.{part, byte_at, many}
-use Rattle.image.specs.Names.{nameByte, nameBytes, name_at, names_at}
+use Rattle.image.specs.Parse.{part, byteAt, many}
+use Rattle.image.specs.Names.{nameByte, nameBytes, nameAt, namesAt}
 use Rattle.image.specs.Image.{segmentCount}
 use Rattle.refusals.specs.Refusals.{segmentAt, Segment}
 use Rattle.maps.proofs.Tests.{no_both, both}
@@ -57,8 +57,8 @@ pub data Wrong (s : List ℕ) (i k : ℕ) : Type 0 where
   past : k ≡ 2 → length s < segmentAt s (suc i) → Wrong s i k
   bad : k ≡ 7 → segmentAt s (suc i) ≤ length s → ¬ Segment s i → Wrong s i k
 
-segment-told : (s : List ℕ) (i : ℕ) → Told (λ x n. Segment s i × (n ≡ segmentAt s (suc i))) (Wrong s i) (name_at 2 s (segmentAt s i))
-unfolding name_at byte_at segmentAt
+segment-told : (s : List ℕ) (i : ℕ) → Told (λ x n. Segment s i × (n ≡ segmentAt s (suc i))) (Wrong s i) (nameAt 2 s (segmentAt s i))
+unfolding nameAt byteAt segmentAt
 segment-told s i =
     told-bind {P = λ b n. (b ≡ get_or s at 0) × (n ≡ at + 1)} _
     (told-pick _ (λ h. told-ok (refl, refl)) (λ h. told-no (let l : length s ≤ at = ltb-false _ _ h in past refl (omega arith))))
@@ -90,8 +90,8 @@ abbrev pub Named : List ℕ → List Name → ℕ → Type 0
 Named s xs n = ((j : ℕ) → j < segmentCount s → Segment s j) × (n ≡ segmentAt s (segmentCount s))
 
 pub segments-told : (s : List ℕ) (count i : ℕ) → i + count ≡ segmentCount s → ((j : ℕ) → j < i → Segment s j)
-    → Told (Named s) (Fault s) (names_at 2 count s (segmentAt s i))
-unfolding names_at many
+    → Told (Named s) (Fault s) (namesAt 2 count s (segmentAt s i))
+unfolding namesAt many
 segments-told s zero i e before =
     let z : i ≡ segmentCount s = omega arith in
     told-ok ((λ j h. before j (omega arith)), ap (segmentAt s) z)

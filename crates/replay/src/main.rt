@@ -1,5 +1,7 @@
 // Replays the recorded answers: each image of each pair is read and listed, the verdict, its values and the report are asked for, those of
 // 01, those with imports and the mended ones, and what is answered is compared with what is recorded.
+#![tactic(auto)]
+
 mod calls;
 mod counting;
 mod file;

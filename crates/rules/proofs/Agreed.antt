@@ -11,10 +11,10 @@ use Rattle.maps.specs.Orders.{before}
 use Rattle.maps.proofs.Alike.{compare_alike}
 use Rattle.maps.proofs.Reorderings.{In, all_listed}
 use Rattle.image.specs.Schema.{Name, Ty, Field, Variant, Decl}
-use Rattle.image.specs.Kinds.{Kind, kind_of, message, enum, flags, union, newtype, config, alias, trait, impl, other}
-use Rattle.rules.specs.Survivors.{Registry, name_of, ordinalOf, fieldMap, variantOrdinal, variantMap, View}
+use Rattle.image.specs.Kinds.{Kind, kindOf, message, enum, flags, union, newtype, config, alias, trait, impl, other}
+use Rattle.rules.specs.Survivors.{Registry, nameOf, ordinalOf, fieldMap, variantOrdinal, variantMap, View}
 use Rattle.rules.specs.Types.{resolve}
-use Rattle.rules.specs.Clauses.{clausesBy, Context, context, compareTypes, compareFields, fieldRules, compareFieldSets, compareMessages, unionRules, compareUnions, compareNewtypes, compareKind, compareAlike, compareDecls, declRules, changes, fieldTypes, variantTypes, types_of, comparedTypes}
+use Rattle.rules.specs.Clauses.{clausesBy, Context, context, compareTypes, compareFields, fieldRules, compareFieldSets, compareMessages, unionRules, compareUnions, compareNewtypes, compareKind, compareAlike, compareDecls, declRules, changes, fieldTypes, variantTypes, typesOf, comparedTypes}
 
 -- ---- what is listed
 
@@ -69,8 +69,8 @@ module _ (same same' : Ty → Ty → Bool) (R S : Registry) where
       compare_same variantOrdinal ltb (unionRules this d) (unionRules that d) (λ e. refl) (λ e. refl) (variantMap x.variants) (variantMap y.variants)
       (λ v w i j. ap (λ cs. cs ++ []) (sets-agree _ v.fields w.fields (λ t u k l. h t u (in-flatMap _ i k) (in-flatMap _ j l))))
 
-  kinds-agree : (k : Kind) (x y : Decl) → AgreeOn (types_of k x) (types_of k y) → compareKind k this x y ≡ compareKind k that x y
-  unfolding compareKind compareMessages compareNewtypes compareTypes types_of AgreeOn
+  kinds-agree : (k : Kind) (x y : Decl) → AgreeOn (typesOf k x) (typesOf k y) → compareKind k this x y ≡ compareKind k that x y
+  unfolding compareKind compareMessages compareNewtypes compareTypes typesOf AgreeOn
   kinds-agree message x y h = rw (sets-agree x.name x.fields y.fields h)
   kinds-agree enum x y h = refl
   kinds-agree flags x y h = refl
@@ -82,14 +82,14 @@ module _ (same same' : Ty → Ty → Bool) (R S : Registry) where
   kinds-agree impl x y h = refl
   kinds-agree other x y h = refl
 
-  decls-agree : (x y : Decl) → AgreeOn (types_of (kind_of x.kind) x) (types_of (kind_of y.kind) y) → compareDecls this x y ≡ compareDecls that x y
+  decls-agree : (x y : Decl) → AgreeOn (typesOf (kindOf x.kind) x) (typesOf (kindOf y.kind) y) → compareDecls this x y ≡ compareDecls that x y
   unfolding compareDecls compareAlike
   decls-agree x y h = go (eqb x.kind y.kind) refl
     where
       go : (b : Bool) → eqb x.kind y.kind ≡ b → compareDecls this x y ≡ compareDecls that x y
       go true p =
-          let k = subst (λ z. AgreeOn (types_of (kind_of x.kind) x) (types_of (kind_of z) y)) (sym (eqb-true x.kind y.kind p)) h in
-          rw (p, kinds-agree (kind_of x.kind) x y k)
+          let k = subst (λ z. AgreeOn (typesOf (kindOf x.kind) x) (typesOf (kindOf z) y)) (sym (eqb-true x.kind y.kind p)) h in
+          rw (p, kinds-agree (kindOf x.kind) x y k)
       go false p = rw p
 
 -- where they agree on the types compared in two views
@@ -99,6 +99,6 @@ pub changes-agree : (same same' : Ty → Ty → Bool) (x y : View)
     → changes (clausesBy same) x y ≡ changes (clausesBy same') x y
 unfolding changes declRules comparedTypes AgreeOn
 changes-agree same same' x y h =
-    rw (compare_same name_of before (declRules (context (clausesBy same) x.registry y.registry)) (declRules (context (clausesBy same') x.registry y.registry))
+    rw (compare_same nameOf before (declRules (context (clausesBy same) x.registry y.registry)) (declRules (context (clausesBy same') x.registry y.registry))
     (λ e. refl) (λ e. refl) x.standing y.standing
     (λ d e i j. decls-agree same same' x.registry y.registry d e (λ t u k l. h t u (in-flatMap _ i k) (in-flatMap _ j l))))

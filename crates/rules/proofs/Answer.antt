@@ -12,10 +12,10 @@ use Rattle.image.specs.Schema.{Schema}
 use Rattle.image.specs.Parse.{Parsed, ok, no}
 use Rattle.image.specs.Image.{readImage}
 use Rattle.refusals.proofs.Refusals.{only-ten}
-use Rattle.rules.specs.Survivors.{View, view_of}
+use Rattle.rules.specs.Survivors.{View, viewOf}
 use Rattle.rules.specs.Changes.{Change, kindCount}
 use Rattle.rules.specs.Clauses.{Reading, changes}
-use Rattle.rules.specs.Verdict.{bumpOf, result_of, count_of, aliasPair}
+use Rattle.rules.specs.Verdict.{bumpOf, resultOf, countOf, aliasPair}
 use Rattle.rules.specs.Report.{report}
 use Rattle.rules.specs.Outcome.{Outcome, refused, selected, select}
 use Rattle.image.specs.Codes.{number, oldSide, newSide, bothSides}
@@ -154,17 +154,17 @@ module _ (p : Policy) where
 
 -- ---- the selectors from 5 on
 
-pub counts-at : (n from k : ℕ) (cs : List Change) → k < n → get_or (counts n from cs) k 0 ≡ count_of (from + k) cs
+pub counts-at : (n from k : ℕ) (cs : List Change) → k < n → get_or (counts n from cs) k 0 ≡ countOf (from + k) cs
 unfolding counts
 counts-at zero from k cs h = absurd (omega arith)
-counts-at (suc n) from zero cs h = ap (λ i. count_of i cs) (omega arith)
-counts-at (suc n) from (suc k) cs h = counts-at n (suc from) k cs (omega arith) ∙ ap (λ i. count_of i cs) (omega arith)
+counts-at (suc n) from zero cs h = ap (λ i. countOf i cs) (omega arith)
+counts-at (suc n) from (suc k) cs h = counts-at n (suc from) k cs (omega arith) ∙ ap (λ i. countOf i cs) (omega arith)
 
-pub count-selected : (kind : ℕ) → kind < kindCount → (cs : List Change) → select (compared cs) (5 + kind) ≡ count_of kind cs
+pub count-selected : (kind : ℕ) → kind < kindCount → (cs : List Change) → select (compared cs) (5 + kind) ≡ countOf kind cs
 unfolding select selected
 count-selected kind h cs =
-    get_or-append-add (0 ∷ 0 ∷ bumpOf cs ∷ result_of cs ∷ length (report cs) ∷ []) (counts kindCount 0 cs) kind 0
-    ∙ (counts-at kindCount 0 kind cs h ∙ ap (λ i. count_of i cs) (omega arith))
+    get_or-append-add (0 ∷ 0 ∷ bumpOf cs ∷ resultOf cs ∷ length (report cs) ∷ []) (counts kindCount 0 cs) kind 0
+    ∙ (counts-at kindCount 0 kind cs h ∙ ap (λ i. countOf i cs) (omega arith))
 
 -- ---- a verdict whose one check is 11, over any view and by any reading
 
@@ -191,4 +191,4 @@ usual-numbered view reading = record {
 }
 
 pub plain-numbered : Numbered plain
-plain-numbered = usual-numbered view_of plainReading
+plain-numbered = usual-numbered viewOf plainReading

@@ -17,12 +17,12 @@ use Rattle.image.specs.Schema.{Ty, Decl, Schema}
 use Rattle.image.specs.Words.{bytes}
 use Rattle.image.specs.Parse.{ok}
 use Rattle.image.specs.Image.{readImage}
-use Rattle.rules.specs.Survivors.{Registry, name_of, stands_for, resolved, listed, View, view_of}
+use Rattle.rules.specs.Survivors.{Registry, nameOf, standsFor, resolved, listed, View, viewOf}
 use Rattle.rules.specs.Types.{nameOrNone, sameType}
 use Rattle.rules.specs.Text.{joined}
 use Rattle.rules.specs.Changes.{Change, kindCount}
 use Rattle.rules.specs.Clauses.{Reading, clausesBy, changes}
-use Rattle.rules.specs.Verdict.{bumpOf, result_at, result_of, count_of}
+use Rattle.rules.specs.Verdict.{bumpOf, resultAt, resultOf, countOf}
 use Rattle.rules.specs.Report.{bumpWord, resultWord, line, lastLine, report}
 use Rattle.rules.specs.Outcome.{Outcome, refused, selected, select}
 use Rattle.rules.specs.Answer.{Fault, Policy, compared, counts, firstFault, verdictBy, usual, plain}
@@ -59,7 +59,7 @@ small-short none h = omega arith
 small-short (some d) h = omega arith
 
 held-short : (x : Schema) → Held x → Short x.registry
-unfolding stands_for
+unfolding standsFor
 held-short x h = record { short = λ id. small-short (get_or x.registry id none) (entry-small x.registry id h.entries) }
 
 module _ (R : Registry) (h : All Small R) where
@@ -70,7 +70,7 @@ module _ (R : Registry) (h : All Small R) where
   resolved-small (some d) p ds q = (p, q)
 
   listed_small : (ids : List ℕ) → All (λ d. declSize d ≤ 32768) (listed R ids)
-  unfolding listed stands_for All
+  unfolding listed standsFor All
   listed_small [] = tt
   listed_small (id ∷ ids) = resolved-small (get_or R id none) (entry-small R id h) (listed R ids) (listed_small ids)
 
@@ -80,14 +80,14 @@ module _ (R : Registry) (h : All Small R) where
   resolved-total (some d) p ds = omega arith
 
   listed-total : (ids : List ℕ) → total declSize (listed R ids) ≤ 32768 * length ids
-  unfolding listed stands_for total
+  unfolding listed standsFor total
   listed-total [] = omega arith
   listed-total (id ∷ ids) = omega (arith, resolved-total (get_or R id none) (entry-small R id h) (listed R ids), listed-total ids)
 
 module _ (m : IdSet) (x : Schema) (h : Held x) where
   standing-small : All (λ d. declSize d ≤ 32768) (standingWith m x)
   unfolding standingWith
-  standing-small = all-survivors name_of before _ (listed x.registry (markedIds 0 m ++ x.ids)) (listed_small x.registry h.entries (markedIds 0 m ++ x.ids))
+  standing-small = all-survivors nameOf before _ (listed x.registry (markedIds 0 m ++ x.ids)) (listed_small x.registry h.entries (markedIds 0 m ++ x.ids))
 
   -- as many as there are marks and listed ids, of 32,768 bytes each
   standing-total : total declSize (standingWith m x) ≤ 32768 * (length m + 512)
@@ -95,7 +95,7 @@ module _ (m : IdSet) (x : Schema) (h : Held x) where
   standing-total =
       omega (
         arith,
-        total-survivors name_of before declSize (listed x.registry (markedIds 0 m ++ x.ids)),
+        total-survivors nameOf before declSize (listed x.registry (markedIds 0 m ++ x.ids)),
         listed-total x.registry h.entries (markedIds 0 m ++ x.ids),
         length-append (markedIds 0 m) x.ids,
         ids-fewer 0 m,
@@ -108,8 +108,8 @@ last-length : (cs : List Change) → length (lastLine cs) ≤ 40
 unfolding lastLine line joined bytes bumpWord resultWord largest
 last-length cs = simp length-append (omega (arith, result, bump, decimal-length (length cs)))
   where
-    result : length (resultWord (result_at (bumpOf cs))) ≤ 10
-    result = word-length _ (result_at (bumpOf cs))
+    result : length (resultWord (resultAt (bumpOf cs))) ≤ 10
+    result = word-length _ (resultAt (bumpOf cs))
 
     bump : length (bumpWord (bumpOf cs)) ≤ 5
     bump = word-length _ (bumpOf cs)
@@ -124,7 +124,7 @@ report-lines cs = simp (length-append, length-flatMap)
 -- a view of what an image holds is no larger than that
 pub record Sized (v : View) : Type 0 where
   pub namespace : namesSize v.namespace ≤ 32768
-  pub rises : Rising name_of before v.standing
+  pub rises : Rising nameOf before v.standing
   pub small : All (λ d. declSize d ≤ 32768) v.standing
   pub size : total declSize v.standing ≤ 2 ^ 40
   pub registry : Short v.registry
@@ -161,8 +161,8 @@ report-bound p b old new x y m n q r = held-bound p b x y (accepted-held old q) 
 -- ---- every selector
 
 -- each change has a line, so no count is over the report's length
-count-lines : (kind : ℕ) (cs : List Change) → count_of kind cs ≤ total lineLength cs
-unfolding count_of count
+count-lines : (kind : ℕ) (cs : List Change) → countOf kind cs ≤ total lineLength cs
+unfolding countOf count
 count-lines kind cs = total-less (λ c. cond (eqb c.kind kind) 1 0) lineLength cs (all (λ c. go c (eqb c.kind kind)) cs)
   where
     go : (c : Change) (u : Bool) → cond u 1 0 ≤ lineLength c
@@ -174,8 +174,8 @@ unfolding counts All
 counts-below b zero kind cs h = tt
 counts-below b (suc n) kind cs h = (omega (arith, count-lines kind cs), counts-below b n (suc kind) cs h)
 
-result-one : (cs : List Change) → result_of cs ≤ 1
-unfolding result_of
+result-one : (cs : List Change) → resultOf cs ≤ 1
+unfolding resultOf
 result-one cs = go (eqb (bumpOf cs) 2)
   where
     go : (u : Bool) → cond u 1 0 ≤ 1
@@ -237,9 +237,9 @@ with-sized m l x h = record {
 
 -- ---- of the survivors by the clauses alone, however types are read; and so of the verdict of document 01
 
-pub survivors-bounded : (same : Ty → Ty → Bool) → Bounded (usual view_of (clausesBy same))
+pub survivors-bounded : (same : Ty → Ty → Bool) → Bounded (usual viewOf (clausesBy same))
 survivors-bounded same =
-    usual-bounded view_of (clausesBy same) (λ x h. rw (← view-none x) (with-sized [] (omega arith) x h)) (clauses-light same)
+    usual-bounded viewOf (clausesBy same) (λ x h. rw (← view-none x) (with-sized [] (omega arith) x h)) (clauses-light same)
 
 pub plain-bounded : Bounded plain
 plain-bounded = survivors-bounded sameType

@@ -15,7 +15,7 @@ use Rattle.rules.specs.Outcome.{select, textLength}
 use Rattle.image.specs.Codes.{number, bothSides}
 use Rattle.rules.specs.Answer.{Policy, outcome, verdictBy, reportBy, returnedBy, leavesBy}
 use Rattle.rules.specs.Refusals.{Numbered}
-use Rattle.rules.proofs.Outcomes.{text_of, length-selected, fit-enough, fit-some, text-written, rest-written}
+use Rattle.rules.proofs.Outcomes.{textOf, length-selected, fit-enough, fit-some, text-written, rest-written}
 use Rattle.rules.proofs.Answer.{changesOf, compared-of}
 use Rattle.rules.proofs.Refusals.{report-refusals}
 
@@ -41,7 +41,7 @@ module _ (p : Policy) (numbered : Numbered p) (old new : List ℕ) where
   same_text d d' h h' = text-here d h ∙ sym (text-here d' h')
     where
       text-here : (d : List ℕ) → select (outcome p old new) 4 ≤ length d
-          → take (returnedBy p old new d) (leavesBy p old new d) ≡ text_of (outcome p old new)
+          → take (returnedBy p old new d) (leavesBy p old new d) ≡ textOf (outcome p old new)
       text-here d h = rw (fit-enough (number bothSides) (length d) (outcome p old new) h) (text-written (outcome p old new) d)
 
   -- "Bytes past the length stay", whatever is returned

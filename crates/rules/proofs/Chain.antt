@@ -18,12 +18,12 @@ use Rattle.maps.proofs.Names.{byName}
 use Rattle.maps.proofs.Survivors.{rising}
 use Rattle.maps.proofs.Levels.{Chained, chained, chained-small, chained_append, chained-lead, Links, chain-links}
 use Rattle.image.specs.Schema.{Name, Marks, Ty, Field, Variant, Decl}
-use Rattle.image.specs.Kinds.{Kind, kind_of, message, enum, flags, union, newtype, config, alias, trait, impl, other}
+use Rattle.image.specs.Kinds.{Kind, kindOf, message, enum, flags, union, newtype, config, alias, trait, impl, other}
 use Rattle.rules.specs.Equal.{Sound}
-use Rattle.rules.specs.Survivors.{Registry, name_of, ordinalOf, fieldMap, variantOrdinal, variantMap, View}
+use Rattle.rules.specs.Survivors.{Registry, nameOf, ordinalOf, fieldMap, variantOrdinal, variantMap, View}
 use Rattle.rules.specs.Types.{resolve}
 use Rattle.rules.specs.Changes.{Bump, patch, minor, major, level, Change, only}
-use Rattle.rules.specs.Clauses.{compareNamespaces, Reading, Context, context, compareTypes, fieldText, compareFieldNames, compareEncodings, compareDeprecated, compareFields, fieldRules, compareFieldSets, compareMessages, variantGone, variantCame, enumBump, enumRules, compareNonExhaustive, compareEnums, flagsRules, compare_flags, unionRules, compareUnions, compareNewtypes, compareKind, kindChanged, compareAlike, compareDecls, declRules, changes}
+use Rattle.rules.specs.Clauses.{compareNamespaces, Reading, Context, context, compareTypes, fieldText, compareFieldNames, compareEncodings, compareDeprecated, compareFields, fieldRules, compareFieldSets, compareMessages, variantGone, variantCame, enumBump, enumRules, compareNonExhaustive, compareEnums, flagsRules, compareFlags, unionRules, compareUnions, compareNewtypes, compareKind, kindChanged, compareAlike, compareDecls, declRules, changes}
 use Rattle.rules.proofs.Equal.{same-trans, pairs, numbers, marks, options, nameLists}
 use Rattle.rules.proofs.Types.{encodings}
 use Rattle.rules.proofs.Readings.{levelOf, Lawful}
@@ -121,8 +121,8 @@ variants-chained b r s t h l m n =
     (rising variantOrdinal byNumber n)
 
 flags-chained : (b : ℕ) (d₁ d₂ d₃ : Name) (x y z : Decl)
-    → Chained levelOf b (compare_flags d₁ x y) (compare_flags d₂ y z) (compare_flags d₃ x z)
-unfolding compare_flags flagsRules largest level
+    → Chained levelOf b (compareFlags d₁ x y) (compareFlags d₂ y z) (compareFlags d₃ x z)
+unfolding compareFlags flagsRules largest level
 flags-chained b d₁ d₂ d₃ x y z =
     variants-chained b (flagsRules d₁) (flagsRules d₂) (flagsRules d₃)
     (links variantOrdinal b _ _ _ (λ e. omega arith) (λ f. omega arith) (λ g. omega arith) (λ f g. omega arith)
@@ -226,8 +226,8 @@ module _ {r : Reading} {odd : Ty → Bool} (lawful : Lawful r odd) (P Q R : Regi
     alike-chained p q =
         chained_append (lawful.first.chained b x.name y.name x.name x y z p q)
         (chained_append
-        (subst (λ k. Chained levelOf b (compareKind (kind_of x.kind) to x y) (compareKind (kind_of k) from y z) (compareKind (kind_of x.kind) past x z)) p
-        (kinds-chained (kind_of x.kind)))
+        (subst (λ k. Chained levelOf b (compareKind (kindOf x.kind) to x y) (compareKind (kindOf k) from y z) (compareKind (kindOf x.kind) past x z)) p
+        (kinds-chained (kindOf x.kind)))
         (lawful.last.chained b x.name y.name x.name x y z p q))
 
     decls-chained : Chained levelOf b (compareDecls to x y) (compareDecls from y z) (compareDecls past x z)
@@ -245,15 +245,15 @@ module _ {r : Reading} {odd : Ty → Bool} (lawful : Lawful r odd) (P Q R : Regi
 
 -- ---- all clauses
 
-pub changes-chained : {r : Reading} {odd : Ty → Bool} → Lawful r odd → (x y z : View) → Rising name_of before x.standing
-    → Rising name_of before z.standing
+pub changes-chained : {r : Reading} {odd : Ty → Bool} → Lawful r odd → (x y z : View) → Rising nameOf before x.standing
+    → Rising nameOf before z.standing
     → Chained levelOf 0 (changes r x y) (changes r y z) (changes r x z)
 unfolding changes declRules largest level
 changes-chained {r = r} lawful x y z p q =
     chained_append (namespaces-chained 0 x.namespace y.namespace z.namespace)
-    (chain-links name_of byName levelOf 0
+    (chain-links nameOf byName levelOf 0
     (declRules (context r x.registry y.registry)) (declRules (context r y.registry z.registry))
     (declRules (context r x.registry z.registry))
-    (links name_of 0 _ _ _ (λ e. omega arith) (λ f. omega arith) (λ g. omega arith) (λ f g. omega arith)
+    (links nameOf 0 _ _ _ (λ e. omega arith) (λ f. omega arith) (λ g. omega arith) (λ f g. omega arith)
     (λ d e f u v. decls-chained lawful x.registry y.registry z.registry 0 d e f))
     x.standing y.standing z.standing p q)

@@ -15,11 +15,11 @@ use Rattle.image.specs.Schema.{Schema, Ty}
 use Rattle.image.specs.Image.{readImage}
 use Rattle.maps.proofs.Tests.{both}
 use Rattle.rules.specs.Equal.{Sound, never}
-use Rattle.rules.specs.Survivors.{name_of, View, view_of}
+use Rattle.rules.specs.Survivors.{nameOf, View, viewOf}
 use Rattle.rules.specs.Types.{resolve, holdsVector}
-use Rattle.rules.specs.Changes.{kindCount, kind_at, FieldAdded, FieldRemoved, FieldDeprecated, VariantAdded, VariantRemoved, DeclarationAdded, DeclarationRemoved, FlagsBitAdded, FlagsBitRemoved}
+use Rattle.rules.specs.Changes.{kindCount, kindAt, FieldAdded, FieldRemoved, FieldDeprecated, VariantAdded, VariantRemoved, DeclarationAdded, DeclarationRemoved, FlagsBitAdded, FlagsBitRemoved}
 use Rattle.rules.specs.Clauses.{clausesBy, comparedTypes}
-use Rattle.rules.specs.Verdict.{bumpOf, count_of, any}
+use Rattle.rules.specs.Verdict.{bumpOf, countOf, any}
 use Rattle.rules.specs.Outcome.{selected, select}
 use Rattle.rules.specs.Answer.{Policy, verdictBy, usual, plainReading, verdictOf}
 use Rattle.rules.specs.Refusals.{Numbered}
@@ -35,9 +35,9 @@ use Rattle.rules.proofs.Standing.{view-rises}
 
 -- whether the count of one kind is that of another the other way
 unfoldable turned : ℕ → ℕ → Bool
-turned j k = ltb j kindCount && (ltb k kindCount && (not (eqb (kind_at FieldDeprecated) j) && eqb (mirror j) k))
+turned j k = ltb j kindCount && (ltb k kindCount && (not (eqb (kindAt FieldDeprecated) j) && eqb (mirror j) k))
 
-module _ (p : Policy) (numbered : Numbered p) (rise : (s : Schema) → Rising name_of before (p.view s).standing) {odd : Ty → Bool}
+module _ (p : Policy) (numbered : Numbered p) (rise : (s : Schema) → Rising nameOf before (p.view s).standing) {odd : Ty → Bool}
     (lawful : Lawful p.reading odd) where
   -- what is compared of an image
   abbrev viewIn : Image → View
@@ -66,7 +66,7 @@ module _ (p : Policy) (numbered : Numbered p) (rise : (s : Schema) → Rising na
   -- ---- swap
 
   counted_is : (kind : ℕ) → kind < kindCount → (a b : Image) → Verdict (verdictBy p) a b
-      → countBetween (verdictBy p) kind a b ≡ count_of kind (changesOf p a b)
+      → countBetween (verdictBy p) kind a b ≡ countOf kind (changesOf p a b)
   unfolding Verdict countBetween verdictBy
   counted_is kind h a b v = ap (λ o. select o (5 + kind)) (compared-of p numbered a b v) ∙ count-selected kind h (changesOf p a b)
 
@@ -76,19 +76,19 @@ module _ (p : Policy) (numbered : Numbered p) (rise : (s : Schema) → Rising na
     count-swap j k e =
         let h = both (ltb j kindCount) _ e in
         let q = both (ltb k kindCount) _ h.1 in
-        let r = both (not (eqb (kind_at FieldDeprecated) j)) _ q.1 in
+        let r = both (not (eqb (kindAt FieldDeprecated) j)) _ q.1 in
         counted_is j (ltb-true j kindCount h.0) a b v
-        ∙ (changes-swap lawful j (not-true (eqb (kind_at FieldDeprecated) j) r.0) (viewIn a) (viewIn b) (rise _) (rise _)
-        ∙ (ap (λ i. count_of i (changesOf p b a)) (eqb-true (mirror j) k r.1)
+        ∙ (changes-swap lawful j (not-true (eqb (kindAt FieldDeprecated) j) r.0) (viewIn a) (viewIn b) (rise _) (rise _)
+        ∙ (ap (λ i. countOf i (changesOf p b a)) (eqb-true (mirror j) k r.1)
         ∙ sym (counted_is k (ltb-true k kindCount q.0) b a w)))
 
     swapped : Swapped (verdictBy p) a b
     unfolding turned mirror All
     swapped = record {
-      declarations = count-swap (kind_at DeclarationRemoved) (kind_at DeclarationAdded) refl;
-      fields = count-swap (kind_at FieldRemoved) (kind_at FieldAdded) refl;
-      variants = count-swap (kind_at VariantRemoved) (kind_at VariantAdded) refl;
-      bits = count-swap (kind_at FlagsBitRemoved) (kind_at FlagsBitAdded) refl;
+      declarations = count-swap (kindAt DeclarationRemoved) (kindAt DeclarationAdded) refl;
+      fields = count-swap (kindAt FieldRemoved) (kindAt FieldAdded) refl;
+      variants = count-swap (kindAt VariantRemoved) (kindAt VariantAdded) refl;
+      bits = count-swap (kindAt FlagsBitRemoved) (kindAt FlagsBitAdded) refl;
       others = all_map (λ kind. count-swap kind kind) otherKinds (refl, (refl, (refl, (refl, (refl, (refl, (refl, (refl, (refl, tt)))))))));
     }
 
@@ -117,7 +117,7 @@ any-never (a ∷ l) = any-never l
 
 -- ---- a verdict whose one check is 11, over any rising view
 
-module _ (view : Schema → View) (rise : (s : Schema) → Rising name_of before (view s).standing) where
+module _ (view : Schema → View) (rise : (s : Schema) → Rising nameOf before (view s).standing) where
   -- that reads types as document 01 says: an odd type is one that holds a vector, quaternion or matrix node
   module _ where
     abbrev policy : Policy
@@ -143,5 +143,5 @@ module _ (view : Schema → View) (rise : (s : Schema) → Rising name_of before
 
 -- ---- the verdict call of document 01
 
-pub distance-rule : DistanceRule verdictOf (holdsVectors view_of)
-distance-rule = usual-distance-rule view_of view-rises
+pub distance-rule : DistanceRule verdictOf (holdsVectors viewOf)
+distance-rule = usual-distance-rule viewOf view-rises

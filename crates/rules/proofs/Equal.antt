@@ -6,7 +6,7 @@ use mathlib.Core.List.{List, [], ◌∷◌}
 use lib.Dec.{eqb}
 use borrow.Author.Tests.{eqb-true, eq-eqb}
 use Rattle.maps.proofs.Tests.{both}
-use Rattle.rules.specs.Equal.{same_list, sameOption, sameName, sameNames, Sound, never}
+use Rattle.rules.specs.Equal.{sameList, sameOption, sameName, sameNames, Sound, never}
 
 -- ---- two tests that hold
 
@@ -59,21 +59,21 @@ marks = record { equal = equal; self = self }
     self false = refl
 
 module _ {A : Type 0} {same : A → A → Bool} (S : Sound same never) where
-  list-equal : (a b : List A) → same_list same a b ≡ true → a ≡ b
-  unfolding same_list
+  list-equal : (a b : List A) → sameList same a b ≡ true → a ≡ b
+  unfolding sameList
   list-equal [] [] e = refl
   list-equal [] (y ∷ ys) e = absurd (false≢true e)
   list-equal (x ∷ xs) [] e = absurd (false≢true e)
   list-equal (x ∷ xs) (y ∷ ys) e =
-      let h = both (same x y) (same_list same xs ys) e in
+      let h = both (same x y) (sameList same xs ys) e in
       cc (S.equal x y h.0, list-equal xs ys h.1)
 
-  list-self : (a : List A) → same_list same a a ≡ true
-  unfolding same_list
+  list-self : (a : List A) → sameList same a a ≡ true
+  unfolding sameList
   list-self [] = refl
   list-self (x ∷ xs) = join (S.self x) (list-self xs)
 
-  pub lists : Sound (same_list same) never
+  pub lists : Sound (sameList same) never
   lists = record { equal = list-equal; self = list-self }
 
   option-equal : (a b : Option A) → sameOption same a b ≡ true → a ≡ b

@@ -11,12 +11,12 @@ use lib.ListN.{length, get_or, drop}
 use Rattle.maps.specs.Lists.{total, All}
 use Rattle.image.specs.Schema.{Name, Encoding, Label, Ty, Decl, Schema}
 use Rattle.image.specs.Parse.{Parsed, ok, shift, within, part, many, counted}
-use Rattle.image.specs.Names.{name_at, names_at}
-use Rattle.image.specs.Types.{Follows, code, subByte, identity, size, nothing, bits, unknown, followsTag, innerTypes, afterTag, label_of, inner_at, type_of, type_at}
+use Rattle.image.specs.Names.{nameAt, namesAt}
+use Rattle.image.specs.Types.{Follows, code, subByte, identity, size, nothing, bits, unknown, followsTag, innerTypes, afterTag, labelOf, innerAt, typeOf, typeAt}
 use Rattle.image.specs.Fields.{plain, delta, marksAt, encodingOf, encodingAt, limitAt, fieldAt, bareAt, variantAt}
-use Rattle.image.specs.Kinds.{kind_of}
-use Rattle.image.specs.Bodies.{messageAt, enum_at, flagsAt, unionAt, newtypeAt, otherAt, implAt, declAt, body_of}
-use Rattle.image.specs.Image.{entryCount, idCount, segmentCount, segmentsAt, idsAt, tables_of, entryOffset, entryLength, entry_of, entriesOf, readImage}
+use Rattle.image.specs.Kinds.{kindOf}
+use Rattle.image.specs.Bodies.{messageAt, enumAt, flagsAt, unionAt, newtypeAt, otherAt, implAt, declAt, bodyOf}
+use Rattle.image.specs.Image.{entryCount, idCount, segmentCount, segmentsAt, idsAt, tablesOf, entryOffset, entryLength, entryOf, entriesOf, readImage}
 use Rattle.image.proofs.Laws.Sure.{Sure, sure-ok, sure-no, sure-bind, sure-pick, sure-need, sure-then, byte-sure, code-sure, number-sure, name-sure, names-sure, Head, head-sure}
 use Rattle.image.proofs.Laws.Repeats.{ids-length}
 use Rattle.image.proofs.Laws.Names.{part_length}
@@ -37,7 +37,7 @@ sure-both sure-no sure-no = sure-no
 
 -- ---- names
 
-name-takes : (short : ℕ) (s : List ℕ) (at : ℕ) → Sure (Takes (λ (x : Name). 1 + length x) at) (name_at short s at)
+name-takes : (short : ℕ) (s : List ℕ) (at : ℕ) → Sure (Takes (λ (x : Name). 1 + length x) at) (nameAt short s at)
 name-takes short s at =
     sure-then (name-sure short s at) (λ x n q. omega (arith, ap length q.value, (part_length (at + 1) (get_or s at 0) s).0, q.next))
 
@@ -51,9 +51,9 @@ module _ {A : Type 0} (p : List ℕ → ℕ → Parsed A) (measure : A → ℕ) 
   unfolding counted
   counted-take at = sure-bind _ (number-sure 2 s at) (λ c n k. sure-then (many-take c n) (λ xs m j. omega (arith, k.next)))
 
-names-take : (short c : ℕ) (s : List ℕ) (at : ℕ) → Sure (Takes namesSize at) (names_at short c s at)
-unfolding names_at namesSize
-names-take short c s at = many-take (name_at short) (λ (x : Name). 1 + length x) s (name-takes short s) c at
+names-take : (short c : ℕ) (s : List ℕ) (at : ℕ) → Sure (Takes namesSize at) (namesAt short c s at)
+unfolding namesAt namesSize
+names-take short c s at = many-take (nameAt short) (λ (x : Name). 1 + length x) s (name-takes short s) c at
 
 -- ---- types
 
@@ -70,8 +70,8 @@ after-takes tag bits s at =
     sure-bind _ (byte-sure 8 s at) (λ k n q. sure-bind _ (names-take 8 k s n) (λ xs m r. yields _ m (omega (arith, q.next))))
 after-takes tag unknown s at = sure-no
 
-label-takes : (s : List ℕ) → Sure (λ l n. 1 + namesSize l.names ≤ n) (label_of s)
-unfolding label_of
+label-takes : (s : List ℕ) → Sure (λ l n. 1 + namesSize l.names ≤ n) (labelOf s)
+unfolding labelOf
 label-takes s =
     sure-bind _ (byte-sure 8 s 0) (λ tag n q. sure-then (after-takes tag (followsTag tag) s n) (λ l m r. omega (arith, q.next)))
 
@@ -85,21 +85,21 @@ within-takes {A = A} p measure h s at = go (h (drop at s))
     go sure-no = sure-no
 
 inner-takes : (p : List ℕ → Parsed Ty) → ((s : List ℕ) → Sure (λ t n. typeSize t ≤ n) (p s)) → (i : ℕ) (l : Label) (s : List ℕ) (at : ℕ)
-    → 1 + namesSize l.names ≤ at → Sure (λ t n. typeSize t ≤ n) (inner_at i l p s at)
-unfolding inner_at typeSize
+    → 1 + namesSize l.names ≤ at → Sure (λ t n. typeSize t ≤ n) (innerAt i l p s at)
+unfolding innerAt typeSize
 inner-takes p q zero l s at h = sure-ok h
 inner-takes p q (suc zero) l s at h = sure-bind _ (within-takes p typeSize q s at) (λ t n r. yields _ n (omega arith))
 inner-takes p q (suc (suc k)) l s at h =
     sure-bind _ (within-takes p typeSize q s at) (λ t n r. sure-bind _ (within-takes p typeSize q s n) (λ u m o. yields _ m (omega arith)))
 
-type-takes : (d : ℕ) (s : List ℕ) → Sure (λ t n. typeSize t ≤ n) (type_of d s)
-unfolding type_of
+type-takes : (d : ℕ) (s : List ℕ) → Sure (λ t n. typeSize t ≤ n) (typeOf d s)
+unfolding typeOf
 type-takes zero s = sure-no
-type-takes (suc d) s = sure-bind _ (label-takes s) (λ l n q. inner-takes (type_of d) (type-takes d) (innerTypes l.tag) l s n q)
+type-takes (suc d) s = sure-bind _ (label-takes s) (λ l n q. inner-takes (typeOf d) (type-takes d) (innerTypes l.tag) l s n q)
 
-type-at-takes : (s : List ℕ) (at : ℕ) → Sure (Takes typeSize at) (type_at s at)
-unfolding type_at
-type-at-takes s at = within-takes (type_of 32) typeSize (type-takes 32) s at
+type-at-takes : (s : List ℕ) (at : ℕ) → Sure (Takes typeSize at) (typeAt s at)
+unfolding typeAt
+type-at-takes s at = within-takes (typeOf 32) typeSize (type-takes 32) s at
 
 -- ---- items
 
@@ -153,8 +153,8 @@ variant-takes s at =
 
 -- ---- bodies: with the kind, at least a byte each
 
-decl-takes : (kind : ℕ) (s : List ℕ) (at : ℕ) → Sure (λ d n. at + declSize d ≤ n + 1) (declAt (kind_of kind) s at)
-unfolding kind_of declAt messageAt enum_at flagsAt unionAt newtypeAt otherAt implAt declSize typeSize namesSize total
+decl-takes : (kind : ℕ) (s : List ℕ) (at : ℕ) → Sure (λ d n. at + declSize d ≤ n + 1) (declAt (kindOf kind) s at)
+unfolding kindOf declAt messageAt enumAt flagsAt unionAt newtypeAt otherAt implAt declSize typeSize namesSize total
 decl-takes zero s at =
     sure-bind _ (name-takes 8 s at) (λ x n₁ q₁.
     sure-bind _ (marks-take s n₁) (λ m n₂ q₂.
@@ -181,8 +181,8 @@ decl-takes (suc (suc (suc (suc (suc (suc (suc zero))))))) s at = sure-bind _ (na
 decl-takes (suc (suc (suc (suc (suc (suc (suc (suc zero)))))))) s at = yields _ at (omega arith)
 decl-takes (suc (suc (suc (suc (suc (suc (suc (suc (suc k))))))))) s at = sure-no
 
-body-takes : (s : List ℕ) → Sure (λ d n. declSize d ≤ length s) (body_of s)
-unfolding body_of
+body-takes : (s : List ℕ) → Sure (λ d n. declSize d ≤ length s) (bodyOf s)
+unfolding bodyOf
 body-takes s =
     sure-bind _ (byte-sure 8 s 0) (λ kind n₁ q₁.
     sure-bind _ (decl-takes kind s n₁) (λ d n₂ q₂.
@@ -196,8 +196,8 @@ Small none = Unit {0}
 Small (some d) = declSize d ≤ 32768
 
 module _ (s : List ℕ) (l : length s ≤ 32768) where
-  entry-small : (i : ℕ) → Sure (λ e n. Small e) (entry_of s i)
-  unfolding entry_of Small
+  entry-small : (i : ℕ) → Sure (λ e n. Small e) (entryOf s i)
+  unfolding entryOf Small
   entry-small i =
       sure-pick _ (λ h. yields none 0 tt)
       (λ h. sure-bind _ (body-takes (part (entryOffset s i) (entryLength s i) s))
@@ -222,8 +222,8 @@ few s h =
     let p = both (leb (entryCount s) 512) (leb (idCount s) 512 && leb (segmentCount s) 16) h.counts in
     (leb-true (entryCount s) 512 p.0, leb-true (idCount s) 512 (both (leb (idCount s) 512) (leb (segmentCount s) 16) p.1).0)
 
-tables-sure : (s : List ℕ) → Sure (λ ids n. (length ids ≡ idCount s) × (n ≤ length s)) (tables_of s)
-unfolding tables_of
+tables-sure : (s : List ℕ) → Sure (λ ids n. (length ids ≡ idCount s) × (n ≤ length s)) (tablesOf s)
+unfolding tablesOf
 tables-sure s = sure-need _ _ (λ h. sure-ok (ids-length (idCount s) s (idsAt s), leb-true (segmentsAt s) (length s) h))
 
 image-held : (s : List ℕ) → Sure (λ x n. Held x) (readImage s)

@@ -8,13 +8,13 @@ use Prim.Native.Nat.{ℕ, zero, suc, ◌+◌, ◌≤◌, ◌<◌}
 use native.Mathlib.Omega.{arith}
 use Rattle.maps.specs.Lists.{pass}
 use Rattle.maps.specs.Keyed.{insert, survivors}
-use Rattle.maps.specs.Walk.{is_some}
+use Rattle.maps.specs.Walk.{isSome}
 use Rattle.maps.proofs.Tests.{no_both}
 use Rattle.image.specs.Schema.{Schema}
-use Rattle.image.specs.Kinds.{kind_of}
-use Rattle.rules.specs.Survivors.{stands_for, resolved, listed, declarations, view_of}
-use Rattle.rules.specs.Clauses.{types_of, comparedTypes}
-use Rattle.rules.specs.Reached.{namedLabel, named_in, named_of, namedFrom, member, resolvable, Reached, by-survivor, by-reached, has, reachedSet, ReachedIs}
+use Rattle.image.specs.Kinds.{kindOf}
+use Rattle.rules.specs.Survivors.{standsFor, resolved, listed, declarations, viewOf}
+use Rattle.rules.specs.Clauses.{typesOf, comparedTypes}
+use Rattle.rules.specs.Reached.{namedLabel, namedIn, namedOf, namedFrom, member, resolvable, Reached, by-survivor, by-reached, has, reachedSet, ReachedIs}
 use Rattle.rules.specs.Imports.{OnlyListed}
 use Rattle.rules.specs.Edges.{u8}
 use Rattle.rules.specs.ImportEdges.{told, entry, naming, listing, under, link, links, chain, ImportEdges}
@@ -25,28 +25,28 @@ use Rattle.rules.proofs.Computed.{reports}
 -- ---- a chain of imports
 
 -- each entry of the chain is there
-link_at : (n from k : ℕ) → k < n → stands_for (links from n) k ≡ some (link (from + k))
-unfolding links stands_for
+link_at : (n from k : ℕ) → k < n → standsFor (links from n) k ≡ some (link (from + k))
+unfolding links standsFor
 link_at zero from k l = absurd (omega arith)
 link_at (suc n) from zero l = ap (λ i. some (link i)) (omega arith)
 link_at (suc n) from (suc k) l = link_at n (suc from) k (omega arith) ∙ ap (λ i. some (link i)) (omega arith)
 
 module _ (n : ℕ) where
-  entry_at : (id : ℕ) → id ≤ n → stands_for (chain n).registry id ≡ some (link id)
+  entry_at : (id : ℕ) → id ≤ n → standsFor (chain n).registry id ≡ some (link id)
   unfolding chain
   entry_at id l = link_at (suc n) 0 id (omega arith) ∙ ap (λ i. some (link i)) (omega arith)
 
   there : (id : ℕ) → id ≤ n → resolvable (chain n).registry id ≡ true
-  unfolding resolvable is_some
-  there id l = ap is_some (entry_at id l)
+  unfolding resolvable isSome
+  there id l = ap isSome (entry_at id l)
 
   -- each names the next
-  names-next : (id : ℕ) → member (suc id) (named_of (link id)) ≡ true
-  unfolding named_of types_of kind_of flat_map named_in namedLabel
+  names-next : (id : ℕ) → member (suc id) (namedOf (link id)) ≡ true
+  unfolding namedOf typesOf kindOf flat_map namedIn namedLabel
   names-next id = member-here (suc id) []
 
   chain-reached : (id : ℕ) → suc id ≤ n → Reached (chain n) (suc id)
-  unfolding chain links namedFrom comparedTypes view_of declarations listed stands_for resolved survivors pass insert types_of kind_of flat_map named_in namedLabel
+  unfolding chain links namedFrom comparedTypes viewOf declarations listed standsFor resolved survivors pass insert typesOf kindOf flat_map namedIn namedLabel
   chain-reached zero l = by-survivor (member-here 1 []) (there 1 l)
   chain-reached (suc id) l = by-reached (chain-reached id (omega arith)) (entry_at (suc id) (omega arith)) (names-next (suc id)) (there (suc (suc id)) l)
 

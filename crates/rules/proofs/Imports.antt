@@ -22,7 +22,7 @@ use Rattle.image.specs.Schema.{Name, Decl, Schema}
 use Rattle.image.specs.Parse.{Parsed, ok, no}
 use Rattle.image.specs.Image.{readImage}
 use Rattle.rules.specs.Equal.{sameName}
-use Rattle.rules.specs.Survivors.{Registry, stands_for, resolved, listed, name_of, declarations, view_of}
+use Rattle.rules.specs.Survivors.{Registry, standsFor, resolved, listed, nameOf, declarations, viewOf}
 use Rattle.rules.specs.Types.{sameType}
 use Rattle.rules.specs.Answer.{plainReading, plain, firstFault, aliasCheck, comparePair, acceptNew, acceptOld, outcome, verdictBy, checked}
 use Rattle.rules.specs.Refusals.{Numbered, VerdictRefusals}
@@ -50,21 +50,21 @@ module _ (s : Schema) where
   reached-ids id r = ids-has id (reachedSet s) ∙ ((reached-is s).exactly id).1 r
 
   -- by what survives, and by the highest of the set
-  stands_by : (name : Name) (o : Option Decl) → lookup name_of before name (declarations s) ≡ o
+  stands_by : (name : Name) (o : Option Decl) → lookup nameOf before name (declarations s) ≡ o
       → (r : Option Decl) → Highest s.registry name (markedIds 0 (reachedSet s)) r → Stands s name (or_else o r)
   unfolding or_else
   stands_by name (some d) e r t = survivor e
   stands_by name none e r (highest {id = id} i g n c) = imported e (ids-reached id i) g n (λ j f l w. c j f l (reached-ids j w))
   stands_by name none e r (nowhere c) = absent e (λ j f l w. c j f l (reached-ids j w))
 
-  stands : (name : Name) → Stands s name (lookup name_of before name (importsView s).standing)
+  stands : (name : Name) → Stands s name (lookup nameOf before name (importsView s).standing)
   unfolding importsView viewWith setEntries
   stands name =
       subst (Stands s name) (sym (lookup-with (reachedSet s) s name))
-      (stands_by name (lookup name_of before name (declarations s)) refl _ (highest-found s.registry name (markedIds 0 (reachedSet s)) (ids-rise 0 (reachedSet s))))
+      (stands_by name (lookup nameOf before name (declarations s)) refl _ (highest-found s.registry name (markedIds 0 (reachedSet s)) (ids-rise 0 (reachedSet s))))
 
 -- by rising name
-pub imports-rise : (s : Schema) → Rising name_of before (importsView s).standing
+pub imports-rise : (s : Schema) → Rising nameOf before (importsView s).standing
 unfolding importsView
 imports-rise s = with-rises (reachedSet s) s
 
@@ -83,57 +83,57 @@ module _ (name : Name) where
   abbrev counted : List Decl → ℕ
   counted m = count (λ e. sameName name e.name) m
 
-  count-after : (m : List Decl) → After name_of before name m → counted m ≡ 0
+  count-after : (m : List Decl) → After nameOf before name m → counted m ≡ 0
   unfolding count total All
   count-after [] h = refl
   count-after (f ∷ m) h = rw (name-test name f.name, before-other byName name f.name h.0) (omega (arith, count-after m h.1))
 
-  count-found : (m : List Decl) (d : Decl) → Rising name_of before m → lookup name_of before name m ≡ some d → counted m ≡ 1
+  count-found : (m : List Decl) (d : Decl) → Rising nameOf before m → lookup nameOf before name m ≡ some d → counted m ≡ 1
   unfolding count total lookup Rising
   count-found [] d h e = absurd (none-ne-some d e)
   count-found (f ∷ m) d h e = rw (name-test name f.name) (go (same before name f.name) refl e (count-found m d h.1))
     where
-      go : (u : Bool) → same before name f.name ≡ u → cond u (some f) (lookup name_of before name m) ≡ some d
-          → (lookup name_of before name m ≡ some d → counted m ≡ 1) → cond u 1 0 + counted m ≡ 1
-      go true p q ih = omega (arith, count-after m (subst (λ k. After name_of before k m) (sym (same-eq byName name f.name p)) h.0))
+      go : (u : Bool) → same before name f.name ≡ u → cond u (some f) (lookup nameOf before name m) ≡ some d
+          → (lookup nameOf before name m ≡ some d → counted m ≡ 1) → cond u 1 0 + counted m ≡ 1
+      go true p q ih = omega (arith, count-after m (subst (λ k. After nameOf before k m) (sym (same-eq byName name f.name p)) h.0))
       go false p q ih = omega (arith, ih q)
 
-once : (s : Schema) (id : ℕ) (d : Decl) → Reached s id → stands_for s.registry id ≡ some d
+once : (s : Schema) (id : ℕ) (d : Decl) → Reached s id → standsFor s.registry id ≡ some d
     → count (λ e. sameName d.name e.name) (importsView s).standing ≡ 1
-once s id d r g = go (lookup name_of before d.name (importsView s).standing) refl (stands s d.name)
+once s id d r g = go (lookup nameOf before d.name (importsView s).standing) refl (stands s d.name)
   where
-    go : (o : Option Decl) → lookup name_of before d.name (importsView s).standing ≡ o → Stands s d.name o
+    go : (o : Option Decl) → lookup nameOf before d.name (importsView s).standing ≡ o → Stands s d.name o
         → count (λ e. sameName d.name e.name) (importsView s).standing ≡ 1
     go (some e) p t = count-found d.name (importsView s).standing e (imports-rise s) p
     go none p (absent e n) = absurd (n id d tt r g refl)
 
 -- ---- where nothing that is not listed is reached
 
-listed_in : (R : Registry) (ids : List ℕ) (id : ℕ) (d : Decl) → member id ids ≡ true → stands_for R id ≡ some d → In d (listed R ids)
+listed_in : (R : Registry) (ids : List ℕ) (id : ℕ) (d : Decl) → member id ids ≡ true → standsFor R id ≡ some d → In d (listed R ids)
 unfolding listed resolved
 listed_in R [] id d i g = member-none id i
 listed_in R (a ∷ ids) id d i g =
-    ⊎_elim (λ q. rw (subst (λ x. stands_for R x ≡ some d) q g) (Memᴰ.head refl)) (λ q. go (stands_for R a) (listed_in R ids id d q g)) (member-cons id a ids i)
+    ⊎_elim (λ q. rw (subst (λ x. standsFor R x ≡ some d) q g) (Memᴰ.head refl)) (λ q. go (standsFor R a) (listed_in R ids id d q g)) (member-cons id a ids i)
   where
     go : (o : Option Decl) → In d (listed R ids) → In d (resolved o (listed R ids))
     go none j = j
     go (some e) j = Memᴰ.tail j
 
 module _ (s : Schema) (only : OnlyListed s) where
-  found_alike : (name : Name) → lookup name_of before name (importsView s).standing ≡ lookup name_of before name (declarations s)
+  found_alike : (name : Name) → lookup nameOf before name (importsView s).standing ≡ lookup nameOf before name (declarations s)
   unfolding declarations
-  found_alike name = go (lookup name_of before name (importsView s).standing) (stands s name)
+  found_alike name = go (lookup nameOf before name (importsView s).standing) (stands s name)
     where
-      go : (o : Option Decl) → Stands s name o → o ≡ lookup name_of before name (declarations s)
+      go : (o : Option Decl) → Stands s name o → o ≡ lookup nameOf before name (declarations s)
       go o (survivor e) = sym e
       go o (imported {id = id} {d = d} e r g n c) =
-          absurd (lookup-found name_of byName (listed s.registry s.ids) d (listed_in s.registry s.ids id d (only id r) g) (rw n e))
+          absurd (lookup-found nameOf byName (listed s.registry s.ids) d (listed_in s.registry s.ids id d (only id r) g) (rw n e))
       go o (absent e c) = sym e
 
-  same_view : importsView s ≡ view_of s
-  unfolding importsView viewWith view_of
+  same_view : importsView s ≡ viewOf s
+  unfolding importsView viewWith viewOf
   same_view = ap (λ l. record { namespace = s.namespace; standing = l; registry = s.registry })
-      (same-found name_of byName _ _ (imports-rise s) (view-rises s) found_alike)
+      (same-found nameOf byName _ _ (imports-rise s) (view-rises s) found_alike)
 
 plain-there : (old new : List ℕ) → ((x : Schema) (n : ℕ) → readImage old ≡ ok x n → OnlyListed x)
     → ((y : Schema) (n : ℕ) → readImage new ≡ ok y n → OnlyListed y) → outcome imports old new ≡ checked old new

@@ -12,7 +12,7 @@ use Rattle.image.specs.Image.{readImage}
 use Rattle.maps.proofs.Tests.{no_both}
 use Rattle.maps.proofs.Reorderings.{In}
 use Rattle.rules.specs.Equal.{Sound, never}
-use Rattle.rules.specs.Survivors.{View, view_of}
+use Rattle.rules.specs.Survivors.{View, viewOf}
 use Rattle.rules.specs.Types.{resolve, sameLabel, sameType, holdsVector}
 use Rattle.rules.specs.Clauses.{changes, comparedTypes}
 use Rattle.rules.specs.Verdict.{any}
@@ -139,19 +139,19 @@ pub otherwise : Otherwise
 unfolding holdsVectors vectorCompared outcome acceptOld acceptNew comparePair firstFault aliasCheck
 otherwise old new e = go (readImage old) (readImage new) e
   where
-    go : (r q : Parsed Schema) → (vectorCompared view_of r && vectorCompared view_of q) ≡ false → acceptOld mended r q ≡ acceptOld plain r q
-    go (ok x m) (ok y n) f = rw (views-agree (view_of x) (view_of y) f)
+    go : (r q : Parsed Schema) → (vectorCompared viewOf r && vectorCompared viewOf q) ≡ false → acceptOld mended r q ≡ acceptOld plain r q
+    go (ok x m) (ok y n) f = rw (views-agree (viewOf x) (viewOf y) f)
     go (ok x m) (no k) f = refl
     go (no k) q f = refl
 
 -- ---- the mended verdict
 
 pub mended-numbered : Numbered mended
-mended-numbered = usual-numbered view_of mendedReading
+mended-numbered = usual-numbered viewOf mendedReading
 
 pub mended-bounded : Bounded mended
 mended-bounded = survivors-bounded mendedType
 
 -- "there every image that gets a verdict against itself is at distance 0 from itself. The chain rule covers the mended verdict as well."
 pub mended-distance-rule : DistanceRule (verdictBy mended) never
-mended-distance-rule = even-distance-rule view_of view-rises mended-types
+mended-distance-rule = even-distance-rule viewOf view-rises mended-types

@@ -4,7 +4,7 @@ use mathlib.Core.Bool.{Bool, true, false, cond}
 use Prim.Native.Nat.{ℕ}
 use lib.Dec.{eqb}
 use borrow.Author.Tests.{eqb-true, eqb-false}
-use Rattle.rules.specs.Changes.{kind_at, FieldAdded, FieldRemoved, VariantAdded, VariantRemoved, DeclarationAdded, DeclarationRemoved, FlagsBitAdded, FlagsBitRemoved}
+use Rattle.rules.specs.Changes.{kindAt, FieldAdded, FieldRemoved, VariantAdded, VariantRemoved, DeclarationAdded, DeclarationRemoved, FlagsBitAdded, FlagsBitRemoved}
 use Rattle.rules.proofs.Equal.{numbers}
 
 unfoldable pub exchange : ℕ → ℕ → ℕ → ℕ
@@ -46,14 +46,14 @@ exchange-test a b i j = go (eqb i j) (eqb (exchange a b i) (exchange a b j)) ref
 unfoldable pub mirror : ℕ → ℕ
 unfolding exchange
 mirror k =
-    exchange (kind_at FieldAdded) (kind_at FieldRemoved) (exchange (kind_at VariantAdded) (kind_at VariantRemoved)
-    (exchange (kind_at DeclarationAdded) (kind_at DeclarationRemoved) (exchange (kind_at FlagsBitAdded) (kind_at FlagsBitRemoved) k)))
+    exchange (kindAt FieldAdded) (kindAt FieldRemoved) (exchange (kindAt VariantAdded) (kindAt VariantRemoved)
+    (exchange (kindAt DeclarationAdded) (kindAt DeclarationRemoved) (exchange (kindAt FlagsBitAdded) (kindAt FlagsBitRemoved) k)))
 
 pub mirror-test : (i j : ℕ) → eqb i j ≡ eqb (mirror i) (mirror j)
 unfolding mirror
 mirror-test i j =
-    let f : ℕ → ℕ = exchange (kind_at FlagsBitAdded) (kind_at FlagsBitRemoved) in
-    let g : ℕ → ℕ = λ k. exchange (kind_at DeclarationAdded) (kind_at DeclarationRemoved) (f k) in
-    let h : ℕ → ℕ = λ k. exchange (kind_at VariantAdded) (kind_at VariantRemoved) (g k) in
-    exchange-test (kind_at FlagsBitAdded) (kind_at FlagsBitRemoved) i j ∙ (exchange-test (kind_at DeclarationAdded) (kind_at DeclarationRemoved) (f i) (f j)
-    ∙ (exchange-test (kind_at VariantAdded) (kind_at VariantRemoved) (g i) (g j) ∙ exchange-test (kind_at FieldAdded) (kind_at FieldRemoved) (h i) (h j)))
+    let f : ℕ → ℕ = exchange (kindAt FlagsBitAdded) (kindAt FlagsBitRemoved) in
+    let g : ℕ → ℕ = λ k. exchange (kindAt DeclarationAdded) (kindAt DeclarationRemoved) (f k) in
+    let h : ℕ → ℕ = λ k. exchange (kindAt VariantAdded) (kindAt VariantRemoved) (g k) in
+    exchange-test (kindAt FlagsBitAdded) (kindAt FlagsBitRemoved) i j ∙ (exchange-test (kindAt DeclarationAdded) (kindAt DeclarationRemoved) (f i) (f j)
+    ∙ (exchange-test (kindAt VariantAdded) (kindAt VariantRemoved) (g i) (g j) ∙ exchange-test (kindAt FieldAdded) (kindAt FieldRemoved) (h i) (h j)))

@@ -14,11 +14,11 @@ use Rattle.maps.specs.Orders.{before}
 use Rattle.maps.specs.Keyed.{lookup}
 use Rattle.maps.specs.Compare.{Rules, unmatched, matched, between, compare}
 use Rattle.image.specs.Schema.{Name, Marks, Ty, Field, Variant, Decl, Schema}
-use Rattle.image.specs.Kinds.{Kind, kind_of, message, enum, flags, union, newtype, config, alias, trait, impl, other}
-use Rattle.rules.specs.Survivors.{name_of, ordinalOf, fieldMap, variantOrdinal, variantMap, View}
-use Rattle.rules.specs.Changes.{Bump, Change, only, kindCount, kind_at, FieldOrdinalChanged, VariantOrdinalChanged, FlagsBitOrdinalChanged}
-use Rattle.rules.specs.Clauses.{compareNamespaces, Reading, clausesBy, Context, context, compareTypes, compareFieldNames, compareEncodings, compareDeprecated, compareFields, fieldRules, compareFieldSets, compareMessages, variantGone, variantCame, enumRules, compareNonExhaustive, compareEnums, flagsRules, compare_flags, unionRules, compareUnions, compareNewtypes, compareKind, kindChanged, compareAlike, compareDecls, declRules, changes}
-use Rattle.rules.specs.Verdict.{count_of}
+use Rattle.image.specs.Kinds.{Kind, kindOf, message, enum, flags, union, newtype, config, alias, trait, impl, other}
+use Rattle.rules.specs.Survivors.{nameOf, ordinalOf, fieldMap, variantOrdinal, variantMap, View}
+use Rattle.rules.specs.Changes.{Bump, Change, only, kindCount, kindAt, FieldOrdinalChanged, VariantOrdinalChanged, FlagsBitOrdinalChanged}
+use Rattle.rules.specs.Clauses.{compareNamespaces, Reading, clausesBy, Context, context, compareTypes, compareFieldNames, compareEncodings, compareDeprecated, compareFields, fieldRules, compareFieldSets, compareMessages, variantGone, variantCame, enumRules, compareNonExhaustive, compareEnums, flagsRules, compareFlags, unionRules, compareUnions, compareNewtypes, compareKind, kindChanged, compareAlike, compareDecls, declRules, changes}
+use Rattle.rules.specs.Verdict.{countOf}
 use Rattle.rules.specs.Outcome.{Outcome, select}
 use Rattle.rules.specs.Answer.{Policy, verdictBy, usual}
 use Rattle.rules.specs.Refusals.{Decided, oldRefused, oldAlone, newRefused, newAlone, pairRefused, verdict}
@@ -62,7 +62,7 @@ module _ {C : Type 0} (P : C → Type 0) where
 
 -- the three kinds
 unfoldable pub ordinalChanged : ℕ → Bool
-ordinalChanged kind = eqb kind (kind_at FieldOrdinalChanged) || (eqb kind (kind_at VariantOrdinalChanged) || eqb kind (kind_at FlagsBitOrdinalChanged))
+ordinalChanged kind = eqb kind (kindAt FieldOrdinalChanged) || (eqb kind (kindAt VariantOrdinalChanged) || eqb kind (kindAt FlagsBitOrdinalChanged))
 
 abbrev pub Other : Change → Type 0
 Other c = ordinalChanged c.kind ≡ false
@@ -125,7 +125,7 @@ clauses-ordinary same = record { first = λ x y. nothing-other; last = λ x y. n
 
 module _ (r : Context) (o : Ordinary r.reading) where
   kinds-other : (k : Kind) (x y : Decl) → All Other (compareKind k r x y)
-  unfolding compareKind compareMessages compareEnums enumRules compareNonExhaustive compare_flags flagsRules compareUnions unionRules compareNewtypes ordinalChanged
+  unfolding compareKind compareMessages compareEnums enumRules compareNonExhaustive compareFlags flagsRules compareUnions unionRules compareNewtypes ordinalChanged
   kinds-other message x y =
       all_append Other _ _ (sets-other r x.name x.fields y.fields) (deprecated-other x.name _ _ x.marks y.marks)
   kinds-other enum x y =
@@ -150,21 +150,21 @@ module _ (r : Context) (o : Ordinary r.reading) where
   decls-other x y = go (eqb x.kind y.kind)
     where
       go : (u : Bool) → All Other (cond u (compareAlike r x y) (kindChanged x y))
-      go true = all_append Other _ _ (o.first x y) (all_append Other _ _ (kinds-other (kind_of x.kind) x y) (o.last x y))
+      go true = all_append Other _ _ (o.first x y) (all_append Other _ _ (kinds-other (kindOf x.kind) x y) (o.last x y))
       go false = single-other _ refl
 
 changes-other : (r : Reading) → Ordinary r → (x y : View) → All Other (changes r x y)
 unfolding changes compareNamespaces declRules ordinalChanged
 changes-other r o x y =
     all_append Other _ _ (only-other _ _ refl)
-    (all-compare Other name_of before (declRules (context r x.registry y.registry))
+    (all-compare Other nameOf before (declRules (context r x.registry y.registry))
     (λ d. single-other _ refl) (λ d. single-other _ refl) (decls-other (context r x.registry y.registry) o) x.standing
     y.standing)
 
 -- ---- the counts
 
-none-counted : (kind : ℕ) → ordinalChanged kind ≡ true → (cs : List Change) → All Other cs → count_of kind cs ≡ 0
-unfolding count_of count total All
+none-counted : (kind : ℕ) → ordinalChanged kind ≡ true → (cs : List Change) → All Other cs → countOf kind cs ≡ 0
+unfolding countOf count total All
 none-counted kind e [] h = refl
 none-counted kind e (c ∷ cs) h = go (eqb c.kind kind) refl (none-counted kind e cs h.1)
   where
@@ -190,20 +190,20 @@ module _ (p : Policy) (o : Ordinary p.reading) (old new : List ℕ) where
           ∙ none-counted kind e _ (changes-other p.reading o (p.view x) (p.view y))
 
   pub none-ordinal : All (λ kind. countBetween (verdictBy p) kind old new ≡ 0)
-      ((kind_at FieldOrdinalChanged) ∷ kind_at VariantOrdinalChanged ∷ kind_at FlagsBitOrdinalChanged ∷ [])
+      ((kindAt FieldOrdinalChanged) ∷ kindAt VariantOrdinalChanged ∷ kindAt FlagsBitOrdinalChanged ∷ [])
   unfolding All countBetween ordinalChanged
   none-ordinal = (
-    none-selected (kind_at FieldOrdinalChanged)
+    none-selected (kindAt FieldOrdinalChanged)
         (omega arith) refl,
     (
-      none-selected (kind_at VariantOrdinalChanged)
+      none-selected (kindAt VariantOrdinalChanged)
           (omega arith) refl,
-      (none-selected (kind_at FlagsBitOrdinalChanged) (omega arith) refl, tt),
+      (none-selected (kindAt FlagsBitOrdinalChanged) (omega arith) refl, tt),
     ),
   )
 
 -- and so of one that reports the clauses alone, over any view and however types are read
 pub no-ordinal-changed : (view : Schema → View) (same : Ty → Ty → Bool) (old new : List ℕ)
     → All (λ kind. countBetween (verdictBy (usual view (clausesBy same))) kind old new ≡ 0)
-    ((kind_at FieldOrdinalChanged) ∷ kind_at VariantOrdinalChanged ∷ kind_at FlagsBitOrdinalChanged ∷ [])
+    ((kindAt FieldOrdinalChanged) ∷ kindAt VariantOrdinalChanged ∷ kindAt FlagsBitOrdinalChanged ∷ [])
 no-ordinal-changed view same old new = none-ordinal (usual view (clausesBy same)) (clauses-ordinary same) old new

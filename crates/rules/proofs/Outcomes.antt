@@ -110,12 +110,12 @@ module _ (side room : ℕ) (o : Outcome) where
 -- ---- what is left there
 
 -- the text, empty if refused
-unfoldable pub text_of : Outcome → List ℕ
-text_of (refused number side) = []
-text_of (answered a) = a.text
+unfoldable pub textOf : Outcome → List ℕ
+textOf (refused number side) = []
+textOf (answered a) = a.text
 
-pub text-written : (o : Outcome) (d : List ℕ) → take (textLength o) (written o d) ≡ text_of o
-unfolding textLength written text_of
+pub text-written : (o : Outcome) (d : List ℕ) → take (textLength o) (written o d) ≡ textOf o
+unfolding textLength written textOf
 text-written (refused number side) d = refl
 text-written (answered a) d = take_at a.text (drop (length a.text) d) (length a.text) refl
 

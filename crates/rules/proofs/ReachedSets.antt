@@ -15,7 +15,7 @@ use Rattle.maps.proofs.Lists.{all_map}
 use Rattle.maps.proofs.Tests.{no_both}
 use Rattle.rules.specs.Survivors.{Registry}
 use Rattle.rules.specs.Verdict.{any}
-use Rattle.rules.specs.Reached.{member, resolvable, IdSet, has, mark, markAll, up_from}
+use Rattle.rules.specs.Reached.{member, resolvable, IdSet, has, mark, markAll, upFrom}
 
 -- ---- members of a list
 
@@ -54,17 +54,17 @@ member-flatMap f id [] = tt
 member-flatMap f id (a ∷ l) =
     (λ e. member-left id (f a) (flat_map f l) e, all_map (λ b h e. member_right id (f a) (flat_map f l) (h e)) l (member-flatMap f id l))
 
-pub member-up : (n from id : ℕ) → from ≤ id → id < from + n → member id (up_from from n) ≡ true
-unfolding up_from
+pub member-up : (n from id : ℕ) → from ≤ id → id < from + n → member id (upFrom from n) ≡ true
+unfolding upFrom
 member-up zero from id l h = absurd (omega arith)
 member-up (suc n) from id l h = go (eqb id from) refl (member-up n (suc from) id)
   where
-    go : (b : Bool) → eqb id from ≡ b → (suc from ≤ id → id < suc from + n → member id (up_from (suc from) n) ≡ true)
-        → member id (from ∷ up_from (suc from) n) ≡ true
-    go true e ih = rw (eqb-true id from e) (member-here from (up_from (suc from) n))
+    go : (b : Bool) → eqb id from ≡ b → (suc from ≤ id → id < suc from + n → member id (upFrom (suc from) n) ≡ true)
+        → member id (from ∷ upFrom (suc from) n) ≡ true
+    go true e ih = rw (eqb-true id from e) (member-here from (upFrom (suc from) n))
     go false e ih =
         let d : id ≡ from → ⊥ = eqb-false id from e in
-        member-more id from (up_from (suc from) n) (ih (omega arith) (omega arith))
+        member-more id from (upFrom (suc from) n) (ih (omega arith) (omega arith))
 
 -- ---- sets that grow
 

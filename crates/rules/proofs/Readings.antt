@@ -10,9 +10,9 @@ use Rattle.maps.specs.Lists.{largest, total, count}
 use Rattle.maps.proofs.Levels.{Chained, chained-small}
 use Rattle.image.specs.Schema.{Name, Ty, Variant, Decl}
 use Rattle.rules.specs.Equal.{Sound}
-use Rattle.rules.specs.Changes.{level, Change, kind_at, FieldDeprecated}
+use Rattle.rules.specs.Changes.{level, Change, kindAt, FieldDeprecated}
 use Rattle.rules.specs.Clauses.{Reading, clausesBy}
-use Rattle.rules.specs.Verdict.{count_of}
+use Rattle.rules.specs.Verdict.{countOf}
 use Rattle.rules.proofs.Mirror.{mirror}
 
 -- the level of a change
@@ -28,7 +28,7 @@ pub record Besides {E : Type 0} (Go : E → E → Type 0) (f : Name → E → E 
   -- of a thing and itself nothing that counts
   pub self : (d : Name) (x : E) → largest levelOf (f d x x) ≡ 0
   -- both ways the same but for deprecations
-  pub swap : (j : ℕ) → eqb (kind_at FieldDeprecated) j ≡ false → (d e : Name) (x y : E) → Go x y → count_of j (f d x y) ≡ count_of (mirror j) (f e y x)
+  pub swap : (j : ℕ) → eqb (kindAt FieldDeprecated) j ≡ false → (d e : Name) (x y : E) → Go x y → countOf j (f d x y) ≡ countOf (mirror j) (f e y x)
 
 abbrev pub OneKind : Decl → Decl → Type 0
 OneKind x y = x.kind ≡ y.kind
@@ -43,7 +43,7 @@ pub record Lawful (r : Reading) (odd : Ty → Bool) : Type 0 where
   pub lastIn : Besides AnyTwo r.lastIn
 
 nothing-besides : {E : Type 0} {Go : E → E → Type 0} → Besides Go (λ d x y. [])
-unfolding largest count_of count total
+unfolding largest countOf count total
 nothing-besides = record { chained = λ b c d e x y z p q. chained-small (omega arith); self = λ d x. refl; swap = λ j o d e x y p. refl }
 
 pub clauses-lawful : {same : Ty → Ty → Bool} {odd : Ty → Bool} → Sound same odd → Lawful (clausesBy same) odd

@@ -18,7 +18,7 @@ use Rattle.image.specs.Parse.{no}
 use Rattle.image.specs.Image.{readImage}
 use Rattle.refusals.proofs.Refusals.{only-ten}
 use Rattle.maps.proofs.Tests.{no_both, both}
-use Rattle.rules.specs.Survivors.{name_of, View}
+use Rattle.rules.specs.Survivors.{nameOf, View}
 use Rattle.rules.specs.Clauses.{Reading, changes}
 use Rattle.rules.specs.Verdict.{alias, isAlias, any, aliasPair}
 use Rattle.rules.specs.Outcome.{Outcome, selected, select}
@@ -51,23 +51,23 @@ any_false p (a ∷ l) e = go (p a) refl e (any_false p l)
     go false q e ih = (q, ih e)
 
 -- what is found is an alias
-found-alias : (n : Name) (l : List Decl) → isAlias (lookup name_of before n l) ≡ true
-    → (d : Decl) × (lookup name_of before n l ≡ some d) × (d.kind ≡ 6)
+found-alias : (n : Name) (l : List Decl) → isAlias (lookup nameOf before n l) ≡ true
+    → (d : Decl) × (lookup nameOf before n l ≡ some d) × (d.kind ≡ 6)
 unfolding isAlias alias
-found-alias n l = go (lookup name_of before n l) refl
+found-alias n l = go (lookup nameOf before n l) refl
   where
-    go : (o : Option Decl) → lookup name_of before n l ≡ o → isAlias o ≡ true
-        → (d : Decl) × (lookup name_of before n l ≡ some d) × (d.kind ≡ 6)
+    go : (o : Option Decl) → lookup nameOf before n l ≡ o → isAlias o ≡ true
+        → (d : Decl) × (lookup nameOf before n l ≡ some d) × (d.kind ≡ 6)
     go none p e = no_both refl (sym e)
     go (some d) p e = (d, p, eqb-true d.kind 6 e)
 
-module _ (view : Schema → View) (rise : (s : Schema) → Rising name_of before (view s).standing) (x y : Schema) where
+module _ (view : Schema → View) (rise : (s : Schema) → Rising nameOf before (view s).standing) (x y : Schema) where
   pair_found : aliasPair (view x) (view y) ≡ true → AliasPair view x y
   unfolding aliasPair alias
   pair_found e =
-      let own = lookup-own name_of byName (view x).standing (rise x) in
-      let t = any-true (λ d. alias d && isAlias (lookup name_of before d.name (view y).standing)) _ (view x).standing own e in
-      let b = both (alias t.0) (isAlias (lookup name_of before t.0.name (view y).standing)) t.2 in
+      let own = lookup-own nameOf byName (view x).standing (rise x) in
+      let t = any-true (λ d. alias d && isAlias (lookup nameOf before d.name (view y).standing)) _ (view x).standing own e in
+      let b = both (alias t.0) (isAlias (lookup nameOf before t.0.name (view y).standing)) t.2 in
       let f = found-alias t.0.name (view y).standing b.1 in
       record {
         name = t.0.name;
@@ -83,13 +83,13 @@ module _ (view : Schema → View) (rise : (s : Schema) → Rising name_of before
       old = a.inOld
 
       test : Decl → Bool
-      test d = alias d && isAlias (lookup name_of before d.name (view y).standing)
+      test d = alias d && isAlias (lookup nameOf before d.name (view y).standing)
 
       passes : test old.decl ≡ true
       passes =
           rw (
             eq-eqb old.decl.kind 6 old.generic,
-            lookup_key name_of byName a.name (view x).standing old.decl
+            lookup_key nameOf byName a.name (view x).standing old.decl
                 old.stands,
             a.inNew.stands,
           )
@@ -98,7 +98,7 @@ module _ (view : Schema → View) (rise : (s : Schema) → Rising name_of before
       go : (u : Bool) → aliasPair (view x) (view y) ≡ u → u ≡ true
       go true e = refl
       go false e =
-          no_both passes (all_lookup name_of before (λ d. test d ≡ false) a.name (view x).standing old.decl
+          no_both passes (all_lookup nameOf before (λ d. test d ≡ false) a.name (view x).standing old.decl
           (any_false test (view x).standing e) old.stands)
 
 -- ---- of any verdict
@@ -147,7 +147,7 @@ module _ (p : Policy) (numbered : Numbered p) (old new : List ℕ) where
 
 -- ---- of a verdict whose one check is 11
 
-module _ (view : Schema → View) (rise : (s : Schema) → Rising name_of before (view s).standing) (reading : Reading) (old new : List ℕ) where
+module _ (view : Schema → View) (rise : (s : Schema) → Rising nameOf before (view s).standing) (reading : Reading) (old new : List ℕ) where
   abbrev policy : Policy
   policy = usual view reading
 

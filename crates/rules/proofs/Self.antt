@@ -17,12 +17,12 @@ use Rattle.maps.proofs.Names.{byName}
 use Rattle.maps.proofs.Survivors.{rising}
 use Rattle.maps.proofs.Levels.{self-flatMap, self-none}
 use Rattle.image.specs.Schema.{Name, Marks, Ty, Field, Variant, Decl}
-use Rattle.image.specs.Kinds.{Kind, kind_of, message, enum, flags, union, newtype, config, alias, trait, impl, other}
+use Rattle.image.specs.Kinds.{Kind, kindOf, message, enum, flags, union, newtype, config, alias, trait, impl, other}
 use Rattle.rules.specs.Equal.{Sound}
-use Rattle.rules.specs.Survivors.{Registry, name_of, ordinalOf, fieldMap, variantOrdinal, variantMap, View}
+use Rattle.rules.specs.Survivors.{Registry, nameOf, ordinalOf, fieldMap, variantOrdinal, variantMap, View}
 use Rattle.rules.specs.Types.{resolve}
 use Rattle.rules.specs.Changes.{level, Change, only}
-use Rattle.rules.specs.Clauses.{compareNamespaces, Reading, Context, context, compareTypes, fieldText, compareFieldNames, compareEncodings, compareDeprecated, compareFields, fieldRules, compareFieldSets, compareMessages, enumRules, compareNonExhaustive, compareEnums, flagsRules, compare_flags, unionRules, compareUnions, compareNewtypes, compareKind, compareAlike, compareDecls, declRules, changes, fieldTypes, variantTypes, types_of, comparedTypes}
+use Rattle.rules.specs.Clauses.{compareNamespaces, Reading, Context, context, compareTypes, fieldText, compareFieldNames, compareEncodings, compareDeprecated, compareFields, fieldRules, compareFieldSets, compareMessages, enumRules, compareNonExhaustive, compareEnums, flagsRules, compareFlags, unionRules, compareUnions, compareNewtypes, compareKind, compareAlike, compareDecls, declRules, changes, fieldTypes, variantTypes, typesOf, comparedTypes}
 use Rattle.rules.specs.Verdict.{any}
 use Rattle.rules.proofs.Equal.{pairs, numbers, marks, options, names, nameLists}
 use Rattle.rules.proofs.Types.{encodings}
@@ -91,8 +91,8 @@ enums-self d x =
     nothing_then (compareNonExhaustive d x.marks x.marks) _ (openness-self d x.marks)
     (variants-self (enumRules d x.marks) (λ v w. refl) x.variants)
 
-flags-self : (d : Name) (x : Decl) → largest levelOf (compare_flags d x x) ≡ 0
-unfolding compare_flags flagsRules
+flags-self : (d : Name) (x : Decl) → largest levelOf (compareFlags d x x) ≡ 0
+unfolding compareFlags flagsRules
 flags-self d x = variants-self (flagsRules d) (λ v w. refl) x.variants
 
 -- ---- the clauses, over any lawful reading
@@ -140,8 +140,8 @@ module _ {r : Reading} {odd : Ty → Bool} (lawful : Lawful r odd) (R : Registry
         (all (λ v. then-nothing (compareFieldSets own _ v.fields v.fields) _ (sets-self _ v.fields) (lawful.lastIn.self _ v))
         (variantMap x.variants))
 
-    kinds-self : (k : Kind) → largest levelOf (compareKind k own x x) ≡ largest score (types_of k x)
-    unfolding compareKind types_of compareNewtypes largest
+    kinds-self : (k : Kind) → largest levelOf (compareKind k own x x) ≡ largest score (typesOf k x)
+    unfolding compareKind typesOf compareNewtypes largest
     kinds-self message = messages-self
     kinds-self enum = enums-self x.name x
     kinds-self flags = flags-self x.name x
@@ -153,12 +153,12 @@ module _ {r : Reading} {odd : Ty → Bool} (lawful : Lawful r odd) (R : Registry
     kinds-self impl = refl
     kinds-self other = refl
 
-    decls-self : largest levelOf (compareDecls own x x) ≡ largest score (types_of (kind_of x.kind) x)
+    decls-self : largest levelOf (compareDecls own x x) ≡ largest score (typesOf (kindOf x.kind) x)
     unfolding compareDecls compareAlike
     decls-self =
         rw (numbers.self x.kind)
         (nothing_then (r.first x x) _ (lawful.first.self x.name x)
-        (then-nothing (compareKind (kind_of x.kind) own x x) _ (kinds-self (kind_of x.kind)) (lawful.last.self x.name x)))
+        (then-nothing (compareKind (kindOf x.kind) own x x) _ (kinds-self (kindOf x.kind)) (lawful.last.self x.name x)))
 
 -- ---- all clauses
 
@@ -174,11 +174,11 @@ largest-any p (a ∷ l) = go (p a) (any p l) (largest-any p l)
     go true false ih = omega arith
     go false v ih = omega (arith, ih)
 
-pub changes-self : {r : Reading} {odd : Ty → Bool} → Lawful r odd → (v : View) → Rising name_of before v.standing
+pub changes-self : {r : Reading} {odd : Ty → Bool} → Lawful r odd → (v : View) → Rising nameOf before v.standing
     → largest levelOf (changes r v v) ≡ cond (any (λ t. odd (resolve v.registry t)) (comparedTypes v)) 2 0
 unfolding changes declRules comparedTypes score
 changes-self {r = r} {odd = odd} lawful v p =
     nothing_then (compareNamespaces v.namespace v.namespace) _ (namespaces-self v.namespace)
-    (self-flatMap name_of byName v.standing p (declRules (context r v.registry v.registry)) levelOf (score lawful v.registry)
-    (λ d. types_of (kind_of d.kind) d) (all (decls-self lawful v.registry) v.standing)
+    (self-flatMap nameOf byName v.standing p (declRules (context r v.registry v.registry)) levelOf (score lawful v.registry)
+    (λ d. typesOf (kindOf d.kind) d) (all (decls-self lawful v.registry) v.standing)
     ∙ largest-any (λ t. odd (resolve v.registry t)) (comparedTypes v))

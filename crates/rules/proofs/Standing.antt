@@ -18,7 +18,7 @@ use Rattle.maps.proofs.Orders.{same-eq, same-ne}
 use Rattle.maps.proofs.Searches.{latest-append, lookup-latest}
 use Rattle.maps.proofs.Survivors.{rising}
 use Rattle.image.specs.Schema.{Name, Decl, Schema}
-use Rattle.rules.specs.Survivors.{Registry, stands_for, resolved, listed, name_of, declarations, view_of}
+use Rattle.rules.specs.Survivors.{Registry, standsFor, resolved, listed, nameOf, declarations, viewOf}
 use Rattle.rules.specs.Verdict.{any}
 use Rattle.rules.specs.Reached.{member, IdSet, has}
 use Rattle.rules.specs.Imports.{markedIds, standingWith, viewWith}
@@ -30,21 +30,21 @@ pub standing-none : (s : Schema) → standingWith [] s ≡ declarations s
 unfolding standingWith declarations markedIds
 standing-none s = refl
 
-pub view-none : (s : Schema) → viewWith [] s ≡ view_of s
-unfolding viewWith view_of
+pub view-none : (s : Schema) → viewWith [] s ≡ viewOf s
+unfolding viewWith viewOf
 view-none s = rw (standing-none s)
 
 -- ---- by rising name
 
-pub standing-rises : (m : IdSet) (s : Schema) → Rising name_of before (standingWith m s)
+pub standing-rises : (m : IdSet) (s : Schema) → Rising nameOf before (standingWith m s)
 unfolding standingWith
-standing-rises m s = rising name_of byName (listed s.registry (markedIds 0 m ++ s.ids))
+standing-rises m s = rising nameOf byName (listed s.registry (markedIds 0 m ++ s.ids))
 
-pub with-rises : (m : IdSet) (s : Schema) → Rising name_of before (viewWith m s).standing
+pub with-rises : (m : IdSet) (s : Schema) → Rising nameOf before (viewWith m s).standing
 unfolding viewWith
 with-rises m s = standing-rises m s
 
-pub view-rises : (s : Schema) → Rising name_of before (view_of s).standing
+pub view-rises : (s : Schema) → Rising nameOf before (viewOf s).standing
 view-rises s = rw (← view-none s) (with-rises [] s)
 
 -- ---- the set before what is listed
@@ -52,7 +52,7 @@ view-rises s = rw (← view-none s) (with-rises [] s)
 listed-append : (R : Registry) (xs ys : List ℕ) → listed R (xs ++ ys) ≡ listed R xs ++ listed R ys
 unfolding listed resolved
 listed-append R [] ys = refl
-listed-append R (id ∷ xs) ys = go (stands_for R id) (listed-append R xs ys)
+listed-append R (id ∷ xs) ys = go (standsFor R id) (listed-append R xs ys)
   where
     go : (o : Option Decl) → listed R (xs ++ ys) ≡ listed R xs ++ listed R ys
         → resolved o (listed R (xs ++ ys)) ≡ resolved o (listed R xs) ++ listed R ys
@@ -65,14 +65,14 @@ module _ (m : IdSet) (s : Schema) where
   setEntries = listed s.registry (markedIds 0 m)
 
   -- what is found is what survives, or else the last of the set
-  pub lookup-with : (name : Name) → lookup name_of before name (standingWith m s)
-      ≡ or_else (lookup name_of before name (declarations s)) (latest name_of before name setEntries)
+  pub lookup-with : (name : Name) → lookup nameOf before name (standingWith m s)
+      ≡ or_else (lookup nameOf before name (declarations s)) (latest nameOf before name setEntries)
   unfolding standingWith declarations setEntries
   lookup-with name =
-      lookup-latest name_of byName name (listed s.registry (markedIds 0 m ++ s.ids))
-      ∙ (ap (latest name_of before name) (listed-append s.registry (markedIds 0 m) s.ids)
-      ∙ (latest-append name_of before name setEntries (listed s.registry s.ids)
-      ∙ ap (λ o. or_else o (latest name_of before name setEntries)) (sym (lookup-latest name_of byName name (listed s.registry s.ids)))))
+      lookup-latest nameOf byName name (listed s.registry (markedIds 0 m ++ s.ids))
+      ∙ (ap (latest nameOf before name) (listed-append s.registry (markedIds 0 m) s.ids)
+      ∙ (latest-append nameOf before name setEntries (listed s.registry s.ids)
+      ∙ ap (λ o. or_else o (latest nameOf before name setEntries)) (sym (lookup-latest nameOf byName name (listed s.registry s.ids)))))
 
 -- ---- the ids of a set rise, and are those that it has
 
@@ -123,20 +123,20 @@ ids-has id m = subst (λ j. member j (markedIds 0 m) ≡ has m id) (omega arith)
 module _ (R : Registry) (name : Name) where
   -- of the ids that have P none has an entry of the name
   abbrev Clear : List ℕ → (ℕ → Type 0) → Type 0
-  Clear ids P = (j : ℕ) (e : Decl) → P j → member j ids ≡ true → stands_for R j ≡ some e → e.name ≡ name → ⊥
+  Clear ids P = (j : ℕ) (e : Decl) → P j → member j ids ≡ true → standsFor R j ≡ some e → e.name ≡ name → ⊥
 
   pub data Highest (ids : List ℕ) : Option Decl → Type 0 where
-    highest : {id : ℕ} {d : Decl} → member id ids ≡ true → stands_for R id ≡ some d → d.name ≡ name → Clear ids (λ j. id < j) → Highest ids (some d)
+    highest : {id : ℕ} {d : Decl} → member id ids ≡ true → standsFor R id ≡ some d → d.name ≡ name → Clear ids (λ j. id < j) → Highest ids (some d)
     nowhere : Clear ids (λ j. Unit {0}) → Highest ids none
 
   -- one id more in front
-  clear-more : (P : ℕ → Type 0) (id : ℕ) (ids : List ℕ) → Clear ids P → ((e : Decl) → P id → stands_for R id ≡ some e → e.name ≡ name → ⊥)
+  clear-more : (P : ℕ → Type 0) (id : ℕ) (ids : List ℕ) → Clear ids P → ((e : Decl) → P id → standsFor R id ≡ some e → e.name ≡ name → ⊥)
       → Clear (id ∷ ids) P
   clear-more P id ids c h j e p i g n =
-      ⊎_elim (λ q. h e (subst P q p) (subst (λ x. stands_for R x ≡ some e) q g) n) (λ q. c j e p q g n) (member-cons j id ids i)
+      ⊎_elim (λ q. h e (subst P q p) (subst (λ x. standsFor R x ≡ some e) q g) n) (λ q. c j e p q g n) (member-cons j id ids i)
 
   abbrev found : List Decl → Option Decl
-  found ds = latest name_of before name ds
+  found ds = latest nameOf before name ds
 
   -- what is found is still found
   found-still : (d : Decl) (ds : List Decl) → found ds ≡ some d → (o : Option Decl) → found (resolved o ds) ≡ some d
@@ -145,7 +145,7 @@ module _ (R : Registry) (name : Name) where
   found-still d ds e (some f) = rw e
 
   -- nothing was found: the entry of the id in front, if it has the name
-  found_first : (id : ℕ) (ids : List ℕ) (ds : List Decl) → found ds ≡ none → Clear ids (λ j. Unit {0}) → (o : Option Decl) → stands_for R id ≡ o
+  found_first : (id : ℕ) (ids : List ℕ) (ds : List Decl) → found ds ≡ none → Clear ids (λ j. Unit {0}) → (o : Option Decl) → standsFor R id ≡ o
       → Highest (id ∷ ids) (found (resolved o ds))
   unfolding resolved latest or_else seen
   found_first id ids ds e c none v = rw e (nowhere (clear-more _ id ids c (λ f p g n. none-ne-some f (sym v ∙ g))))
@@ -156,16 +156,16 @@ module _ (R : Registry) (name : Name) where
           highest (member-here id ids) v (sym (same-eq byName name f.name q))
           (clear-more _ id ids (λ j g p. c j g tt) (λ g p. absurd (omega arith)))
       go false q =
-          nowhere (clear-more _ id ids c (λ g p w n. same-ne byName name f.name q (sym (ap name_of (some-injective f g (sym v ∙ w)) ∙ n))))
+          nowhere (clear-more _ id ids c (λ g p w n. same-ne byName name f.name q (sym (ap nameOf (some-injective f g (sym v ∙ w)) ∙ n))))
 
   pub highest-found : (ids : List ℕ) → Rises ids → Highest ids (found (listed R ids))
   unfolding listed latest Rising
   highest-found [] h = nowhere (λ j e p i. member-none j i)
   highest-found (id ∷ ids) h = go (found (listed R ids)) refl (highest-found ids h.1)
     where
-      go : (r : Option Decl) → found (listed R ids) ≡ r → Highest ids r → Highest (id ∷ ids) (found (resolved (stands_for R id) (listed R ids)))
+      go : (r : Option Decl) → found (listed R ids) ≡ r → Highest ids r → Highest (id ∷ ids) (found (resolved (standsFor R id) (listed R ids)))
       go (some d) e (highest {id = top} i g n c) =
-          rw (found-still d (listed R ids) e (stands_for R id))
+          rw (found-still d (listed R ids) e (standsFor R id))
           (highest (member-more top id ids i) g n (clear-more _ id ids c
           (λ f p. absurd (omega (arith, ltb-true id top (all-member (λ j. ltb id j ≡ true) ids h.0 top i))))))
-      go none e (nowhere c) = found_first id ids (listed R ids) e c (stands_for R id) refl
+      go none e (nowhere c) = found_first id ids (listed R ids) e c (standsFor R id) refl

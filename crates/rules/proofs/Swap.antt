@@ -18,13 +18,13 @@ use Rattle.maps.proofs.Names.{byName}
 use Rattle.maps.proofs.Survivors.{rising}
 use Rattle.maps.proofs.Sums.{swap}
 use Rattle.image.specs.Schema.{Name, Marks, Ty, Field, Variant, Decl}
-use Rattle.image.specs.Kinds.{Kind, kind_of, message, enum, flags, union, newtype, config, alias, trait, impl, other}
+use Rattle.image.specs.Kinds.{Kind, kindOf, message, enum, flags, union, newtype, config, alias, trait, impl, other}
 use Rattle.rules.specs.Equal.{Sound}
-use Rattle.rules.specs.Survivors.{Registry, name_of, ordinalOf, fieldMap, variantOrdinal, variantMap, View}
+use Rattle.rules.specs.Survivors.{Registry, nameOf, ordinalOf, fieldMap, variantOrdinal, variantMap, View}
 use Rattle.rules.specs.Types.{resolve}
-use Rattle.rules.specs.Changes.{Change, only, kind_at, FieldDeprecated}
-use Rattle.rules.specs.Clauses.{compareNamespaces, Reading, Context, context, compareTypes, fieldText, compareFieldNames, compareEncodings, compareDeprecated, compareFields, fieldRules, compareFieldSets, compareMessages, variantGone, variantCame, enumRules, compareNonExhaustive, compareEnums, flagsRules, compare_flags, unionRules, compareUnions, compareNewtypes, compareKind, kindChanged, compareAlike, compareDecls, declRules, changes}
-use Rattle.rules.specs.Verdict.{count_of}
+use Rattle.rules.specs.Changes.{Change, only, kindAt, FieldDeprecated}
+use Rattle.rules.specs.Clauses.{compareNamespaces, Reading, Context, context, compareTypes, fieldText, compareFieldNames, compareEncodings, compareDeprecated, compareFields, fieldRules, compareFieldSets, compareMessages, variantGone, variantCame, enumRules, compareNonExhaustive, compareEnums, flagsRules, compareFlags, unionRules, compareUnions, compareNewtypes, compareKind, kindChanged, compareAlike, compareDecls, declRules, changes}
+use Rattle.rules.specs.Verdict.{countOf}
 use Rattle.rules.proofs.Equal.{same-sym, pairs, numbers, marks, options, names, nameLists}
 use Rattle.rules.proofs.Types.{encodings}
 use Rattle.rules.proofs.Mirror.{exchange, mirror, mirror-test}
@@ -33,25 +33,25 @@ use Rattle.rules.proofs.Readings.{Lawful}
 module _ (j : ℕ) where
   -- xs one way counts under j what ys the other way counts under its mirror
   abbrev Opposed : List Change → List Change → Type 0
-  Opposed xs ys = count_of j xs ≡ count_of (mirror j) ys
+  Opposed xs ys = countOf j xs ≡ countOf (mirror j) ys
 
   append-swap : (xs xs' ys ys' : List Change) → Opposed xs ys → Opposed xs' ys' → Opposed (xs ++ xs') (ys ++ ys')
-  unfolding count_of
+  unfolding countOf
   append-swap xs xs' ys ys' p q =
       omega (arith, count-append (λ c. eqb c.kind j) xs xs', count-append (λ c. eqb c.kind (mirror j)) ys ys')
 
   nothing-swap : Opposed [] []
-  unfolding count_of count total
+  unfolding countOf count total
   nothing-swap = refl
 
   -- a change is counted as one of the mirrored kind
   single-swap : (c d : Change) → mirror c.kind ≡ d.kind → Opposed (c ∷ []) (d ∷ [])
-  unfolding count_of count total
+  unfolding countOf count total
   single-swap c d m = rw (mirror-test c.kind j, m)
 
   test-swap : {A : Type 0} {same : A → A → Bool} {odd : A → Bool} → Sound same odd → (x y : A) (c d : Change) → mirror c.kind ≡ d.kind
       → Opposed (only (not (same x y)) c) (only (not (same y x)) d)
-  unfolding only count_of count total
+  unfolding only countOf count total
   test-swap {same = same} S x y c d m = rw (same-sym S y x) (go (same x y))
     where
       go : (u : Bool) → Opposed (only (not u) c) (only (not u) d)
@@ -62,7 +62,7 @@ module _ (j : ℕ) where
       → ((e : E) → Opposed (r.gone e) (s.came e)) → ((e : E) → Opposed (r.came e) (s.gone e))
       → ((e f : E) → key e ≡ key f → Opposed (r.kept e f) (s.kept f e))
       → (m n : List E) → Rising key lt m → Rising key lt n → Opposed (compare key lt r m n) (compare key lt s n m)
-  unfolding count_of
+  unfolding countOf
   maps-swap key S r s p q k = swap S (record { gone-came = p; came-gone = q; kept-kept = k })
 
   -- ---- clauses that read no types
@@ -92,8 +92,8 @@ module _ (j : ℕ) where
       maps-swap variantOrdinal byNumber r s p q (λ v w e. k v w) (variantMap m) (variantMap n) (rising variantOrdinal byNumber m)
       (rising variantOrdinal byNumber n)
 
-  flags-swap : (d e : Name) (x y : Decl) → Opposed (compare_flags d x y) (compare_flags e y x)
-  unfolding compare_flags flagsRules mirror exchange
+  flags-swap : (d e : Name) (x y : Decl) → Opposed (compareFlags d x y) (compareFlags e y x)
+  unfolding compareFlags flagsRules mirror exchange
   flags-swap d e x y =
       variants-swap (flagsRules d) (flagsRules e) (λ v. single-swap _ _ refl) (λ v. single-swap _ _ refl) (λ v w. nothing-swap)
       x.variants y.variants
@@ -108,16 +108,16 @@ module _ (j : ℕ) where
 
   -- ---- deprecations are counted under neither
 
-  module _ (apart : eqb (kind_at FieldDeprecated) j ≡ false) where
-    none_of : (i : ℕ) (test : Bool) (c : Change) → eqb c.kind i ≡ false → count_of i (only test c) ≡ 0
-    unfolding count_of count total only
+  module _ (apart : eqb (kindAt FieldDeprecated) j ≡ false) where
+    none_of : (i : ℕ) (test : Bool) (c : Change) → eqb c.kind i ≡ false → countOf i (only test c) ≡ 0
+    unfolding countOf count total only
     none_of i true c h = rw h
     none_of i false c h = refl
 
     deprecated-swap : (d e : Name) (n o : Option Name) (t u : List ℕ) (l m : Marks)
         → Opposed (compareDeprecated d n t l m) (compareDeprecated e o u m l)
     unfolding compareDeprecated mirror exchange
-    deprecated-swap d e n o t u l m = none_of j _ _ apart ∙ sym (none_of (mirror j) _ _ (sym (mirror-test (kind_at FieldDeprecated) j) ∙ apart))
+    deprecated-swap d e n o t u l m = none_of j _ _ apart ∙ sym (none_of (mirror j) _ _ (sym (mirror-test (kindAt FieldDeprecated) j) ∙ apart))
 
     -- ---- the clauses, over any lawful reading
 
@@ -183,8 +183,8 @@ module _ (j : ℕ) where
         unfolding compareAlike
         alike-swap p =
             append-swap (r.first x y) _ (r.first y x) _ (lawful.first.swap j apart x.name y.name x y p)
-            (append-swap (compareKind (kind_of x.kind) there x y) _ (compareKind (kind_of y.kind) back y x) _
-            (kinds-swap (kind_of x.kind) ∙ ap (λ k. count_of (mirror j) (compareKind (kind_of k) back y x)) p)
+            (append-swap (compareKind (kindOf x.kind) there x y) _ (compareKind (kindOf y.kind) back y x) _
+            (kinds-swap (kindOf x.kind) ∙ ap (λ k. countOf (mirror j) (compareKind (kindOf k) back y x)) p)
             (lawful.last.swap j apart x.name y.name x y p))
 
         decls-swap : Opposed (compareDecls there x y) (compareDecls back y x)
@@ -198,13 +198,13 @@ module _ (j : ℕ) where
 
 -- ---- all clauses
 
-pub changes-swap : {r : Reading} {odd : Ty → Bool} → Lawful r odd → (j : ℕ) → eqb (kind_at FieldDeprecated) j ≡ false → (x y : View)
-    → Rising name_of before x.standing → Rising name_of before y.standing
-    → count_of j (changes r x y) ≡ count_of (mirror j) (changes r y x)
+pub changes-swap : {r : Reading} {odd : Ty → Bool} → Lawful r odd → (j : ℕ) → eqb (kindAt FieldDeprecated) j ≡ false → (x y : View)
+    → Rising nameOf before x.standing → Rising nameOf before y.standing
+    → countOf j (changes r x y) ≡ countOf (mirror j) (changes r y x)
 unfolding changes declRules mirror exchange
 changes-swap {r = r} lawful j apart x y p q =
     append-swap j (compareNamespaces x.namespace y.namespace) _ (compareNamespaces y.namespace x.namespace) _
     (namespaces-swap j x.namespace y.namespace)
-    (maps-swap j name_of byName (declRules (context r x.registry y.registry)) (declRules (context r y.registry x.registry))
+    (maps-swap j nameOf byName (declRules (context r x.registry y.registry)) (declRules (context r y.registry x.registry))
     (λ d. single-swap j _ _ refl) (λ d. single-swap j _ _ refl) (λ d e k. decls-swap j apart lawful x.registry y.registry d e)
     x.standing y.standing p q)

@@ -10,10 +10,10 @@ use lib.Dec.{eqb}
 use lib.ListN.{length, length-append}
 use Rattle.maps.specs.Lists.{largest, total}
 use Rattle.image.specs.Schema.{Name, Encoding, Label, label, Ty, leaf, one, two}
-use Rattle.image.specs.Kinds.{kind_of}
+use Rattle.image.specs.Kinds.{kindOf}
 use Rattle.image.specs.Words.{bytes, kindWord}
 use Rattle.image.proofs.Laws.Kinds.{word-short}
-use Rattle.rules.specs.Survivors.{Registry, stands_for}
+use Rattle.rules.specs.Survivors.{Registry, standsFor}
 use Rattle.rules.specs.Types.{nameOrNone, resolveLabel, resolve}
 use Rattle.text.proofs.Numbers.{decimal-length}
 use Rattle.rules.specs.Text.{joined, word, boolWord, primitiveWord, semanticWord, showName, showLeaf, opening, showSize, showType, deltasAround, showEncoding}
@@ -32,7 +32,7 @@ word-length (w ∷ ws) (suc i) = omega (arith, word-length ws i)
 
 pub kind-length : (k : ℕ) → length (kindWord k) ≤ 13
 unfolding kindWord
-kind-length k = word-short (kind_of k)
+kind-length k = word-short (kindOf k)
 
 pub bool-length : (b : Bool) → length (boolWord b) ≤ 5
 unfolding boolWord bytes
@@ -93,14 +93,14 @@ leaf-length l =
 
 -- the names of a registry are no longer than an image
 pub record Short (R : Registry) : Type 0 where
-  pub short : (id : ℕ) → namesSize (nameOrNone (stands_for R id)) ≤ 32769
+  pub short : (id : ℕ) → namesSize (nameOrNone (standsFor R id)) ≤ 32769
 
 module _ (R : Registry) (S : Short R) where
   resolved-size : (l : Label) → namesSize (resolveLabel R l).names ≤ 32769 + namesSize l.names
   unfolding resolveLabel
   resolved-size l = go (eqb l.tag 3)
     where
-      go : (u : Bool) → namesSize (cond u (label 3 0 0 (nameOrNone (stands_for R l.first))) l).names ≤ 32769 + namesSize l.names
+      go : (u : Bool) → namesSize (cond u (label 3 0 0 (nameOrNone (standsFor R l.first))) l).names ≤ 32769 + namesSize l.names
       go true = omega (arith, S.short l.first)
       go false = omega arith
 

@@ -20,11 +20,11 @@ use Rattle.maps.proofs.Survivors.{rising, all-survivors}
 use Rattle.maps.proofs.Sums.{compare-weight}
 use Rattle.image.specs.Schema.{Name, Marks, Ty, Field, Variant, Decl}
 use Rattle.image.specs.Words.{bytes}
-use Rattle.image.specs.Kinds.{Kind, kind_of, message, enum, flags, union, newtype, config, alias, trait, impl, other}
-use Rattle.rules.specs.Survivors.{name_of, ordinalOf, fieldMap, variantOrdinal, variantMap, View}
+use Rattle.image.specs.Kinds.{Kind, kindOf, message, enum, flags, union, newtype, config, alias, trait, impl, other}
+use Rattle.rules.specs.Survivors.{nameOf, ordinalOf, fieldMap, variantOrdinal, variantMap, View}
 use Rattle.rules.specs.Text.{joined}
 use Rattle.rules.specs.Changes.{Bump, Change, change, quoted, numbered}
-use Rattle.rules.specs.Clauses.{showNamespace, compareNamespaces, Reading, clausesBy, Context, context, compareTypes, fieldText, compareFieldNames, compareEncodings, compareDeprecated, compareFields, fieldRules, compareFieldSets, compareMessages, variantText, variantGone, variantCame, enumRules, compareNonExhaustive, compareEnums, bitText, flagsRules, compare_flags, variantDecl, unionRules, compareUnions, compareNewtypes, compareKind, kindChanged, compareAlike, compareDecls, declText, declRules, changes}
+use Rattle.rules.specs.Clauses.{showNamespace, compareNamespaces, Reading, clausesBy, Context, context, compareTypes, fieldText, compareFieldNames, compareEncodings, compareDeprecated, compareFields, fieldRules, compareFieldSets, compareMessages, variantText, variantGone, variantCame, enumRules, compareNonExhaustive, compareEnums, bitText, flagsRules, compareFlags, variantDecl, unionRules, compareUnions, compareNewtypes, compareKind, kindChanged, compareAlike, compareDecls, declText, declRules, changes}
 use Rattle.rules.proofs.Sizes.{namesSize, typeSize, fieldSize, variantSize, declSize}
 use Rattle.text.proofs.Numbers.{decimal-length}
 use Rattle.rules.proofs.Scales.{fine-weight, heavy, total-heavy, twice, total_twice, total-each, survivors-heavy, type-one, lineLength, single-weight, only-weight}
@@ -102,8 +102,8 @@ module _ (d : Name) (h : length d ≤ 32768) where
       )
 
   flags-weight : (x y : Decl)
-      → total lineLength (compare_flags d x y) ≤ 200000 * (total variantSize x.variants + total variantSize y.variants)
-  unfolding compare_flags flagsRules bitText bytes heavy variantSize
+      → total lineLength (compareFlags d x y) ≤ 200000 * (total variantSize x.variants + total variantSize y.variants)
+  unfolding compareFlags flagsRules bitText bytes heavy variantSize
   flags-weight x y =
       variants-weight (flagsRules d)
       (λ v. le_trans (item-weight _ _ d (bytes "bit") v.name v.ordinal (bytes " was removed")) (omega arith))
@@ -283,14 +283,14 @@ module _ (r : Context) (light : Light r.reading) (S : Short r.old) (T : Short r.
       where
         go : (u : Bool) → total lineLength (cond u (compareAlike r x y) (kindChanged x y))
             ≤ heavy (twice (twice declSize)) x + heavy (twice (twice declSize)) y
-        go true = simp (total-append lineLength) (omega (arith, kinds-weight (kind_of x.kind), light.decls x y h))
+        go true = simp (total-append lineLength) (omega (arith, kinds-weight (kindOf x.kind), light.decls x y h))
         go false = omega (arith, changed-weight)
 
 -- ---- all clauses
 
 -- of views whose declarations an image can hold
 module _ (r : Reading) (light : Light r) (x y : View) (S : Short x.registry) (T : Short y.registry)
-    (R : Rising name_of before x.standing) (Q : Rising name_of before y.standing)
+    (R : Rising nameOf before x.standing) (Q : Rising nameOf before y.standing)
     (h : All (λ d. declSize d ≤ 32768) x.standing) where
   abbrev between-views : Context
   between-views = context r x.registry y.registry
@@ -311,7 +311,7 @@ module _ (r : Reading) (light : Light r) (x y : View) (S : Short x.registry) (T 
       (omega (
         arith,
         namespaces-weight x.namespace y.namespace,
-        fine-weight name_of byName lineLength (λ d. leb (declSize d) 32768) (heavy (twice (twice declSize))) (heavy (twice (twice declSize)))
+        fine-weight nameOf byName lineLength (λ d. leb (declSize d) 32768) (heavy (twice (twice declSize))) (heavy (twice (twice declSize)))
             x.standing y.standing R Q (all_map (λ d p. le-leb (declSize d) 32768 p) x.standing h) (declRules between-views)
             (λ d. decl-weight _ _ d _ (omega arith)) (λ d. decl-weight _ _ d _ (omega arith))
             (λ d e p. decls-weight between-views light S T d e (leb-true (declSize d) 32768 p)),

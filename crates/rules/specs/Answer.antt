@@ -6,11 +6,11 @@ use Rattle.image.specs.Schema.{Schema}
 use Rattle.image.specs.Codes.{number, aliasPairRefusal, oldSide, newSide, bothSides}
 use Rattle.image.specs.Parse.{Parsed, ok, no}
 use Rattle.image.specs.Image.{readImage}
-use Rattle.rules.specs.Survivors.{View, view_of}
+use Rattle.rules.specs.Survivors.{View, viewOf}
 use Rattle.rules.specs.Types.{sameType}
 use Rattle.rules.specs.Changes.{Change, kindCount}
 use Rattle.rules.specs.Clauses.{Reading, clausesBy, changes}
-use Rattle.rules.specs.Verdict.{bumpOf, result_of, count_of, aliasPair}
+use Rattle.rules.specs.Verdict.{bumpOf, resultOf, countOf, aliasPair}
 use Rattle.rules.specs.Report.{report}
 use Rattle.rules.specs.Outcome.{Outcome, refused, answered, select, fit, textLength, written}
 
@@ -43,12 +43,12 @@ pub record Policy : Type 0 where
 -- so many counts, from a kind on
 unfoldable pub counts : ℕ → ℕ → List Change → List ℕ
 counts zero kind cs = []
-counts (suc n) kind cs = count_of kind cs ∷ counts n (suc kind) cs
+counts (suc n) kind cs = countOf kind cs ∷ counts n (suc kind) cs
 
 -- what is told of changes: "the bump .., the result .., and the count for each of the .. names of `ChangeKind`"; the text is the report
 abbrev pub compared : List Change → Outcome
 compared cs =
-    answered (record { bump = bumpOf cs; result = result_of cs; text = report cs; counts = counts kindCount 0 cs })
+    answered (record { bump = bumpOf cs; result = resultOf cs; text = report cs; counts = counts kindCount 0 cs })
 
 -- the fault of the first check that finds one
 unfoldable pub firstFault : List Check → Schema → Schema → Option Fault
@@ -122,7 +122,7 @@ plainReading = clausesBy sameType
 
 -- survivors are compared, by the clauses and nothing else
 abbrev pub plain : Policy
-plain = usual view_of plainReading
+plain = usual viewOf plainReading
 
 abbrev pub checked : List ℕ → List ℕ → Outcome
 checked = outcome plain

@@ -21,25 +21,25 @@ pub data ChangeKind : Type 0 where
   NonExhaustiveChanged FlagsBitAdded FlagsBitRemoved FlagsBitOrdinalChanged : ChangeKind
 
 -- by their places in it
-abbrev pub kind_at : ChangeKind → ℕ
-kind_at FieldAdded = 0
-kind_at FieldRemoved = 1
-kind_at FieldTypeChanged = 2
-kind_at FieldOrdinalChanged = 3
-kind_at FieldRenamed = 4
-kind_at FieldDeprecated = 5
-kind_at FieldEncodingChanged = 6
-kind_at VariantAdded = 7
-kind_at VariantRemoved = 8
-kind_at VariantOrdinalChanged = 9
-kind_at DeclarationAdded = 10
-kind_at DeclarationRemoved = 11
-kind_at DeclarationKindChanged = 12
-kind_at NamespaceChanged = 13
-kind_at NonExhaustiveChanged = 14
-kind_at FlagsBitAdded = 15
-kind_at FlagsBitRemoved = 16
-kind_at FlagsBitOrdinalChanged = 17
+abbrev pub kindAt : ChangeKind → ℕ
+kindAt FieldAdded = 0
+kindAt FieldRemoved = 1
+kindAt FieldTypeChanged = 2
+kindAt FieldOrdinalChanged = 3
+kindAt FieldRenamed = 4
+kindAt FieldDeprecated = 5
+kindAt FieldEncodingChanged = 6
+kindAt VariantAdded = 7
+kindAt VariantRemoved = 8
+kindAt VariantOrdinalChanged = 9
+kindAt DeclarationAdded = 10
+kindAt DeclarationRemoved = 11
+kindAt DeclarationKindChanged = 12
+kindAt NamespaceChanged = 13
+kindAt NonExhaustiveChanged = 14
+kindAt FlagsBitAdded = 15
+kindAt FlagsBitRemoved = 16
+kindAt FlagsBitOrdinalChanged = 17
 
 -- how many kinds are counted
 abbrev pub kindCount : ℕ

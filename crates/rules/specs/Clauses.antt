@@ -7,14 +7,14 @@ use mathlib.Core.List.{List, [], ◌∷◌, ◌++◌, flat_map}
 use Rattle.maps.specs.Compare.{Rules, compare}
 use Rattle.maps.specs.Orders.{before}
 use Rattle.image.specs.Schema.{Name, Marks, Encoding, Ty, Field, Variant, Decl}
-use Rattle.image.specs.Kinds.{Kind, kind_of, message, enum, flags, union, newtype, config, alias, trait, impl, other}
+use Rattle.image.specs.Kinds.{Kind, kindOf, message, enum, flags, union, newtype, config, alias, trait, impl, other}
 use Rattle.image.specs.Words.{bytes, kindWord}
 use Rattle.rules.specs.Equal.{sameOption, sameName, sameNames}
-use Rattle.rules.specs.Survivors.{Registry, name_of, ordinalOf, fieldMap, variantOrdinal, variantMap, View}
+use Rattle.rules.specs.Survivors.{Registry, nameOf, ordinalOf, fieldMap, variantOrdinal, variantMap, View}
 use Rattle.rules.specs.Types.{resolve}
 use Rattle.text.specs.Decimal.{decimal}
 use Rattle.rules.specs.Text.{joined, boolWord, showType, showEncoding}
-use Rattle.rules.specs.Changes.{Bump, patch, minor, major, Change, change, only, quoted, numbered, fromTo, kind_at, FieldAdded, FieldRemoved, FieldTypeChanged, FieldRenamed, FieldDeprecated, FieldEncodingChanged, VariantAdded, VariantRemoved, DeclarationAdded, DeclarationRemoved, DeclarationKindChanged, NamespaceChanged, NonExhaustiveChanged, FlagsBitAdded, FlagsBitRemoved}
+use Rattle.rules.specs.Changes.{Bump, patch, minor, major, Change, change, only, quoted, numbered, fromTo, kindAt, FieldAdded, FieldRemoved, FieldTypeChanged, FieldRenamed, FieldDeprecated, FieldEncodingChanged, VariantAdded, VariantRemoved, DeclarationAdded, DeclarationRemoved, DeclarationKindChanged, NamespaceChanged, NonExhaustiveChanged, FlagsBitAdded, FlagsBitRemoved}
 
 -- ---- 1. `NamespaceChanged` Major: segment lists differ.
 
@@ -24,7 +24,7 @@ showNamespace segments = quoted (joined (bytes ".") segments)
 unfoldable pub compareNamespaces : List Name → List Name → List Change
 compareNamespaces old new =
     only (not (sameNames old new))
-    (change (kind_at NamespaceChanged) major [] none (bytes "namespace changed" ++ fromTo (showNamespace old) (showNamespace new)))
+    (change (kindAt NamespaceChanged) major [] none (bytes "namespace changed" ++ fromTo (showNamespace old) (showNamespace new)))
 
 -- ---- how two schemas are read
 
@@ -56,7 +56,7 @@ context reading old new = record { reading = reading; old = old; new = new }
 unfoldable pub compareTypes : Context → Name → Option Name → List ℕ → Ty → Ty → List Change
 compareTypes r d field what t u =
     only (not (r.reading.same (resolve r.old t) (resolve r.new u)))
-    (change (kind_at FieldTypeChanged) major d field
+    (change (kindAt FieldTypeChanged) major d field
     (what ++ (bytes " type changed" ++ fromTo (showType (resolve r.old t)) (showType (resolve r.new u)))))
 
 -- ---- 4. Field sets, by ordinal: `FieldRemoved` Major; `FieldAdded` Major; then per shared ordinal `FieldRenamed` Patch, `FieldTypeChanged`
@@ -68,7 +68,7 @@ fieldText f = numbered (bytes "field") f.name f.ordinal
 unfoldable pub compareFieldNames : Name → Field → Field → List Change
 compareFieldNames d f g =
     only (not (sameName f.name g.name))
-    (change (kind_at FieldRenamed) patch d (some g.name)
+    (change (kindAt FieldRenamed) patch d (some g.name)
     (bytes "field @" ++ (decimal g.ordinal ++ (bytes " renamed" ++ fromTo (quoted f.name) (quoted g.name)))))
 
 unfoldable pub sameEncoding : Encoding → Encoding → Bool
@@ -77,14 +77,14 @@ sameEncoding a b = eqb a.deltas b.deltas && eqb a.base b.base
 unfoldable pub compareEncodings : Name → Field → Field → List Change
 compareEncodings d f g =
     only (not (sameEncoding f.encoding g.encoding && sameOption eqb f.limit g.limit))
-    (change (kind_at FieldEncodingChanged) major d (some g.name)
+    (change (kindAt FieldEncodingChanged) major d (some g.name)
     (fieldText g ++ (bytes " encoding changed" ++ fromTo (showEncoding f.encoding) (showEncoding g.encoding))))
 
 -- the mark was gained: by a field, or by a message itself
 unfoldable pub compareDeprecated : Name → Option Name → List ℕ → Marks → Marks → List Change
 compareDeprecated d field target old new =
     only (not old.deprecated && new.deprecated)
-    (change (kind_at FieldDeprecated) patch d field (target ++ bytes " was marked @deprecated"))
+    (change (kindAt FieldDeprecated) patch d field (target ++ bytes " was marked @deprecated"))
 
 unfoldable pub compareFields : Context → Name → Field → Field → List Change
 compareFields r d f g =
@@ -95,8 +95,8 @@ compareFields r d f g =
 
 unfoldable pub fieldRules : Context → Name → Rules Field Change
 fieldRules r d = record {
-  gone = λ f. change (kind_at FieldRemoved) major d (some f.name) (fieldText f ++ bytes " was removed") ∷ [];
-  came = λ f. change (kind_at FieldAdded) major d (some f.name) (fieldText f ++ bytes " was added") ∷ [];
+  gone = λ f. change (kindAt FieldRemoved) major d (some f.name) (fieldText f ++ bytes " was removed") ∷ [];
+  came = λ f. change (kindAt FieldAdded) major d (some f.name) (fieldText f ++ bytes " was added") ∷ [];
   kept = λ f g. compareFields r d f g;
 }
 
@@ -116,10 +116,10 @@ unfoldable pub variantText : Variant → List ℕ
 variantText v = numbered (bytes "variant") v.name v.ordinal
 
 unfoldable pub variantGone : Name → Variant → List Change
-variantGone d v = change (kind_at VariantRemoved) major d (some v.name) (variantText v ++ bytes " was removed") ∷ []
+variantGone d v = change (kindAt VariantRemoved) major d (some v.name) (variantText v ++ bytes " was removed") ∷ []
 
 unfoldable pub variantCame : Bump → Name → Variant → List Change
-variantCame bump d v = change (kind_at VariantAdded) bump d (some v.name) (variantText v ++ bytes " was added") ∷ []
+variantCame bump d v = change (kindAt VariantAdded) bump d (some v.name) (variantText v ++ bytes " was added") ∷ []
 
 unfoldable pub enumBump : Marks → Bump
 enumBump new = cond new.nonExhaustive minor major
@@ -130,7 +130,7 @@ enumRules d new = record { gone = variantGone d; came = variantCame (enumBump ne
 unfoldable pub compareNonExhaustive : Name → Marks → Marks → List Change
 compareNonExhaustive d old new =
     only (not (beq old.nonExhaustive new.nonExhaustive))
-    (change (kind_at NonExhaustiveChanged) major d none
+    (change (kindAt NonExhaustiveChanged) major d none
     (bytes "@non_exhaustive changed" ++ fromTo (boolWord old.nonExhaustive) (boolWord new.nonExhaustive)))
 
 unfoldable pub compareEnums : Name → Decl → Decl → List Change
@@ -145,13 +145,13 @@ bitText v = numbered (bytes "bit") v.name v.ordinal
 
 unfoldable pub flagsRules : Name → Rules Variant Change
 flagsRules d = record {
-  gone = λ v. change (kind_at FlagsBitRemoved) major d (some v.name) (bitText v ++ bytes " was removed") ∷ [];
-  came = λ v. change (kind_at FlagsBitAdded) minor d (some v.name) (bitText v ++ bytes " was added") ∷ [];
+  gone = λ v. change (kindAt FlagsBitRemoved) major d (some v.name) (bitText v ++ bytes " was removed") ∷ [];
+  came = λ v. change (kindAt FlagsBitAdded) minor d (some v.name) (bitText v ++ bytes " was added") ∷ [];
   kept = λ v w. [];
 }
 
-unfoldable pub compare_flags : Name → Decl → Decl → List Change
-compare_flags d old new = compare variantOrdinal ltb (flagsRules d) (variantMap old.variants) (variantMap new.variants)
+unfoldable pub compareFlags : Name → Decl → Decl → List Change
+compareFlags d old new = compare variantOrdinal ltb (flagsRules d) (variantMap old.variants) (variantMap new.variants)
 
 -- ---- 7. Union: `VariantRemoved` Major, `VariantAdded` Minor; shared ordinals compare fields, under the declaration's name, two colons and
 -- the old variant's name.
@@ -180,7 +180,7 @@ compareNewtypes r d old new = compareTypes r d none (bytes "newtype " ++ (quoted
 unfoldable pub compareKind : Kind → Context → Decl → Decl → List Change
 compareKind message r old new = compareMessages r old.name old new
 compareKind enum r old new = compareEnums old.name old new
-compareKind flags r old new = compare_flags old.name old new
+compareKind flags r old new = compareFlags old.name old new
 compareKind union r old new = compareUnions r old.name old new
 compareKind newtype r old new = compareNewtypes r old.name old new
 compareKind config r old new = []
@@ -191,12 +191,12 @@ compareKind other r old new = []
 
 unfoldable pub kindChanged : Decl → Decl → List Change
 kindChanged old new =
-    change (kind_at DeclarationKindChanged) major old.name none
+    change (kindAt DeclarationKindChanged) major old.name none
     (quoted old.name ++ (bytes " changed" ++ fromTo (kindWord old.kind) (kindWord new.kind))) ∷ []
 
 -- of one kind: its clause, between what is reported besides
 unfoldable pub compareAlike : Context → Decl → Decl → List Change
-compareAlike r old new = r.reading.first old new ++ (compareKind (kind_of old.kind) r old new ++ r.reading.last old new)
+compareAlike r old new = r.reading.first old new ++ (compareKind (kindOf old.kind) r old new ++ r.reading.last old new)
 
 unfoldable pub compareDecls : Context → Decl → Decl → List Change
 compareDecls r old new = cond (eqb old.kind new.kind) (compareAlike r old new) (kindChanged old new)
@@ -208,8 +208,8 @@ declText d = kindWord d.kind ++ (bytes " " ++ quoted d.name)
 
 unfoldable pub declRules : Context → Rules Decl Change
 declRules r = record {
-  gone = λ d. change (kind_at DeclarationRemoved) major d.name none (declText d ++ bytes " was removed") ∷ [];
-  came = λ d. change (kind_at DeclarationAdded) minor d.name none (declText d ++ bytes " was added") ∷ [];
+  gone = λ d. change (kindAt DeclarationRemoved) major d.name none (declText d ++ bytes " was removed") ∷ [];
+  came = λ d. change (kindAt DeclarationAdded) minor d.name none (declText d ++ bytes " was added") ∷ [];
   kept = λ d e. compareDecls r d e;
 }
 
@@ -218,7 +218,7 @@ declRules r = record {
 unfoldable pub changes : Reading → View → View → List Change
 changes reading old new =
     compareNamespaces old.namespace new.namespace
-    ++ compare name_of before (declRules (context reading old.registry new.registry)) old.standing new.standing
+    ++ compare nameOf before (declRules (context reading old.registry new.registry)) old.standing new.standing
 
 -- ---- "The types compared in an image are those of surviving newtypes and of surviving fields in surviving messages and in surviving
 -- variants of surviving unions"
@@ -229,17 +229,17 @@ fieldTypes fs = flat_map (λ f. f.type ∷ []) (fieldMap fs)
 unfoldable pub variantTypes : List Variant → List Ty
 variantTypes vs = flat_map (λ v. fieldTypes v.fields) (variantMap vs)
 
-unfoldable pub types_of : Kind → Decl → List Ty
-types_of message d = fieldTypes d.fields
-types_of enum d = []
-types_of flags d = []
-types_of union d = variantTypes d.variants
-types_of newtype d = d.inner ∷ []
-types_of config d = []
-types_of alias d = []
-types_of trait d = []
-types_of impl d = []
-types_of other d = []
+unfoldable pub typesOf : Kind → Decl → List Ty
+typesOf message d = fieldTypes d.fields
+typesOf enum d = []
+typesOf flags d = []
+typesOf union d = variantTypes d.variants
+typesOf newtype d = d.inner ∷ []
+typesOf config d = []
+typesOf alias d = []
+typesOf trait d = []
+typesOf impl d = []
+typesOf other d = []
 
 unfoldable pub comparedTypes : View → List Ty
-comparedTypes v = flat_map (λ d. types_of (kind_of d.kind) d) v.standing
+comparedTypes v = flat_map (λ d. typesOf (kindOf d.kind) d) v.standing

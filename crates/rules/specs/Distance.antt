@@ -6,7 +6,7 @@ use Rattle.image.specs.Parse.{Parsed, ok, no}
 use Rattle.image.specs.Image.{readImage}
 use Rattle.rules.specs.Survivors.{View}
 use Rattle.rules.specs.Types.{holdsVector}
-use Rattle.rules.specs.Changes.{kind_at, FieldAdded, FieldRemoved, FieldTypeChanged, FieldOrdinalChanged, FieldRenamed, FieldEncodingChanged, VariantAdded, VariantRemoved, VariantOrdinalChanged, DeclarationAdded, DeclarationRemoved, DeclarationKindChanged, NamespaceChanged, NonExhaustiveChanged, FlagsBitAdded, FlagsBitRemoved, FlagsBitOrdinalChanged}
+use Rattle.rules.specs.Changes.{kindAt, FieldAdded, FieldRemoved, FieldTypeChanged, FieldOrdinalChanged, FieldRenamed, FieldEncodingChanged, VariantAdded, VariantRemoved, VariantOrdinalChanged, DeclarationAdded, DeclarationRemoved, DeclarationKindChanged, NamespaceChanged, NonExhaustiveChanged, FlagsBitAdded, FlagsBitRemoved, FlagsBitOrdinalChanged}
 use Rattle.rules.specs.Clauses.{comparedTypes}
 use Rattle.rules.specs.Verdict.{any}
 
@@ -31,8 +31,8 @@ last a (b ∷ rest) = last b rest
 -- the kinds that are neither removals nor additions nor deprecations
 abbrev pub otherKinds : List ℕ
 otherKinds =
-    (kind_at FieldTypeChanged) ∷ kind_at FieldOrdinalChanged ∷ kind_at FieldRenamed ∷ kind_at FieldEncodingChanged ∷ kind_at VariantOrdinalChanged ∷ (kind_at DeclarationKindChanged)
-    ∷ kind_at NamespaceChanged ∷ kind_at NonExhaustiveChanged ∷ kind_at FlagsBitOrdinalChanged ∷ []
+    (kindAt FieldTypeChanged) ∷ kindAt FieldOrdinalChanged ∷ kindAt FieldRenamed ∷ kindAt FieldEncodingChanged ∷ kindAt VariantOrdinalChanged ∷ (kindAt DeclarationKindChanged)
+    ∷ kindAt NamespaceChanged ∷ kindAt NonExhaustiveChanged ∷ kindAt FlagsBitOrdinalChanged ∷ []
 
 module _ (verdict : Image → Image → ℕ → ℕ) where
   -- "a verdict is an answer of the verdict call .. with number 0"
@@ -60,10 +60,10 @@ module _ (verdict : Image → Image → ℕ → ℕ) where
   -- "each of the counts of removed declarations, fields, variants and flag bits one way equals the count of the same added the other way.
   -- All other counts, except that of deprecations, are the same both ways."
   pub record Swapped (a b : Image) : Type 0 where
-    pub declarations : countBetween (kind_at DeclarationRemoved) a b ≡ countBetween (kind_at DeclarationAdded) b a
-    pub fields : countBetween (kind_at FieldRemoved) a b ≡ countBetween (kind_at FieldAdded) b a
-    pub variants : countBetween (kind_at VariantRemoved) a b ≡ countBetween (kind_at VariantAdded) b a
-    pub bits : countBetween (kind_at FlagsBitRemoved) a b ≡ countBetween (kind_at FlagsBitAdded) b a
+    pub declarations : countBetween (kindAt DeclarationRemoved) a b ≡ countBetween (kindAt DeclarationAdded) b a
+    pub fields : countBetween (kindAt FieldRemoved) a b ≡ countBetween (kindAt FieldAdded) b a
+    pub variants : countBetween (kindAt VariantRemoved) a b ≡ countBetween (kindAt VariantAdded) b a
+    pub bits : countBetween (kindAt FlagsBitRemoved) a b ≡ countBetween (kindAt FlagsBitAdded) b a
     pub others : All (λ kind. countBetween kind a b ≡ countBetween kind b a) otherKinds
 
   -- `odd` says of which images the distance to themselves is not 0.

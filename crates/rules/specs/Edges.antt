@@ -5,14 +5,14 @@ use Prim.Native.String.{String}
 use Rattle.image.specs.Schema.{Marks, unmarked, label, Ty, leaf, one, noType, Field, Variant, Decl, decl, Schema}
 use Rattle.image.specs.Codes.{number, messageKind, enumKind, unionKind, newtypeKind, implKind, primitiveTag, subByteTag, namedTag, optionalTag, arrayTag, fixedArrayTag, vec3Tag}
 use Rattle.image.specs.Words.{bytes}
-use Rattle.rules.specs.Survivors.{view_of}
+use Rattle.rules.specs.Survivors.{viewOf}
 use Rattle.rules.specs.Clauses.{changes}
 use Rattle.rules.specs.Report.{report}
 use Rattle.rules.specs.Answer.{plainReading}
 
 -- the report of two schemas
 unfoldable pub told : Schema → Schema → List ℕ
-told old new = report (changes plainReading (view_of old) (view_of new))
+told old new = report (changes plainReading (viewOf old) (viewOf new))
 
 -- no namespace; entry 0 is declared, under the name A; a second entry may follow it
 abbrev pub schema : Decl → List (Option Decl) → Schema

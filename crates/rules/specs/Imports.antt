@@ -9,7 +9,7 @@ use Rattle.image.specs.Schema.{Name, Decl, Schema}
 use Rattle.image.specs.Parse.{ok}
 use Rattle.image.specs.Image.{readImage}
 use Rattle.rules.specs.Equal.{sameName}
-use Rattle.rules.specs.Survivors.{stands_for, listed, name_of, declarations, View}
+use Rattle.rules.specs.Survivors.{standsFor, listed, nameOf, declarations, View}
 use Rattle.rules.specs.Answer.{Policy, usual, plainReading, outcome, checked}
 use Rattle.rules.specs.Reached.{Reached, member, IdSet, reachedSet}
 
@@ -22,7 +22,7 @@ markedIds id (m ∷ ms) = cond m (id ∷ markedIds (suc id) ms) (markedIds (suc 
 
 -- the survivors of one longer list: the ids of a set, rising, and after them the listed ids; of one name the last stands
 unfoldable pub standingWith : IdSet → Schema → List Decl
-standingWith m s = survivors name_of before (listed s.registry (markedIds 0 m ++ s.ids))
+standingWith m s = survivors nameOf before (listed s.registry (markedIds 0 m ++ s.ids))
 
 unfoldable pub viewWith : IdSet → Schema → View
 viewWith m s = record { namespace = s.namespace; standing = standingWith m s; registry = s.registry }
@@ -39,23 +39,23 @@ imports = usual importsView plainReading
 
 -- no reached entry has this name, of the ids that have P
 abbrev pub NoneNamed : Schema → Name → (ℕ → Type 0) → Type 0
-NoneNamed s name P = (id : ℕ) (d : Decl) → P id → Reached s id → stands_for s.registry id ≡ some d → d.name ≡ name → ⊥
+NoneNamed s name P = (id : ℕ) (d : Decl) → P id → Reached s id → standsFor s.registry id ≡ some d → d.name ≡ name → ⊥
 
 -- "For each name the surviving declaration stands, reached or not; where there is none, the reached entry with the highest id."
 pub data Stands (s : Schema) (name : Name) : Option Decl → Type 0 where
-  survivor : {d : Decl} → lookup name_of before name (declarations s) ≡ some d → Stands s name (some d)
-  imported : {id : ℕ} {d : Decl} → lookup name_of before name (declarations s) ≡ none → Reached s id → stands_for s.registry id ≡ some d
+  survivor : {d : Decl} → lookup nameOf before name (declarations s) ≡ some d → Stands s name (some d)
+  imported : {id : ℕ} {d : Decl} → lookup nameOf before name (declarations s) ≡ none → Reached s id → standsFor s.registry id ≡ some d
       → d.name ≡ name → NoneNamed s name (λ j. id < j) → Stands s name (some d)
-  absent : lookup name_of before name (declarations s) ≡ none → NoneNamed s name (λ j. Unit {0}) → Stands s name none
+  absent : lookup nameOf before name (declarations s) ≡ none → NoneNamed s name (λ j. Unit {0}) → Stands s name none
 
 -- nothing that is not listed is reached
 abbrev pub OnlyListed : Schema → Type 0
 OnlyListed s = (id : ℕ) → Reached s id → member id s.ids ≡ true
 
 pub record Imported : Type 0 where
-  pub stands : (s : Schema) (name : Name) → Stands s name (lookup name_of before name (importsView s).standing)
+  pub stands : (s : Schema) (name : Name) → Stands s name (lookup nameOf before name (importsView s).standing)
   -- "Each reached name is compared a single time, however the schemas refer back to themselves."
-  pub once : (s : Schema) (id : ℕ) (d : Decl) → Reached s id → stands_for s.registry id ≡ some d
+  pub once : (s : Schema) (id : ℕ) (d : Decl) → Reached s id → standsFor s.registry id ≡ some d
       → count (λ e. sameName d.name e.name) (importsView s).standing ≡ 1
   -- where nothing that is not listed is reached in an image that is accepted, on either side, verdict and report are those of document 01
   pub plain : (old new : List ℕ) → ((x : Schema) (n : ℕ) → readImage old ≡ ok x n → OnlyListed x)

@@ -2,7 +2,7 @@
 -- The clauses, the checks and the stages are those of document 01. Assumes nothing.
 use Rattle.std.specs.Prelude.{◌≡◌, Bool, true, false, cond, ◌&&◌, ◌↔◌, List, ℕ}
 use Rattle.image.specs.Schema.{Ty}
-use Rattle.rules.specs.Survivors.{view_of}
+use Rattle.rules.specs.Survivors.{viewOf}
 use Rattle.rules.specs.Types.{sameLabel, sameTree, sameType, holdsVector}
 use Rattle.rules.specs.Clauses.{Reading, clausesBy}
 use Rattle.rules.specs.Answer.{Policy, usual, outcome, checked}
@@ -55,8 +55,8 @@ abbrev pub mendedReading : Reading
 mendedReading = clausesBy mendedType
 
 abbrev pub mended : Policy
-mended = usual view_of mendedReading
+mended = usual viewOf mendedReading
 
 -- where no type that is compared in one of the two images holds a vector, quaternion or matrix, verdict and report are those of document 01
 abbrev pub Otherwise : Type 0
-Otherwise = (old new : List ℕ) → (holdsVectors view_of old && holdsVectors view_of new) ≡ false → outcome mended old new ≡ checked old new
+Otherwise = (old new : List ℕ) → (holdsVectors viewOf old && holdsVectors viewOf new) ≡ false → outcome mended old new ≡ checked old new

@@ -69,7 +69,7 @@ pub record MendedEdges : Type 0 where
   pub keptImports : kept imports (vec3 f32) ≡ bytes "FieldTypeChanged;Major;A;-;newtype 'A' inner type changed from vec3<f32> to vec3<f32>\nBreaking;Major;1\n"
   -- ---- inside: of an optional, an array, a map's key and value, another vector, and as the last node but one of 32
   pub inOptional : kept mended (optional (vec3 f32)) ≡ silent
-  pub in_array : kept mended (fixedArray 4 (vec3 f32)) ≡ silent
+  pub inArray : kept mended (fixedArray 4 (vec3 f32)) ≡ silent
   pub inKey : kept mended (map (vec3 f32) u8) ≡ silent
   pub inValue : kept mended (map u8 (mat4 f32)) ≡ silent
   pub inVector : kept mended (vec2 (vec3 f32)) ≡ silent

@@ -4,7 +4,7 @@ use mathlib.Core.List.{List, [], ◌∷◌, ◌++◌, flat_map}
 use Prim.Native.String.{String}
 use Prim.Native.Char.{Char, code}
 use Rattle.image.specs.Words.{bytes}
-use Rattle.rules.specs.Changes.{kind_at, DeclarationAdded, DeclarationRemoved}
+use Rattle.rules.specs.Changes.{kindAt, DeclarationAdded, DeclarationRemoved}
 use Rattle.rules.specs.Outcome.{selected, written}
 use Rattle.rules.specs.Answer.{checked, verdictOf}
 use Rattle.rules.specs.Distance.{Verdict, distance, countBetween, Steps}
@@ -196,5 +196,5 @@ pub record Pinned : Type 0 where
   -- a swap with different bumps each way
   pub there : distance verdictOf nothing config ≡ 1
   pub back : distance verdictOf config nothing ≡ 2
-  pub added : countBetween verdictOf (kind_at DeclarationAdded) nothing config ≡ 1
-  pub removed : countBetween verdictOf (kind_at DeclarationRemoved) config nothing ≡ 1
+  pub added : countBetween verdictOf (kindAt DeclarationAdded) nothing config ≡ 1
+  pub removed : countBetween verdictOf (kindAt DeclarationRemoved) config nothing ≡ 1

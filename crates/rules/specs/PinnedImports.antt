@@ -1,7 +1,7 @@
 -- R-2 over byte lists, in terms of the calls: neither verdict bounds the other; a chain of three images by both; an image whose distance from
 -- itself is another; 11 through imports. Assumes nothing.
 use Rattle.std.specs.Prelude.{◌≡◌, List, [], ◌∷◌, ℕ}
-use Rattle.rules.specs.Changes.{kind_at, DeclarationAdded, DeclarationRemoved}
+use Rattle.rules.specs.Changes.{kindAt, DeclarationAdded, DeclarationRemoved}
 use Rattle.rules.specs.Outcome.{selected, written}
 use Rattle.rules.specs.Answer.{outcome, verdictBy, verdictOf}
 use Rattle.rules.specs.Distance.{Verdict, distance, countBetween, Steps}
@@ -67,5 +67,5 @@ pub record PinnedImports : Type 0 where
   pub aliases : selected (outcome imports aliasInside aliasInside) ≡ 11 ∷ 3 ∷ 2 ∷ 1 ∷ []
   pub aliasesPlain : told aliasInside aliasInside ≡ lines ("Compatible;Patch;0" ∷ [])
   -- "A name that one side alone has, as survivor or reached, is removed or added": A and B, there and back
-  pub removed : countBetween importsOf (kind_at DeclarationRemoved) atOne nothing ≡ 2
-  pub added : countBetween importsOf (kind_at DeclarationAdded) nothing atOne ≡ 2
+  pub removed : countBetween importsOf (kindAt DeclarationRemoved) atOne nothing ≡ 2
+  pub added : countBetween importsOf (kindAt DeclarationAdded) nothing atOne ≡ 2

@@ -1,7 +1,7 @@
 -- R-5 over byte lists, in terms of the calls: an image with a vector against itself and along a chain of releases, by the mended verdict and
 -- by that of document 01; what the mended verdict reports too; its refusals. Assumes nothing.
 use Rattle.std.specs.Prelude.{◌≡◌, List, [], ◌∷◌, ℕ}
-use Rattle.rules.specs.Changes.{kind_at, FieldTypeChanged, DeclarationAdded, DeclarationRemoved}
+use Rattle.rules.specs.Changes.{kindAt, FieldTypeChanged, DeclarationAdded, DeclarationRemoved}
 use Rattle.rules.specs.Outcome.{selected, written}
 use Rattle.rules.specs.Answer.{outcome, verdictBy, verdictOf}
 use Rattle.rules.specs.Distance.{Verdict, distance, countBetween, Steps}
@@ -66,7 +66,7 @@ pub record PinnedMended : Type 0 where
   pub flatDistancePlain : distance verdictOf seat seatFlat ≡ 2
   pub wide : mendedTold seat seatWide ≡ lines ("FieldTypeChanged;Major;W;+seat;field 'seat' @0 type changed from vec3<f32> to vec3<f64>" ∷ "Breaking;Major;1" ∷ [])
   pub wideDistancePlain : distance verdictOf seat seatWide ≡ 2
-  pub wideBack : countBetween mendedOf (kind_at FieldTypeChanged) seatWide seat ≡ 1
+  pub wideBack : countBetween mendedOf (kindAt FieldTypeChanged) seatWide seat ≡ 1
   -- all 23 selectors
   pub selectors : selected (outcome mended seat axis) ≡ 0 ∷ 0 ∷ 0 ∷ 0 ∷ 85 ∷ 0 ∷ 0 ∷ 0 ∷ 0 ∷ 1 ∷ 0 ∷ 0 ∷ 0 ∷ 0 ∷ 0 ∷ 0 ∷ 0 ∷ 0 ∷ 0 ∷ 0 ∷ 0 ∷ 0 ∷ 0 ∷ []
   -- imports are not followed
@@ -75,5 +75,5 @@ pub record PinnedMended : Type 0 where
   pub aliases : selected (outcome mended alias alias) ≡ 11 ∷ 3 ∷ 2 ∷ 1 ∷ []
   pub newRefused : selected (outcome mended seat short) ≡ 2 ∷ 2 ∷ 2 ∷ 1 ∷ []
   -- there and back
-  pub removed : countBetween mendedOf (kind_at DeclarationRemoved) seat nothing ≡ 1
-  pub added : countBetween mendedOf (kind_at DeclarationAdded) nothing seat ≡ 1
+  pub removed : countBetween mendedOf (kindAt DeclarationRemoved) seat nothing ≡ 1
+  pub added : countBetween mendedOf (kindAt DeclarationAdded) nothing seat ≡ 1

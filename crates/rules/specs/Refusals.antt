@@ -8,7 +8,7 @@ use Rattle.image.specs.Schema.{Name, Decl, Schema}
 use Rattle.image.specs.Codes.{number, aliasKind, notRefused, longRefusal, deepRefusal, aliasPairRefusal, fullRefusal, noSide, oldSide, newSide, bothSides}
 use Rattle.image.specs.Parse.{ok, no}
 use Rattle.image.specs.Image.{readImage}
-use Rattle.rules.specs.Survivors.{name_of, View}
+use Rattle.rules.specs.Survivors.{nameOf, View}
 use Rattle.rules.specs.Clauses.{Reading, changes}
 use Rattle.rules.specs.Outcome.{Outcome, refused, select, textLength, written}
 use Rattle.rules.specs.Answer.{Fault, Policy, compared, firstFault, outcome, verdictBy, reportBy, usual}
@@ -96,7 +96,7 @@ module _ (view : Schema → View) where
   -- what stands of a name is a generic alias
   pub record Alias (name : Name) (s : Schema) : Type 0 where
     pub decl : Decl
-    pub stands : lookup name_of before name (view s).standing ≡ some decl
+    pub stands : lookup nameOf before name (view s).standing ≡ some decl
     pub generic : decl.kind ≡ number aliasKind
 
   -- "survivors of one name are generic aliases in both images"

@@ -8,7 +8,7 @@ use Rattle.image.specs.Words.{bytes}
 use Rattle.text.specs.Decimal.{decimal}
 use Rattle.rules.specs.Text.{joined, word}
 use Rattle.rules.specs.Changes.{level, Change}
-use Rattle.rules.specs.Verdict.{bumpOf, result_at}
+use Rattle.rules.specs.Verdict.{bumpOf, resultAt}
 
 -- the names of `ChangeKind`, `BumpKind` and `CompatResult`
 abbrev pub changeNames : List String
@@ -48,7 +48,7 @@ changeLine c = line (changeWord c.kind ∷ bumpWord (level c.bump) ∷ c.declara
 
 -- "Last line, in the same way: result, bump, number of changes."
 abbrev pub lastLineAt : ℕ → ℕ → List ℕ
-lastLineAt bump count = line (resultWord (result_at bump) ∷ bumpWord bump ∷ decimal count ∷ [])
+lastLineAt bump count = line (resultWord (resultAt bump) ∷ bumpWord bump ∷ decimal count ∷ [])
 
 unfoldable pub lastLine : List Change → List ℕ
 lastLine cs = lastLineAt (bumpOf cs) (length cs)

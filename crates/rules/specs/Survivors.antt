@@ -10,8 +10,8 @@ abbrev pub Registry : Type 0
 Registry = List (Option Decl)
 
 -- "An id that is N or more, or whose entry is empty, is unresolvable"
-unfoldable pub stands_for : Registry → ℕ → Option Decl
-stands_for R id = get_or R id none
+unfoldable pub standsFor : Registry → ℕ → Option Decl
+standsFor R id = get_or R id none
 
 -- "in the declaration list it is skipped"
 unfoldable pub resolved : Option Decl → List Decl → List Decl
@@ -20,14 +20,14 @@ resolved (some d) ds = d ∷ ds
 
 unfoldable pub listed : Registry → List ℕ → List Decl
 listed R [] = []
-listed R (id ∷ ids) = resolved (stands_for R id) (listed R ids)
+listed R (id ∷ ids) = resolved (standsFor R id) (listed R ids)
 
 -- "All impls share the empty name": an impl is read with it.
-abbrev pub name_of : Decl → Name
-name_of d = d.name
+abbrev pub nameOf : Decl → Name
+nameOf d = d.name
 
 unfoldable pub declarations : Schema → List Decl
-declarations s = survivors name_of before (listed s.registry s.ids)
+declarations s = survivors nameOf before (listed s.registry s.ids)
 
 abbrev pub ordinalOf : Field → ℕ
 ordinalOf f = f.ordinal
@@ -49,5 +49,5 @@ pub record View : Type 0 where
   pub registry : Registry
 
 -- the survivors stand
-unfoldable pub view_of : Schema → View
-view_of s = record { namespace = s.namespace; standing = declarations s; registry = s.registry }
+unfoldable pub viewOf : Schema → View
+viewOf s = record { namespace = s.namespace; standing = declarations s; registry = s.registry }

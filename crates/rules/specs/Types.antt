@@ -4,7 +4,7 @@ use Rattle.std.proofs.Math.Option.{Option, none, some}
 use Rattle.image.specs.Schema.{Name, Label, label, Ty, leaf, one, two, Decl}
 use Rattle.image.specs.Codes.{number, namedTag, vec2Tag, mat4Tag}
 use Rattle.rules.specs.Equal.{sameNames}
-use Rattle.rules.specs.Survivors.{Registry, stands_for}
+use Rattle.rules.specs.Survivors.{Registry, standsFor}
 
 -- the name that an id stands for in its own registry: a list with that name, or with none if the id is unresolvable
 unfoldable pub nameOrNone : Option Decl → List Name
@@ -13,7 +13,7 @@ nameOrNone (some d) = d.name ∷ []
 
 -- a named node has its name instead of its id
 unfoldable pub resolveLabel : Registry → Label → Label
-resolveLabel R l = cond (eqb l.tag (number namedTag)) (label (number namedTag) 0 0 (nameOrNone (stands_for R l.first))) l
+resolveLabel R l = cond (eqb l.tag (number namedTag)) (label (number namedTag) 0 0 (nameOrNone (standsFor R l.first))) l
 
 unfoldable pub resolve : Registry → Ty → Ty
 resolve R (leaf l) = leaf (resolveLabel R l)

@@ -6,7 +6,7 @@ use Rattle.maps.specs.Keyed.{lookup}
 use Rattle.maps.specs.Orders.{before}
 use Rattle.image.specs.Schema.{Decl}
 use Rattle.image.specs.Codes.{number, aliasKind}
-use Rattle.rules.specs.Survivors.{name_of, View}
+use Rattle.rules.specs.Survivors.{nameOf, View}
 use Rattle.rules.specs.Changes.{level, Change}
 
 -- "the bump (the largest; Patch if none)"
@@ -14,15 +14,15 @@ unfoldable pub bumpOf : List Change → ℕ
 bumpOf cs = largest (λ c. level c.bump) cs
 
 -- "the result (Breaking exactly at Major)": Breaking 1, Compatible 0
-abbrev pub result_at : ℕ → ℕ
-result_at bump = cond (eqb bump 2) 1 0
+abbrev pub resultAt : ℕ → ℕ
+resultAt bump = cond (eqb bump 2) 1 0
 
-unfoldable pub result_of : List Change → ℕ
-result_of cs = result_at (bumpOf cs)
+unfoldable pub resultOf : List Change → ℕ
+resultOf cs = resultAt (bumpOf cs)
 
 -- "the count for each of the 18 names of `ChangeKind`"
-unfoldable pub count_of : ℕ → List Change → ℕ
-count_of kind cs = count (λ c. eqb c.kind kind) cs
+unfoldable pub countOf : ℕ → List Change → ℕ
+countOf kind cs = count (λ c. eqb c.kind kind) cs
 
 -- 11: "survivors of one name are generic aliases in both images"
 unfoldable pub alias : Decl → Bool
@@ -37,4 +37,4 @@ any p [] = false
 any p (a ∷ l) = p a || any p l
 
 unfoldable pub aliasPair : View → View → Bool
-aliasPair old new = any (λ d. alias d && isAlias (lookup name_of before d.name new.standing)) old.standing
+aliasPair old new = any (λ d. alias d && isAlias (lookup nameOf before d.name new.standing)) old.standing

@@ -10,7 +10,7 @@ use Rattle.image.specs.Schema.{Name, Decl}
 use Rattle.parts.specs.Promise.{DeclHere, declIn}
 use Rattle.parts.specs.declared.Entry.{Entry}
 use Rattle.parts.specs.declared.Entry.TheVariants.{Body, Unresolvable}
-use Rattle.rules.specs.Survivors.{name_of}
+use Rattle.rules.specs.Survivors.{nameOf}
 use Rattle.survivors.specs.Answers.{named, Survives, Follows}
 use Rattle.survivors.proofs.Laws.Nearest.{entry_here}
 -- the declaration of an entry, and its name: where a walk starts, and the bound after a declaration
@@ -20,11 +20,11 @@ pub use Rattle.survivors.proofs.Laws.Nearest.{decl-none, decl-body, named_none, 
 
 -- of `survivor`
 module _ {m : List Decl} (s : List ℕ) (name : Name) {r : Entry} (h : Survives m s name r) where
-  pub survives-none : r ≡ Unresolvable → lookup name_of before name m ≡ none
+  pub survives-none : r ≡ Unresolvable → lookup nameOf before name m ≡ none
   survives-none e = sym h.value ∙ decl-none s e
 
   module _ {at : ℕ} (e : r ≡ Body at) where
-    pub survives-body : lookup name_of before name m ≡ some (declIn s at)
+    pub survives-body : lookup nameOf before name m ≡ some (declIn s at)
     survives-body = sym h.value ∙ decl-body s e
 
     pub survives-here : DeclHere s at
@@ -32,11 +32,11 @@ module _ {m : List Decl} (s : List ℕ) (name : Name) {r : Entry} (h : Survives 
 
 -- of `next_decl`
 module _ {m : List Decl} (s : List ℕ) (after : Entry) {r : Entry} (h : Follows m s after r) where
-  pub follows-none : r ≡ Unresolvable → following name_of before (named s after) m ≡ none
+  pub follows-none : r ≡ Unresolvable → following nameOf before (named s after) m ≡ none
   follows-none e = sym h.value ∙ decl-none s e
 
   module _ {at : ℕ} (e : r ≡ Body at) where
-    pub follows-body : following name_of before (named s after) m ≡ some (declIn s at)
+    pub follows-body : following nameOf before (named s after) m ≡ some (declIn s at)
     follows-body = sym h.value ∙ decl-body s e
 
     pub follows-here : DeclHere s at

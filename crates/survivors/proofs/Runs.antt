@@ -9,7 +9,7 @@ use native.Mathlib.Numerals.{sub-one}
 use lib.Dec.{ltb}
 use Rattle.maps.specs.Lists.{All}
 use Rattle.maps.specs.Keyed.{survivors, lookup}
-use Rattle.maps.specs.Walk.{is_some, Rising, following}
+use Rattle.maps.specs.Walk.{isSome, Rising, following}
 use Rattle.maps.proofs.Orders.{byNumber}
 use Rattle.maps.proofs.Survivors.{rising}
 use Rattle.maps.proofs.Places.{Placed, lookup-placed, following-placed}
@@ -19,8 +19,8 @@ use Rattle.parts.specs.declared.Shape.TheVariants as shape
 use Rattle.parts.specs.declared.Run.{Run}
 use Rattle.parts.proofs.Promise.{places-none, places-more, items-first, items-rest, field-ordinal, variant-ordinal}
 use Rattle.rules.specs.Survivors.{fieldMap, variantMap}
-use Rattle.survivors.specs.Answers.{place_of, FoundHere, number_of, placeMap, ItemSurvives, placeNext, NextHere, ItemFollows}
-use Rattle.survivors.specs.Runs.{itemIn, itemOrdinal, itemMap, items_of, Holds}
+use Rattle.survivors.specs.Answers.{placeOf, FoundHere, numberOf, placeMap, ItemSurvives, placeNext, NextHere, ItemFollows}
+use Rattle.survivors.specs.Runs.{itemIn, itemOrdinal, itemMap, itemsOf, Holds}
 use Rattle.survivors.specs.declared.Found.{Found}
 use Rattle.survivors.specs.declared.Found.TheVariants as found
 use Rattle.survivors.specs.declared.Ordinal.{Ordinal}
@@ -29,8 +29,8 @@ use Rattle.survivors.specs.declared.Next.{Next}
 use Rattle.survivors.specs.declared.Next.TheVariants as next
 
 -- a run that is well formed
-pub run_holds : (h : Shape) (s : List ℕ) (n : Run) → ItemsHere h s n.count n.start → Holds h s n (items_of h s n)
-unfolding items_of
+pub run_holds : (h : Shape) (s : List ℕ) (n : Run) → ItemsHere h s n.count n.start → Holds h s n (itemsOf h s n)
+unfolding itemsOf
 run_holds h s n g = record { here = g; are = refl }
 
 -- ---- items by rising ordinal
@@ -60,22 +60,22 @@ placed h s (suc c) at g =
     rw (places-more s (suc c) at h l, sub-one)
     (item-ordinal h s at (items-first h s (suc c) at l g), placed h s c (itemEnd h s at) (rw sub-one at (items-rest h s (suc c) at l g)))
 
-some-map : {A B : Type 0} (f : A → B) (o : Option A) → is_some o ≡ is_some (map f o)
-unfolding is_some
+some-map : {A B : Type 0} (f : A → B) (o : Option A) → isSome o ≡ isSome (map f o)
+unfolding isSome
 some-map f none = refl
 some-map f (some a) = refl
 
 module _ (h : Shape) (s : List ℕ) (n : Run) {xs : List (ItemOf h)} (r : Holds h s n xs) where
   -- what stands is at the places that stand
   pub holds-lookup : (k : ℕ) → lookup (itemOrdinal h) ltb k (itemMap h xs) ≡ map (itemIn h s) (lookup (ordinalIn s) ltb k (placeMap h s n))
-  unfolding items_of placeMap
+  unfolding itemsOf placeMap
   holds-lookup k =
       rw (stands h xs, r.are)
       (lookup-placed (itemOrdinal h) ltb (itemIn h s) (ordinalIn s) k (placesFrom h s n.count n.start) (placed h s n.count n.start r.here))
 
   pub holds-following : (b : Option ℕ)
       → following (itemOrdinal h) ltb b (itemMap h xs) ≡ map (itemIn h s) (following (ordinalIn s) ltb b (placeMap h s n))
-  unfolding items_of placeMap
+  unfolding itemsOf placeMap
   holds-following b =
       rw (stands h xs, r.are)
       (following-placed (itemOrdinal h) ltb (itemIn h s) (ordinalIn s) b (placesFrom h s n.count n.start) (placed h s n.count n.start r.here))
@@ -83,32 +83,32 @@ module _ (h : Shape) (s : List ℕ) (n : Run) {xs : List (ItemOf h)} (r : Holds 
   -- the answers of `survivor_item`
   module _ (k : ℕ) {o : Found} (a : ItemSurvives h s n k o) where
     pub found_none : o ≡ found.Nothing → lookup (itemOrdinal h) ltb k (itemMap h xs) ≡ none
-    unfolding place_of
-    found_none e = holds-lookup k ∙ ap (map (itemIn h s)) (sym a.place ∙ ap place_of e)
+    unfolding placeOf
+    found_none e = holds-lookup k ∙ ap (map (itemIn h s)) (sym a.place ∙ ap placeOf e)
 
     module _ {p : ℕ} (e : o ≡ found.At p) where
       pub found-item : lookup (itemOrdinal h) ltb k (itemMap h xs) ≡ some (itemIn h s p)
-      unfolding place_of
-      found-item = holds-lookup k ∙ ap (map (itemIn h s)) (sym a.place ∙ ap place_of e)
+      unfolding placeOf
+      found-item = holds-lookup k ∙ ap (map (itemIn h s)) (sym a.place ∙ ap placeOf e)
 
       pub found_here : ItemHere h s p
       unfolding FoundHere
       found_here = rw e at a.here
 
   -- the answers of `has_item`
-  pub has-stands : (k : ℕ) {t : Bool} → t ≡ is_some (lookup (ordinalIn s) ltb k (placeMap h s n)) → t ≡ is_some (lookup (itemOrdinal h) ltb k (itemMap h xs))
-  has-stands k a = a ∙ some-map (itemIn h s) (lookup (ordinalIn s) ltb k (placeMap h s n)) ∙ ap is_some (sym (holds-lookup k))
+  pub has-stands : (k : ℕ) {t : Bool} → t ≡ isSome (lookup (ordinalIn s) ltb k (placeMap h s n)) → t ≡ isSome (lookup (itemOrdinal h) ltb k (itemMap h xs))
+  has-stands k a = a ∙ some-map (itemIn h s) (lookup (ordinalIn s) ltb k (placeMap h s n)) ∙ ap isSome (sym (holds-lookup k))
 
   -- the answers of `next_item`
   module _ (after : Ordinal) {o : Next} (a : ItemFollows h s n after o) where
-    pub next-none : o ≡ next.Nothing → following (itemOrdinal h) ltb (number_of after) (itemMap h xs) ≡ none
+    pub next-none : o ≡ next.Nothing → following (itemOrdinal h) ltb (numberOf after) (itemMap h xs) ≡ none
     unfolding placeNext
-    next-none e = holds-following (number_of after) ∙ ap (map (itemIn h s)) (sym a.place ∙ ap placeNext e)
+    next-none e = holds-following (numberOf after) ∙ ap (map (itemIn h s)) (sym a.place ∙ ap placeNext e)
 
     module _ {k p : ℕ} (e : o ≡ next.Is k p) where
-      pub next-item : following (itemOrdinal h) ltb (number_of after) (itemMap h xs) ≡ some (itemIn h s p)
+      pub next-item : following (itemOrdinal h) ltb (numberOf after) (itemMap h xs) ≡ some (itemIn h s p)
       unfolding placeNext
-      next-item = holds-following (number_of after) ∙ ap (map (itemIn h s)) (sym a.place ∙ ap placeNext e)
+      next-item = holds-following (numberOf after) ∙ ap (map (itemIn h s)) (sym a.place ∙ ap placeNext e)
 
       pub next_here : ItemHere h s p
       unfolding NextHere
@@ -119,10 +119,10 @@ module _ (h : Shape) (s : List ℕ) (n : Run) {xs : List (ItemOf h)} (r : Holds 
       next-ordinal = item-ordinal h s p next_here ∙ sym (rw e at a.here).0
 
 -- where a walk starts, and the bound after an ordinal
-pub number-none : {o : Ordinal} → o ≡ ordinal.Nothing → number_of o ≡ none
-unfolding number_of
+pub number-none : {o : Ordinal} → o ≡ ordinal.Nothing → numberOf o ≡ none
+unfolding numberOf
 number-none e = rw e
 
-pub number_is : {o : Ordinal} {k : ℕ} → o ≡ ordinal.Is k → number_of o ≡ some k
-unfolding number_of
+pub number_is : {o : Ordinal} {k : ℕ} → o ≡ ordinal.Is k → numberOf o ≡ some k
+unfolding numberOf
 number_is e = rw e

@@ -19,8 +19,8 @@ use Rattle.parts.specs.declared.Entry.{Entry}
 use Rattle.parts.specs.declared.Entry.TheVariants.{Body, Unresolvable}
 use Rattle.parts.specs.declared.Shape.{Shape}
 use Rattle.parts.specs.declared.Run.{Run}
-use Rattle.rules.specs.Survivors.{name_of}
-use Rattle.survivors.specs.Answers.{named, Follows, number_of, ItemFollows}
+use Rattle.rules.specs.Survivors.{nameOf}
+use Rattle.survivors.specs.Answers.{named, Follows, numberOf, ItemFollows}
 use Rattle.survivors.specs.Runs.{itemIn, itemOrdinal, itemMap, Holds}
 use Rattle.survivors.specs.declared.Ordinal.{Ordinal}
 use Rattle.survivors.specs.declared.Ordinal.TheVariants as ordinal
@@ -33,41 +33,41 @@ use Rattle.survivors.proofs.Runs.{items-rising, next-none, next-item, next-ordin
 
 -- what a walk that starts after an entry has yet to give, with another map beside it
 unfoldable pub restDecls : {C : Type 0} → (Option Decl → Option Decl → List C) → List Decl → List ℕ → List Decl → Entry → List C
-restDecls g m s n after = rest name_of before g m n (named s after)
+restDecls g m s n after = rest nameOf before g m n (named s after)
 
 -- how many declarations it has yet to meet
 unfoldable pub declsLeft : List Decl → List ℕ → Entry → ℕ
-declsLeft m s after = length (above name_of before (named s after) m)
+declsLeft m s after = length (above nameOf before (named s after) m)
 
 module _ {C : Type 0} (g : Option Decl → Option Decl → List C) (m : List Decl) (s : List ℕ) (n : List Decl) where
-  pub decls-start : restDecls g m s n Unresolvable ≡ between name_of before g m n
+  pub decls-start : restDecls g m s n Unresolvable ≡ between nameOf before g m n
   unfolding restDecls
-  decls-start = rw (named_none s {r = Unresolvable} refl) (rest-start name_of byName g m n)
+  decls-start = rw (named_none s {r = Unresolvable} refl) (rest-start nameOf byName g m n)
 
   module _ (after : Entry) {r : Entry} (f : Follows m s after r) where
     pub decls-done : r ≡ Unresolvable → restDecls g m s n after ≡ []
     unfolding restDecls
-    decls-done e = rest-done name_of byName g m n (named s after) (follows-none s after f e)
+    decls-done e = rest-done nameOf byName g m n (named s after) (follows-none s after f e)
 
-    pub decls-turn : Rising name_of before m → {at : ℕ} → r ≡ Body at
-        → restDecls g m s n after ≡ g (some (declIn s at)) (lookup name_of before (declIn s at).name n) ++ restDecls g m s n (Body at)
+    pub decls-turn : Rising nameOf before m → {at : ℕ} → r ≡ Body at
+        → restDecls g m s n after ≡ g (some (declIn s at)) (lookup nameOf before (declIn s at).name n) ++ restDecls g m s n (Body at)
     unfolding restDecls
     decls-turn R {at} e =
-        rw (named-body s {r = Body at} refl) (rest-turn name_of byName g m n (named s after) (declIn s at) R (follows-body s after f e))
+        rw (named-body s {r = Body at} refl) (rest-turn nameOf byName g m n (named s after) (declIn s at) R (follows-body s after f e))
 
-pub decls-less : (m : List Decl) → Rising name_of before m → (s : List ℕ) (after : Entry) {r : Entry} → Follows m s after r
+pub decls-less : (m : List Decl) → Rising nameOf before m → (s : List ℕ) (after : Entry) {r : Entry} → Follows m s after r
     → {at : ℕ} → r ≡ Body at → declsLeft m s (Body at) < declsLeft m s after
 unfolding declsLeft
 decls-less m R s after f {at} e =
-    rw (named-body s {r = Body at} refl) (left_less name_of byName m (named s after) (declIn s at) R (follows-body s after f e))
+    rw (named-body s {r = Body at} refl) (left_less nameOf byName m (named s after) (declIn s at) R (follows-body s after f e))
 
 -- ---- items
 
 unfoldable pub restItems : {C : Type 0} → (h : Shape) → (Option (ItemOf h) → Option (ItemOf h) → List C) → List (ItemOf h) → List (ItemOf h) → Ordinal → List C
-restItems h g xs ys after = rest (itemOrdinal h) ltb g (itemMap h xs) (itemMap h ys) (number_of after)
+restItems h g xs ys after = rest (itemOrdinal h) ltb g (itemMap h xs) (itemMap h ys) (numberOf after)
 
 unfoldable pub itemsLeft : (h : Shape) → List (ItemOf h) → Ordinal → ℕ
-itemsLeft h xs after = length (above (itemOrdinal h) ltb (number_of after) (itemMap h xs))
+itemsLeft h xs after = length (above (itemOrdinal h) ltb (numberOf after) (itemMap h xs))
 
 module _ {C : Type 0} (h : Shape) (g : Option (ItemOf h) → Option (ItemOf h) → List C) (xs ys : List (ItemOf h)) where
   pub items-start : restItems h g xs ys ordinal.Nothing ≡ between (itemOrdinal h) ltb g (itemMap h xs) (itemMap h ys)
@@ -77,14 +77,14 @@ module _ {C : Type 0} (h : Shape) (g : Option (ItemOf h) → Option (ItemOf h) �
   module _ (s : List ℕ) (n : Run) (r : Holds h s n xs) (after : Ordinal) {o : Next} (a : ItemFollows h s n after o) where
     pub items-done : o ≡ next.Nothing → restItems h g xs ys after ≡ []
     unfolding restItems
-    items-done e = rest-done (itemOrdinal h) byNumber g (itemMap h xs) (itemMap h ys) (number_of after) (next-none h s n r after a e)
+    items-done e = rest-done (itemOrdinal h) byNumber g (itemMap h xs) (itemMap h ys) (numberOf after) (next-none h s n r after a e)
 
     pub items-turn : {k p : ℕ} → o ≡ next.Is k p
         → restItems h g xs ys after ≡ g (some (itemIn h s p)) (lookup (itemOrdinal h) ltb k (itemMap h ys)) ++ restItems h g xs ys (ordinal.Is k)
     unfolding restItems
     items-turn {k} {p} e =
         rw (number_is {o = ordinal.Is k} refl, ← next-ordinal h s n r after a e)
-        (rest-turn (itemOrdinal h) byNumber g (itemMap h xs) (itemMap h ys) (number_of after) (itemIn h s p) (items-rising h xs) (next-item h s n r after a e))
+        (rest-turn (itemOrdinal h) byNumber g (itemMap h xs) (itemMap h ys) (numberOf after) (itemIn h s p) (items-rising h xs) (next-item h s n r after a e))
 
 pub items-less : (h : Shape) (xs : List (ItemOf h)) (s : List ℕ) (n : Run) → Holds h s n xs
     → (after : Ordinal) {o : Next} → ItemFollows h s n after o
@@ -92,4 +92,4 @@ pub items-less : (h : Shape) (xs : List (ItemOf h)) (s : List ℕ) (n : Run) →
 unfolding itemsLeft
 items-less h xs s n r after a {k} {p} e =
     rw (number_is {o = ordinal.Is k} refl, ← next-ordinal h s n r after a e)
-    (left_less (itemOrdinal h) byNumber (itemMap h xs) (number_of after) (itemIn h s p) (items-rising h xs) (next-item h s n r after a e))
+    (left_less (itemOrdinal h) byNumber (itemMap h xs) (numberOf after) (itemIn h s p) (items-rising h xs) (next-item h s n r after a e))

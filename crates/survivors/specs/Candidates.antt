@@ -5,7 +5,7 @@ use Rattle.std.proofs.Math.Option.{Option, none}
 use Rattle.image.specs.Schema.{Decl}
 use Rattle.parts.specs.Promise.{Accepted, schemaOf, entryDecl, EntryHere}
 use Rattle.parts.specs.declared.Entry.{Entry}
-use Rattle.rules.specs.Survivors.{Registry, stands_for, resolved}
+use Rattle.rules.specs.Survivors.{Registry, standsFor, resolved}
 use Rattle.rules.specs.Reached.{IdSet}
 
 -- an accepted image, and a set of its ids: none for the verdict of document 01, the reached ones for that with imports
@@ -14,8 +14,8 @@ pub record Searchable (s : List ℕ) (m : IdSet) : Type 0 where
   pub few : length m ≤ 512
 
 unfoldable pub candidatesFrom : Registry → ℕ → IdSet → List ℕ → List (Option Decl)
-candidatesFrom R id [] ids = map (stands_for R) ids
-candidatesFrom R id (m ∷ ms) ids = cond m (stands_for R id) none ∷ candidatesFrom R (suc id) ms ids
+candidatesFrom R id [] ids = map (standsFor R) ids
+candidatesFrom R id (m ∷ ms) ids = cond m (standsFor R id) none ∷ candidatesFrom R (suc id) ms ids
 
 -- what each position stands for: nothing, where the set does not have an id
 unfoldable pub candidates : List ℕ → IdSet → List (Option Decl)

@@ -25,8 +25,8 @@ itemMap shape.Bare = variantMap
 itemMap shape.Variant = variantMap
 
 -- the items of a run
-unfoldable pub items_of : (h : Shape) → List ℕ → Run → List (ItemOf h)
-items_of h s n = map (itemIn h s) (placesFrom h s n.count n.start)
+unfoldable pub itemsOf : (h : Shape) → List ℕ → Run → List (ItemOf h)
+itemsOf h s n = map (itemIn h s) (placesFrom h s n.count n.start)
 
 -- the run is well formed, and holds these items
 abbrev pub Holds : (h : Shape) → List ℕ → Run → List (ItemOf h) → Type 0

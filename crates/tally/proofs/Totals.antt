@@ -13,27 +13,27 @@ use Rattle.maps.specs.Lists.{pass, largest, total, count}
 use Rattle.maps.proofs.Lists.{pass-append, flatMap-append}
 use Rattle.rules.specs.Changes.{level, kindCount, Change}
 use Rattle.rules.specs.Report.{changeLine}
-use Rattle.rules.specs.Verdict.{bumpOf, count_of}
+use Rattle.rules.specs.Verdict.{bumpOf, countOf}
 use Rattle.rules.specs.Answer.{counts}
 use Rattle.rules.proofs.Answer.{counts-at}
 use Rattle.rules.proofs.Texts.{line-some}
-use Rattle.tally.specs.Tallies.{noChange, withChange, tallied, tallyFrom, lines_of, TallyOf, Sound}
+use Rattle.tally.specs.Tallies.{noChange, withChange, tallied, tallyFrom, linesOf, TallyOf, Sound}
 use Rattle.tally.specs.declared.Tally.{Tally}
 
 pub tally-append : (t : Tally) (xs ys : List Change) → tallyFrom t (xs ++ ys) ≡ tallyFrom (tallyFrom t xs) ys
 unfolding tallyFrom
 tally-append t xs ys = pass-append tallied t xs ys
 
-pub lines-append : (xs ys : List Change) → lines_of (xs ++ ys) ≡ lines_of xs ++ lines_of ys
-unfolding lines_of
+pub lines-append : (xs ys : List Change) → linesOf (xs ++ ys) ≡ linesOf xs ++ linesOf ys
+unfolding linesOf
 lines-append xs ys = flatMap-append changeLine xs ys
 
 -- ---- each part of a tally
 
-pub tally-lines : (t : Tally) (cs : List Change) → (tallyFrom t cs).length ≡ t.length + length (lines_of cs)
-unfolding tallyFrom pass tallied withChange lines_of flat_map
+pub tally-lines : (t : Tally) (cs : List Change) → (tallyFrom t cs).length ≡ t.length + length (linesOf cs)
+unfolding tallyFrom pass tallied withChange linesOf flat_map
 tally-lines t [] = omega arith
-tally-lines t (c ∷ cs) = omega (arith, tally-lines (tallied t c) cs, length-append (changeLine c) (lines_of cs))
+tally-lines t (c ∷ cs) = omega (arith, tally-lines (tallied t c) cs, length-append (changeLine c) (linesOf cs))
 
 tally-changes : (t : Tally) (cs : List Change) → (tallyFrom t cs).changes ≡ t.changes + length cs
 unfolding tallyFrom pass tallied withChange
@@ -58,8 +58,8 @@ set-count l i k h = go (eqb i k) refl
     go true e = let p : i ≡ k = eqb-true i k e in rw p (get_or-set_same l k (get_or l k 0 + 1) 0 h)
     go false e = get_or-set_other l i k (get_or l i 0 + 1) 0 (λ p. eqb-false i k e (sym p)) ∙ omega arith
 
-tally-count : (t : Tally) (cs : List Change) (k : ℕ) → k < length t.counts → get_or (tallyFrom t cs).counts k 0 ≡ get_or t.counts k 0 + count_of k cs
-unfolding tallyFrom pass tallied withChange count_of count total
+tally-count : (t : Tally) (cs : List Change) (k : ℕ) → k < length t.counts → get_or (tallyFrom t cs).counts k 0 ≡ get_or t.counts k 0 + countOf k cs
+unfolding tallyFrom pass tallied withChange countOf count total
 tally-count t [] k h = omega arith
 tally-count t (c ∷ cs) k h =
     omega (
@@ -82,7 +82,7 @@ tally-of cs = record {
       (λ k h.
       let below : k < kindCount = omega (arith, tally-kinds noChange cs) in
       tally-count noChange cs k below
-      ∙ omega (arith, get_or-replicate {A = ℕ} kindCount k 0 0 below, counts-at kindCount 0 k cs below, ap (λ (i : ℕ). count_of i cs) (zero-add k)));
+      ∙ omega (arith, get_or-replicate {A = ℕ} kindCount k 0 0 below, counts-at kindCount 0 k cs below, ap (λ (i : ℕ). countOf i cs) (zero-add k)));
   bump = omega (arith, tally-bump noChange cs);
   lines = omega (arith, tally-lines noChange cs);
   changes = omega (arith, tally-changes noChange cs);

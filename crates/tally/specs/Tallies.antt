@@ -29,14 +29,14 @@ unfoldable pub tallyFrom : Tally → List Change → Tally
 tallyFrom t cs = pass tallied t cs
 
 -- the lines of changes
-unfoldable pub lines_of : List Change → List ℕ
-lines_of cs = flat_map changeLine cs
+unfoldable pub linesOf : List Change → List ℕ
+linesOf cs = flat_map changeLine cs
 
 -- a tally is that of the changes cs
 pub record TallyOf (cs : List Change) (t : Tally) : Type 0 where
   pub kinds : t.counts ≡ counts kindCount 0 cs
   pub bump : t.bump.level ≡ bumpOf cs
-  pub lines : t.length ≡ length (lines_of cs)
+  pub lines : t.length ≡ length (linesOf cs)
   pub changes : t.changes ≡ length cs
 
 -- no count is above the number of changes, and each change has a byte or more

@@ -1,6 +1,8 @@
 // The tally of changes: a count for each kind, the bump, the length of the lines, and how many changes there are.
+#![tactic(auto)]
+
 ghost use Rattle.std.specs.Prelude.{◌≡◌, max};
-ghost use Rattle.rules.specs.Verdict.{result_at};
+ghost use Rattle.rules.specs.Verdict.{resultAt};
 ghost use Rattle.tally.specs.Tallies.{Countable, noChange, withChange};
 
 // How many kinds are counted.
@@ -32,7 +34,7 @@ impl Bump {
 
     // "the result (Breaking exactly at Major)": Breaking 1, Compatible 0, also the places of their words.
     pub fn result(self) -> usize
-        ensures { result ≡ result_at self.level }
+        ensures { result ≡ resultAt self.level }
     {
         if self.level == 2 {
             return 1;

@@ -6,7 +6,7 @@ use native.Mathlib.Nat.{zero-add}
 use native.Mathlib.Omega.{arith}
 use lib.ListN.{length, take, drop, length-drop, drop_of_length-le, take-append-drop}
 use lib.Seq.{take_all, drop-drop}
-use Rattle.text.specs.Text.{put, put_in, Room, Space, Puts, start_in}
+use Rattle.text.specs.Text.{put, putIn, Room, Space, Puts, startIn}
 use Rattle.text.specs.declared.Mode.{Mode}
 use Rattle.text.specs.declared.Mode.TheVariants.{Measure, Write}
 
@@ -30,8 +30,8 @@ pub record Lent (m : Mode) (d : List ℕ) (at : ℕ) (xs : List ℕ) (a : ℕ) :
   pub space : Space m (part d a) 0 (length xs)
   pub whole : {n : ℕ} {ys : List ℕ} → Puts m (part d a) 0 xs n ys → Puts m d at xs (at + n) (withPart d a ys)
 
-by_mode : (m : Mode) (d : List ℕ) (at : ℕ) (xs : List ℕ) (a : ℕ) → Space m d at (length xs) → a ≡ start_in m at → Lent m d at xs a
-unfolding start_in put_in put Room
+by_mode : (m : Mode) (d : List ℕ) (at : ℕ) (xs : List ℕ) (a : ℕ) → Space m d at (length xs) → a ≡ startIn m at → Lent m d at xs a
+unfolding startIn putIn put Room
 by_mode Measure d at xs a s e = record {
   within = omega arith;
   space = record { small = omega (arith, s.small); room = tt };
@@ -49,5 +49,5 @@ by_mode Write d at xs a s e = record {
   };
 }
 
-pub lent : {m : Mode} {d : List ℕ} {at : ℕ} (xs : List ℕ) {a : ℕ} → Space m d at (length xs) → a ≡ start_in m at → Lent m d at xs a
+pub lent : {m : Mode} {d : List ℕ} {at : ℕ} (xs : List ℕ) {a : ℕ} → Space m d at (length xs) → a ≡ startIn m at → Lent m d at xs a
 lent {m} {d} {at} xs {a} s e = by_mode m d at xs a s e

@@ -5,7 +5,7 @@ use mathlib.Core.List.{List, [], ◌∷◌, ◌++◌, append-nil}
 use Prim.Native.Nat.{ℕ, ◌+◌}
 use native.Mathlib.Omega.{arith}
 use lib.ListN.{length, length-append}
-use Rattle.text.specs.Text.{put_in, Space, Puts}
+use Rattle.text.specs.Text.{putIn, Space, Puts}
 use Rattle.text.specs.declared.Mode.{Mode}
 use Rattle.text.proofs.Writing.{in-nil, in-in, room-le, puts-length}
 
@@ -24,7 +24,7 @@ together-cons p (q ∷ ps) = refl
 pub record Owes (m : Mode) (d : List ℕ) (at : ℕ) (all : List ℕ) (r : ℕ) (d' : List ℕ) (ps : List (List ℕ)) : Type 0 where
   pub space : Space m d' r (length (together ps))
   pub end : r + length (together ps) ≡ at + length all
-  pub bytes : put_in m d' r (together ps) ≡ put_in m d at all
+  pub bytes : putIn m d' r (together ps) ≡ putIn m d at all
 
 pub owes-start : {m : Mode} {d : List ℕ} {at : ℕ} {all : List ℕ} {ps : List (List ℕ)} → all ≡ together ps → Space m d at (length all) → Owes m d at all at d ps
 owes-start e s = record { space = rw (← e) s; end = rw (← e); bytes = rw (← e) }
@@ -51,7 +51,7 @@ module _ {m : Mode} {d : List ℕ} {at : ℕ} {all : List ℕ} {r : ℕ} {d' : L
       end = omega (arith, sum, w.end, o.end);
       bytes =
           rw (w.bytes, w.end) (in-in m d' r p (together ps) owes-room.room)
-          ∙ ap (put_in m d' r) (sym (together-cons p ps))
+          ∙ ap (putIn m d' r) (sym (together-cons p ps))
           ∙ o.bytes;
     }
 

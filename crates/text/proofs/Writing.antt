@@ -6,7 +6,7 @@ use native.Mathlib.Nat.{add_assoc, zero-add, le_refl}
 use native.Mathlib.Omega.{arith}
 use lib.ListN.{length, take, drop, length-append}
 use lib.Seq.{length-take-le, take-length, take_at, drop_at, drop-drop, paste, length-paste, paste-zero}
-use Rattle.text.specs.Text.{put, put_in, Room, Space, Puts}
+use Rattle.text.specs.Text.{put, putIn, Room, Space, Puts}
 use Rattle.text.specs.declared.Mode.{Mode}
 use Rattle.text.specs.declared.Mode.TheVariants.{Measure, Write}
 
@@ -38,19 +38,19 @@ put-put d at xs ys h =
 
 -- ---- by the mode
 
-pub in-length : (m : Mode) (d : List ℕ) (at : ℕ) (xs : List ℕ) → Room m d (at + length xs) → length (put_in m d at xs) ≡ length d
-unfolding put_in Room
+pub in-length : (m : Mode) (d : List ℕ) (at : ℕ) (xs : List ℕ) → Room m d (at + length xs) → length (putIn m d at xs) ≡ length d
+unfolding putIn Room
 in-length Measure d at xs r = refl
 in-length Write d at xs r = put-length d at xs r
 
-pub in-nil : (m : Mode) (d : List ℕ) (at : ℕ) → put_in m d at [] ≡ d
-unfolding put_in
+pub in-nil : (m : Mode) (d : List ℕ) (at : ℕ) → putIn m d at [] ≡ d
+unfolding putIn
 in-nil Measure d at = refl
 in-nil Write d at = put-nil d at
 
 -- text after text is the two as one
-pub in-in : (m : Mode) (d : List ℕ) (at : ℕ) (xs ys : List ℕ) → Room m d (at + length xs) → put_in m (put_in m d at xs) (at + length xs) ys ≡ put_in m d at (xs ++ ys)
-unfolding put_in Room
+pub in-in : (m : Mode) (d : List ℕ) (at : ℕ) (xs ys : List ℕ) → Room m d (at + length xs) → putIn m (putIn m d at xs) (at + length xs) ys ≡ putIn m d at (xs ++ ys)
+unfolding putIn Room
 in-in Measure d at xs ys r = refl
 in-in Write d at xs ys r = put-put d at xs ys (omega arith)
 
@@ -71,7 +71,7 @@ space-write h r = record { small = h; room = r }
 
 -- from the start of a buffer
 pub puts-written : {d : List ℕ} {xs : List ℕ} {r : ℕ} {d' : List ℕ} → Puts Write d 0 xs r d' → d' ≡ xs ++ drop (length xs) d
-unfolding put_in put
+unfolding putIn put
 puts-written {d} {xs} p = p.bytes ∙ ap (λ (k : ℕ). xs ++ drop k d) (zero-add (length xs))
 
 -- a writer keeps the buffer's length

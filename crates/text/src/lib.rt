@@ -1,7 +1,9 @@
 // Text that is measured, or written into a lent buffer at a place.
+#![tactic(auto)]
+
 ghost use Rattle.std.specs.Prelude.{◌≡◌, [], ◌∷◌, ◌+◌, ◌≤◌, length};
 ghost use Rattle.text.specs.Decimal.{decimal, Spelled};
-ghost use Rattle.text.specs.Text.{put, Space, Puts, start_in};
+ghost use Rattle.text.specs.Text.{put, Space, Puts, startIn};
 
 // Whether text is only measured, or written too.
 #[derive(Drop)]
@@ -85,7 +87,7 @@ pub fn put_number(mode: Mode, out: &mut [u8], at: usize, n: u64) -> usize
 
 // Where the part of a buffer starts that a writer at a place is lent: what only measures is lent the whole.
 pub fn start_in(mode: Mode, at: usize) -> usize
-    ensures { result ≡ start_in mode at }
+    ensures { result ≡ startIn mode at }
 {
     match mode {
         Mode::Measure => 0,

@@ -7,9 +7,9 @@ use Rattle.types.specs.declared.Reading.{Reading}
 use Rattle.types.specs.declared.Reading.TheVariants.{Plain, Mended}
 
 -- plain: as document 01 says; mended: as R-5 does
-unfoldable pub reading_of : Reading → Definition
-reading_of Plain = plainReading
-reading_of Mended = mendedReading
+unfoldable pub readingOf : Reading → Definition
+readingOf Plain = plainReading
+readingOf Mended = mendedReading
 
 -- whether types that are alike are read as equal
 unfoldable pub readsAlike : Reading → Bool

@@ -2,12 +2,12 @@
 use Rattle.std.specs.Prelude.{List, ℕ}
 use Rattle.image.specs.Schema.{Name, Label, Ty}
 use Rattle.parts.specs.Promise.{schemaOf, labelIn, treeIn}
-use Rattle.rules.specs.Survivors.{stands_for}
+use Rattle.rules.specs.Survivors.{standsFor}
 use Rattle.rules.specs.Types.{nameOrNone, resolveLabel, resolve}
 
 -- the name that an id stands for, if it is resolvable
-abbrev pub named_by : List ℕ → ℕ → List Name
-named_by s id = nameOrNone (stands_for (schemaOf s).registry id)
+abbrev pub namedBy : List ℕ → ℕ → List Name
+namedBy s id = nameOrNone (standsFor (schemaOf s).registry id)
 
 abbrev pub nodeIn : List ℕ → ℕ → Label
 nodeIn s at = resolveLabel (schemaOf s).registry (labelIn s at)

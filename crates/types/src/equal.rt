@@ -5,9 +5,9 @@ ghost use Rattle.parts.specs.Promise.{Accepted, LabelHere, labelIn, TypeHere};
 ghost use Rattle.rules.specs.Equal.{sameNames};
 ghost use Rattle.rules.specs.Types.{sameLabel};
 ghost use Rattle.rules.specs.Mended.{likeness};
-ghost use Rattle.types.specs.Resolved.{named_by, nodeIn, typeIn};
+ghost use Rattle.types.specs.Resolved.{namedBy, nodeIn, typeIn};
 ghost use Rattle.types.specs.Likeness.{sameCodes, likenessOf, After, ComparedAt};
-ghost use Rattle.types.specs.Readings.{readsAlike, reading_of};
+ghost use Rattle.types.specs.Readings.{readsAlike, readingOf};
 
 use crate::Reading;
 use crate::likeness::{Likeness, joined, of_tag, read_as};
@@ -30,7 +30,7 @@ struct Compared {
 // Whether two ids stand for the same name, each in its own registry; two that are unresolvable are equal too.
 fn named_equal(a: &[u8], old: u32, b: &[u8], new: u32) -> bool
     requires { Accepted a.now × Accepted b.now }
-    ensures { result ≡ sameNames (named_by a.now old) (named_by b.now new) }
+    ensures { result ≡ sameNames (namedBy a.now old) (namedBy b.now new) }
 {
     let Entry::Body(i) = entry(a, old) else {
         let Entry::Unresolvable = entry(b, new) else {
@@ -146,7 +146,7 @@ fn reads_alike(reading: Reading) -> bool
 // Whether two types are equal, as they are read.
 pub fn types_equal(reading: Reading, a: &[u8], i: usize, b: &[u8], j: usize) -> bool
     requires { Accepted a.now × Accepted b.now × TypeHere 32 a.now i × TypeHere 32 b.now j }
-    ensures { result ≡ (reading_of reading).same (typeIn a.now i) (typeIn b.now j) }
+    ensures { result ≡ (readingOf reading).same (typeIn a.now i) (typeIn b.now j) }
 {
     read_as(reads_alike(reading), types_likeness(a, i, b, j))
 }

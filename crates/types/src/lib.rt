@@ -1,4 +1,6 @@
 // Types at places of accepted images, and the names in them and in namespaces: whether two are equal.
+#![tactic(auto)]
+
 pub mod equal;
 pub mod likeness;
 pub mod names;

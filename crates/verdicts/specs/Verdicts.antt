@@ -1,7 +1,7 @@
 -- A verdict: how one is made of a refusal or of a tally, what an outcome's is, and the value that a selector gives. Assumes nothing.
 use Rattle.std.specs.Prelude.{◌∷◌, ℕ, length, get_or, replicate}
 use Rattle.rules.specs.Changes.{kindCount}
-use Rattle.rules.specs.Verdict.{result_at}
+use Rattle.rules.specs.Verdict.{resultAt}
 use Rattle.rules.specs.Outcome.{Outcome, refused, answered}
 use Rattle.tally.specs.declared.Tally.{Tally}
 use Rattle.verdicts.specs.declared.Verdict.{Verdict}
@@ -13,7 +13,7 @@ refusedBy number side =
 
 -- of a tally, and the length of the whole text
 unfoldable pub ofTally : Tally → ℕ → Verdict
-ofTally t n = record { number = 0; side = 0; bump = t.bump; result = result_at t.bump.level; length = n; counts = t.counts }
+ofTally t n = record { number = 0; side = 0; bump = t.bump; result = resultAt t.bump.level; length = n; counts = t.counts }
 
 unfoldable pub verdictIs : Outcome → Verdict
 verdictIs (refused number side) = refusedBy number side

@@ -1,4 +1,6 @@
 // A verdict, of two images or of one, made in two ways only: of a refusal, or of a tally.
+#![tactic(auto)]
+
 ghost use Rattle.std.specs.Prelude.{◌≡◌};
 ghost use Rattle.verdicts.specs.Verdicts.{refusedBy, ofTally, selectIn};
 

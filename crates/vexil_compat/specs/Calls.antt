@@ -3,13 +3,13 @@ use Rattle.std.specs.Prelude.{◌≡◌, List, [], ◌∷◌, ◌++◌, ℕ, zer
 use Rattle.rules.specs.Answer.{Policy, returnedBy, leavesBy}
 
 -- f 0, f 1 and so on, so many
-unfoldable pub values_of : (ℕ → ℕ) → ℕ → List ℕ
-values_of f zero = []
-values_of f (suc n) = values_of f n ++ f n ∷ []
+unfoldable pub valuesOf : (ℕ → ℕ) → ℕ → List ℕ
+valuesOf f zero = []
+valuesOf f (suc n) = valuesOf f n ++ f n ∷ []
 
 -- a values call with the buffer d: the number, and for each place what the verdict call answers to its index
 abbrev pub Valued : (ℕ → ℕ) → List ℕ → ℕ → List ℕ → Type 0
-Valued answer d r d' = (r ≡ answer 0) × (d' ≡ values_of answer (length d))
+Valued answer d r d' = (r ≡ answer 0) × (d' ≡ valuesOf answer (length d))
 
 -- a report call with the buffer d
 abbrev pub Reported : Policy → List ℕ → List ℕ → List ℕ → ℕ → List ℕ → Type 0

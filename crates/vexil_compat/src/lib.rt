@@ -1,5 +1,7 @@
 // The calls from C, for all bytes, buffers and selectors: the verdict on two images, by one value or by all, its report, each also with
 // imports and mended, and the contents of one image. Each is thin: what it answers is of `compat` or of `listing`.
+#![tactic(auto)]
+
 ghost use Rattle.std.specs.Prelude.{◌≡◌, length};
 ghost use Rattle.rules.specs.Answer.{verdictBy, plain, verdictOf};
 ghost use Rattle.rules.specs.Imports.{imports};
@@ -7,7 +9,7 @@ ghost use Rattle.rules.specs.Mended.{mended};
 ghost use Rattle.verdicts.specs.Verdicts.{selectIn};
 ghost use Rattle.compat.specs.Policies.{policyOf};
 ghost use Rattle.listing.specs.Listing.{listingVerdict, Wrote};
-ghost use Rattle.vexil_compat.specs.Calls.{values_of, Valued, Reported};
+ghost use Rattle.vexil_compat.specs.Calls.{valuesOf, Valued, Reported};
 
 use compat::policies::Policy;
 use compat::{report, verdict};
@@ -24,7 +26,7 @@ pub extern "C" fn vexil_compat_verdict(old: &[u8], new: &[u8], selector: u64) ->
 
 // The values of a verdict, from selector 0 on, one for each place of a buffer.
 fn put_values(v: Verdict, values: &mut [u64])
-    ensures { values.new ≡ values_of (selectIn v) (length values.old) }
+    ensures { values.new ≡ valuesOf (selectIn v) (length values.old) }
 {
     let mut i: usize = 0;
     while i < values.len() {

@@ -12,8 +12,8 @@ use borrow.Author.Tests.{leb-true, eqb-true, eqb-false}
 use lib.ListN.{length}
 use Rattle.image.specs.Schema.{Name, Decl, Schema}
 use Rattle.image.specs.Parse.{ok, part}
-use Rattle.image.specs.Names.{name_at, names_at}
-use Rattle.image.specs.Image.{u16At, format, entryCount, idCount, segmentCount, entryOffset, entryLength, idsAt, segmentsAt, idsFrom, tables_of, entry_of, entriesOf, readImage}
+use Rattle.image.specs.Names.{nameAt, namesAt}
+use Rattle.image.specs.Image.{u16At, format, entryCount, idCount, segmentCount, entryOffset, entryLength, idsAt, segmentsAt, idsFrom, tablesOf, entryOf, entriesOf, readImage}
 use Rattle.refusals.specs.Refusals.{Head, bodyStart, Placed}
 use Rattle.written.specs.Writer.{digits, writeEach, writeName, writeBody, writeEntry, writeContents, writeHead, bodiesAt, write}
 use Rattle.written.specs.Limits.{Each, end, also, Byte, U32, NameWithin, DeclWithin, EntryWithin, empty, full, Within}
@@ -54,8 +54,8 @@ all_placed (good h e) t = (h, e)
 all_placed (wrong m) t = no_both t refl
 
 module _ (s : List ℕ) (bytes : Each Byte s) where
-  entry-keeps : (i : ℕ) → Placed s i → Told (λ e n. Entry s i e) Free (entry_of s i)
-  unfolding entry_of bodyStart
+  entry-keeps : (i : ℕ) → Placed s i → Told (λ e n. Entry s i e) Free (entryOf s i)
+  unfolding entryOf bodyStart
   entry-keeps i p =
       told-pick _
       (λ h. let z = eqb-true _ _ h in told-ok (none_here (placed-empty p z) z))
@@ -156,12 +156,12 @@ module _ (s : List ℕ) (bytes : Each Byte s) where
       (run_join (digits 2 (idCount s)) (digits 2 (segmentCount s)) (number-run s bytes 2 4 (omega arith)) (number-run s bytes 2 6 (omega arith))))
 
   names-keep : (count at : ℕ) → at ≤ length s
-      → Keeps (λ xs. (length xs ≡ count) × Each NameWithin xs) (writeEach writeName) s at (names_at 2 count s at)
-  unfolding names_at
-  names-keep count at h = each_keeps s bytes (name_at 2) writeName NameWithin (name-keeps s bytes 2) count at h
+      → Keeps (λ xs. (length xs ≡ count) × Each NameWithin xs) (writeEach writeName) s at (namesAt 2 count s at)
+  unfolding namesAt
+  names-keep count at h = each_keeps s bytes (nameAt 2) writeName NameWithin (name-keeps s bytes 2) count at h
 
-  tables-keep : Told (λ is n. (segmentsAt s ≤ length s) × (is ≡ idsFrom (idCount s) s (idsAt s)) × (n ≡ segmentsAt s)) Free (tables_of s)
-  unfolding tables_of
+  tables-keep : Told (λ is n. (segmentsAt s ≤ length s) × (is ≡ idsFrom (idCount s) s (idsAt s)) × (n ≡ segmentsAt s)) Free (tablesOf s)
+  unfolding tablesOf
   tables-keep = told-pick _ (λ e. told-ok (leb-true _ _ e, refl, refl)) (λ e. told-no tt)
 
   -- All that was read stands one after the other, and is the whole image.

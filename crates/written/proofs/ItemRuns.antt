@@ -8,8 +8,8 @@ use borrow.Author.Tests.{eqb-true, eqb-false}
 use lib.ListN.{length}
 use Rattle.image.specs.Schema.{Decl}
 use Rattle.image.specs.Fields.{marksOf, marksAt, plain, delta, encodingOf, encodingAt, limitAt, fieldAt, bareAt, variantAt}
-use Rattle.image.specs.Kinds.{Kind, kind_of}
-use Rattle.image.specs.Bodies.{messageAt, enum_at, flagsAt, unionAt, newtypeAt, otherAt, implAt, declAt, body_of}
+use Rattle.image.specs.Kinds.{Kind, kindOf}
+use Rattle.image.specs.Bodies.{messageAt, enumAt, flagsAt, unionAt, newtypeAt, otherAt, implAt, declAt, bodyOf}
 use Rattle.image.proofs.Laws.Kinds.{Says, says}
 use Rattle.written.specs.Writer.{digits, writeCounted, writeName, bit, marksByte, writeEncoding, writeLimit, writeType, writeField, writeBare, writeVariant, writeDecl, writeBody}
 use Rattle.written.specs.Limits.{Each, Byte, EncodingWithin, LimitWithin, free, most, FieldWithin, BareWithin, VariantWithin, DeclWithin, message, enum, flags, union, newtype, config, alias, trait, impl}
@@ -101,10 +101,10 @@ module _ (s : List ℕ) (bytes : Each Byte s) where
 
   -- what follows a kind
   Declared : ℕ → ℕ → Decl → ℕ → Type 0
-  Declared kind at d n = (d.kind ≡ kind) × DeclWithin d × Run s at n (writeDecl (kind_of d.kind) d)
+  Declared kind at d n = (d.kind ≡ kind) × DeclWithin d × Run s at n (writeDecl (kindOf d.kind) d)
 
   decl-keeps : {kind : ℕ} {k : Kind} → Says kind k → (at : ℕ) → at ≤ length s → Told (Declared kind at) Free (declAt k s at)
-  unfolding kind_of Declared declAt messageAt enum_at flagsAt unionAt newtypeAt otherAt implAt writeDecl
+  unfolding kindOf Declared declAt messageAt enumAt flagsAt unionAt newtypeAt otherAt implAt writeDecl
   decl-keeps Says.message at h =
       told-bind _ (name-keeps s bytes 8 at) (λ x n₁ q₁.
       told-bind _ (marks-keeps n₁) (λ m n₂ q₂.
@@ -133,11 +133,11 @@ module _ (s : List ℕ) (bytes : Each Byte s) where
   decl-keeps Says.impl at h = told-ok (refl, impl, run_none h)
   decl-keeps (Says.other _ _) at h = told-no tt
 
-  pub body-keeps : Told (λ d n. DeclWithin d × (s ≡ writeBody d)) Free (body_of s)
-  unfolding Declared body_of writeBody
+  pub body-keeps : Told (λ d n. DeclWithin d × (s ≡ writeBody d)) Free (bodyOf s)
+  unfolding Declared bodyOf writeBody
   body-keeps =
       told-bind _ (byte-keeps s bytes 8 0) (λ kind n₁ q₁.
       told-bind _ (decl-keeps (says kind) n₁ (run_inside q₁.1)) (λ d n₂ q₂.
       told-pick _
-      (λ h. told-ok {n = n₂} (q₂.1, run-whole (eqb-true _ _ h) (run_join (d.kind ∷ []) (writeDecl (kind_of d.kind) d) (rw q₂.0 q₁.1) q₂.2)))
+      (λ h. told-ok {n = n₂} (q₂.1, run-whole (eqb-true _ _ h) (run_join (d.kind ∷ []) (writeDecl (kindOf d.kind) d) (rw q₂.0 q₁.1) q₂.2)))
       (λ h. told-no tt)))

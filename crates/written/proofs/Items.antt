@@ -11,8 +11,8 @@ use lib.ListN.{length, replicate}
 use Rattle.image.specs.Schema.{Marks, Encoding, Field, Variant, Decl}
 use Rattle.image.specs.Parse.{ok, pick}
 use Rattle.image.specs.Fields.{marksOf, marksAt, plain, delta, encodingOf, encodingAt, limitAt, fieldAt, bareAt, variantAt}
-use Rattle.image.specs.Kinds.{kind_of}
-use Rattle.image.specs.Bodies.{messageAt, enum_at, flagsAt, unionAt, newtypeAt, otherAt, implAt, declAt, body_of}
+use Rattle.image.specs.Kinds.{kindOf}
+use Rattle.image.specs.Bodies.{messageAt, enumAt, flagsAt, unionAt, newtypeAt, otherAt, implAt, declAt, bodyOf}
 use Rattle.written.specs.Writer.{digits, writeName, bit, marksByte, writeEncoding, writeLimit, writeField, writeBare, writeVariant, writeDecl, writeBody}
 use Rattle.written.specs.Limits.{EncodingWithin, LimitWithin, free, most, FieldWithin, BareWithin, VariantWithin, DeclWithin, message, enum, flags, union, newtype, config, alias, trait, impl}
 use Rattle.written.proofs.Here.{here-all}
@@ -88,8 +88,8 @@ variant_back v q s at h =
     got _ (counted_back fieldAt writeField FieldWithin field_back v.fields q.few q.fields s _ h₂) refl))
 
 -- what follows the kind
-decl-back : (d : Decl) → DeclWithin d → Reads (declAt (kind_of d.kind)) (writeDecl (kind_of d.kind) d) d
-unfolding kind_of declAt messageAt enum_at flagsAt unionAt newtypeAt otherAt implAt writeDecl
+decl-back : (d : Decl) → DeclWithin d → Reads (declAt (kindOf d.kind)) (writeDecl (kindOf d.kind) d) d
+unfolding kindOf declAt messageAt enumAt flagsAt unionAt newtypeAt otherAt implAt writeDecl
 decl-back _ (message {x = x} {m = m} {fs = fs} q few qs) s at h =
     seq (writeName x) _ h _ (name_back 8 x q s at) (λ h₁.
     seq (marksByte m ∷ []) _ h₁ _ (marks-back m s _) (λ h₂.
@@ -112,10 +112,10 @@ decl-back _ (alias {x = x} q) s at h = got _ (name_back 8 x q s at h) refl
 decl-back _ (trait {x = x} q) s at h = got _ (name_back 8 x q s at h) refl
 decl-back _ impl s at h = stay _ at
 
-pub body_back : (d : Decl) → DeclWithin d → body_of (writeBody d) ≡ ok d (length (writeBody d))
-unfolding body_of writeBody pick
+pub body_back : (d : Decl) → DeclWithin d → bodyOf (writeBody d) ≡ ok d (length (writeBody d))
+unfolding bodyOf writeBody pick
 body_back d q =
-    let e : 1 + length (writeDecl (kind_of d.kind) d) ≡ length (writeBody d) = omega arith in
+    let e : 1 + length (writeDecl (kindOf d.kind) d) ≡ length (writeBody d) = omega arith in
     seq (d.kind ∷ []) _ (here-all (writeBody d)) _ (byte-back 8 d.kind (writeBody d) 0) (λ h.
     got _ (decl-back d q (writeBody d) 1 h) (rw (eq-eqb _ _ e)))
     ∙ ap (ok d) (zero-add _)

@@ -11,7 +11,7 @@ use lib.ListN.{length, replicate}
 use Rattle.image.specs.Schema.{Name, Marks, Label, Ty, Field, Variant, Decl, Schema}
 use Rattle.image.specs.Names.{nameByte, nameBytes}
 use Rattle.image.specs.Types.{followsTag}
-use Rattle.image.specs.Kinds.{kind_of}
+use Rattle.image.specs.Kinds.{kindOf}
 use Rattle.written.specs.Writer.{digits, writeEach, writeCounted, writeName, marksByte, writeEncoding, writeLimit, writeAfter, writeLabel, writeType, writeField, writeBare, writeVariant, writeDecl, writeBody, writeEntry, writeContents, writeHead, bodiesAt, write}
 use Rattle.written.specs.Limits.{Each, end, also, Byte, NameWithin, LabelWithin, primitive, subByte, semantic, named, bits, wrapping, fixedArray, map, result, Typed, bare, around, between, FieldWithin, BareWithin, VariantWithin, DeclWithin, message, enum, flags, union, newtype, config, alias, trait, impl, EntryWithin, empty, full, Within}
 use Rattle.maps.proofs.Tests.{no_both, both}
@@ -111,7 +111,7 @@ variant-bytes v q =
     (each-join (name-bytes v.name q.name) (counted-bytes writeField FieldWithin field-bytes v.fields q.fields))
 
 body_bytes : (d : Decl) → DeclWithin d → Each Byte (writeBody d)
-unfolding kind_of writeBody writeDecl
+unfolding kindOf writeBody writeDecl
 body_bytes _ (message {x = x} {m = m} {fs = fs} q few qs) =
     byte 0 (omega arith) (each-join (name-bytes x q) (marks-bytes m (counted-bytes writeField FieldWithin field-bytes fs qs)))
 body_bytes _ (enum {x = x} {m = m} {vs = vs} q few qs) =

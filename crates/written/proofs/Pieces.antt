@@ -7,8 +7,8 @@ use native.Mathlib.Nat.{add-zero}
 use borrow.Author.Tests.{lt-ltb, le-leb}
 use lib.ListN.{length, drop, length-append}
 use Rattle.image.specs.Schema.{Name}
-use Rattle.image.specs.Parse.{Parsed, ok, bind, pick, byte_at, code_at, littleEndian, number_at, many, counted}
-use Rattle.image.specs.Names.{name_at, names_at}
+use Rattle.image.specs.Parse.{Parsed, ok, bind, pick, byteAt, codeAt, littleEndian, numberAt, many, counted}
+use Rattle.image.specs.Names.{nameAt, namesAt}
 use Rattle.written.specs.Writer.{digits, writeEach, writeCounted, writeName}
 use Rattle.written.specs.Limits.{Each, end, also, Few, NameWithin}
 use Rattle.written.proofs.Here.{Here, here-fits, here-first, here-next, here-byte, here-part}
@@ -34,14 +34,14 @@ seq {at = at} w v h f {y = y} first next =
     let e : at + length w + length v ≡ at + length (w ++ v) = omega (arith, length-append w v) in
     got f (first (here-first w v h)) (next (here-next w v h) ∙ ap (ok y) e)
 
-pub byte-back : (short b : ℕ) → Reads (byte_at short) (b ∷ []) b
-unfolding byte_at pick
+pub byte-back : (short b : ℕ) → Reads (byteAt short) (b ∷ []) b
+unfolding byteAt pick
 byte-back short b s at h =
     let l : at < length s = omega (arith, here-fits h) in
     simp (lt-ltb _ _ l, here-byte h)
 
-pub code-back : (lo hi b : ℕ) → lo ≤ b → b ≤ hi → Reads (code_at lo hi) (b ∷ []) b
-unfolding code_at pick
+pub code-back : (lo hi b : ℕ) → lo ≤ b → b ≤ hi → Reads (codeAt lo hi) (b ∷ []) b
+unfolding codeAt pick
 code-back lo hi b low high s at h = got _ (byte-back 8 b s at h) (simp (le-leb _ _ low, le-leb _ _ high))
 
 -- numbers
@@ -60,15 +60,15 @@ digits-back (suc w) v rest h =
 pub here-number : {s : List ℕ} {at : ℕ} (w v : ℕ) → v < 256 ^ w → Here s at (digits w v) → littleEndian w (drop at s) ≡ v
 here-number w v l h = ap (littleEndian w) h.is ∙ digits-back w v h.rest l
 
-pub number-back : (w v : ℕ) → v < 256 ^ w → Reads (number_at w) (digits w v) v
-unfolding number_at pick
+pub number-back : (w v : ℕ) → v < 256 ^ w → Reads (numberAt w) (digits w v) v
+unfolding numberAt pick
 number-back w v l s at h =
     let f : at + w ≤ length s = omega (arith, here-fits h, length_digits w v) in
     simp (le-leb _ _ f, here-number w v l h, length_digits)
 
 -- names
-pub name_back : (short : ℕ) (x : Name) → NameWithin x → Reads (name_at short) (writeName x) x
-unfolding name_at writeName pick
+pub name_back : (short : ℕ) (x : Name) → NameWithin x → Reads (nameAt short) (writeName x) x
+unfolding nameAt writeName pick
 name_back short x q s at h =
     seq (length x ∷ []) x h _ (byte-back short (length x) s at) (λ g. simp (le-leb _ _ (here-fits g), here-part g, q.allowed))
 
@@ -86,6 +86,6 @@ unfolding counted writeCounted
 counted_back p w P back xs few qs s at h =
     seq (digits 2 (length xs)) _ h _ (number-back 2 (length xs) few s at) (each_back p w P back xs qs s _)
 
-pub names-back : (short : ℕ) (xs : List Name) → Each NameWithin xs → Reads (names_at short (length xs)) (writeEach writeName xs) xs
-unfolding names_at
-names-back short xs qs = each_back (name_at short) writeName NameWithin (name_back short) xs qs
+pub names-back : (short : ℕ) (xs : List Name) → Each NameWithin xs → Reads (namesAt short (length xs)) (writeEach writeName xs) xs
+unfolding namesAt
+names-back short xs qs = each_back (nameAt short) writeName NameWithin (name_back short) xs qs

@@ -6,13 +6,13 @@ use mathlib.Core.List.{List, [], ◌∷◌, ◌++◌, map}
 use Prim.Native.Nat.{ℕ}
 use lib.ListN.{take, set, replicate}
 use Rattle.image.specs.Schema.{Field, Schema, unmarked, label, leaf, noType, decl}
-use Rattle.image.specs.Parse.{Parsed, ok, no, bind, pick, shift, within, part, byte_at, code_at, littleEndian, number_at, many, counted}
-use Rattle.image.specs.Names.{nameByte, nameBytes, name_at, names_at}
-use Rattle.image.specs.Types.{followsTag, innerTypes, afterTag, label_of, inner_at, type_of, type_at}
+use Rattle.image.specs.Parse.{Parsed, ok, no, bind, pick, shift, within, part, byteAt, codeAt, littleEndian, numberAt, many, counted}
+use Rattle.image.specs.Names.{nameByte, nameBytes, nameAt, namesAt}
+use Rattle.image.specs.Types.{followsTag, innerTypes, afterTag, labelOf, innerAt, typeOf, typeAt}
 use Rattle.image.specs.Fields.{marksOf, marksAt, plain, delta, encodingOf, encodingAt, limitAt, fieldAt}
-use Rattle.image.specs.Kinds.{kind_of}
-use Rattle.image.specs.Bodies.{messageAt, declAt, body_of}
-use Rattle.image.specs.Image.{u16At, format, entryCount, idCount, segmentCount, entryOffset, entryLength, idsAt, segmentsAt, idsFrom, head_of, tables_of, laid, entry_of, entriesOf, readImage}
+use Rattle.image.specs.Kinds.{kindOf}
+use Rattle.image.specs.Bodies.{messageAt, declAt, bodyOf}
+use Rattle.image.specs.Image.{u16At, format, entryCount, idCount, segmentCount, entryOffset, entryLength, idsAt, segmentsAt, idsFrom, headOf, tablesOf, laid, entryOf, entriesOf, readImage}
 use Rattle.image.specs.Reads.{refusal}
 use Rattle.written.specs.Writer.{digits, writeEach, writeCounted, writeName, bit, marksByte, writeEncoding, writeLimit, writeAfter, writeLabel, writeType, writeField, writeDecl, writeBody, writeEntry, writeContents, writeHead, bodiesAt, write}
 use Rattle.image.specs.Words.{bytes}
@@ -38,7 +38,7 @@ rideSchema =
 
 -- What is unfolded where an image is computed: whoever unfolds this unfolds all that its line names.
 whole : List ℕ → Parsed Schema
-unfolding readImage entriesOf entry_of laid tables_of head_of idsFrom segmentsAt idsAt entryLength entryOffset segmentCount idCount entryCount format u16At body_of kind_of declAt messageAt fieldAt limitAt encodingAt encodingOf delta plain marksAt marksOf type_at type_of inner_at label_of afterTag innerTypes followsTag names_at name_at nameBytes nameByte counted many number_at littleEndian code_at byte_at part within shift pick bind bytes speed rideSchema
+unfolding readImage entriesOf entryOf laid tablesOf headOf idsFrom segmentsAt idsAt entryLength entryOffset segmentCount idCount entryCount format u16At bodyOf kindOf declAt messageAt fieldAt limitAt encodingAt encodingOf delta plain marksAt marksOf typeAt typeOf innerAt labelOf afterTag innerTypes followsTag namesAt nameAt nameBytes nameByte counted many numberAt littleEndian codeAt byteAt part within shift pick bind bytes speed rideSchema
 whole s = readImage s
 
 pub ride-accepted : readImage ride ≡ ok rideSchema 46
@@ -47,7 +47,7 @@ ride-accepted = refl
 
 -- and it is what is written of it
 pub ride-written : write rideSchema ≡ ride
-unfolding write writeHead writeContents writeEntry writeBody kind_of writeDecl writeField writeType writeLabel writeAfter followsTag writeLimit writeEncoding marksByte bit writeName writeCounted writeEach digits bodiesAt plain bytes speed rideSchema
+unfolding write writeHead writeContents writeEntry writeBody kindOf writeDecl writeField writeType writeLabel writeAfter followsTag writeLimit writeEncoding marksByte bit writeName writeCounted writeEach digits bodiesAt plain bytes speed rideSchema
 ride-written = refl
 
 -- damaged copies, each with the number that it gives

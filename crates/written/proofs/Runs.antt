@@ -9,8 +9,8 @@ use native.Mathlib.Nat.{add-zero}
 use borrow.Author.Tests.{ltb-true, leb-true}
 use lib.ListN.{length, get_or, take, drop, length-append, length-drop, take-append-drop}
 use lib.Seq.{drop-drop, drop-append_seam, drop-cons, length-take-le}
-use Rattle.image.specs.Parse.{Parsed, part, byte_at, code_at, littleEndian, number_at, many, counted}
-use Rattle.image.specs.Names.{nameBytes, name_at}
+use Rattle.image.specs.Parse.{Parsed, part, byteAt, codeAt, littleEndian, numberAt, many, counted}
+use Rattle.image.specs.Names.{nameBytes, nameAt}
 use Rattle.written.specs.Writer.{digits, writeEach, writeCounted, writeName}
 use Rattle.written.specs.Limits.{Each, end, also, Byte, Few, NameWithin}
 use Rattle.maps.proofs.Tests.{both}
@@ -115,16 +115,16 @@ part-run n k s h =
     first = sym (take-append-drop k (drop n s))
 
 module _ (s : List ℕ) (bytes : Each Byte s) where
-  pub byte-keeps : (short at : ℕ) → Keeps Byte (λ b. b ∷ []) s at (byte_at short s at)
-  unfolding byte_at
+  pub byte-keeps : (short at : ℕ) → Keeps Byte (λ b. b ∷ []) s at (byteAt short s at)
+  unfolding byteAt
   byte-keeps short at =
       told-pick _ (λ h. told-ok (byte_of s at bytes, run (ltb-true _ _ h))) (λ h. told-no tt)
     where
       run : at < length s → Run s at (at + 1) (get_or s at 0 ∷ [])
       run h = record { here = record { rest = drop (suc at) s; is = drop-cons s at 0 h; from = omega arith }; next = refl }
 
-  pub code-keeps : (lo hi at : ℕ) → Keeps (λ b. (lo ≤ b) × (b ≤ hi)) (λ b. b ∷ []) s at (code_at lo hi s at)
-  unfolding code_at
+  pub code-keeps : (lo hi at : ℕ) → Keeps (λ b. (lo ≤ b) × (b ≤ hi)) (λ b. b ∷ []) s at (codeAt lo hi s at)
+  unfolding codeAt
   code-keeps lo hi at =
       told-bind _ (byte-keeps 8 at) (λ b n h.
       told-pick _ (λ e. let c = both _ _ e in told-ok ((leb-true _ _ c.0, leb-true _ _ c.1), h.1)) (λ e. told-no tt))
@@ -145,12 +145,12 @@ module _ (s : List ℕ) (bytes : Each Byte s) where
   pub number_is : (w at : ℕ) → littleEndian w (drop at s) < 256 ^ w
   number_is w at = number-below w (drop at s) (each-drop at s bytes)
 
-  pub number-keeps : (w at : ℕ) → Keeps (λ v. v < 256 ^ w) (digits w) s at (number_at w s at)
-  unfolding number_at
+  pub number-keeps : (w at : ℕ) → Keeps (λ v. v < 256 ^ w) (digits w) s at (numberAt w s at)
+  unfolding numberAt
   number-keeps w at = told-pick _ (λ h. told-ok (number_is w at, number-run w at (leb-true _ _ h))) (λ h. told-no tt)
 
-  pub name-keeps : (short at : ℕ) → Keeps NameWithin writeName s at (name_at short s at)
-  unfolding name_at writeName
+  pub name-keeps : (short at : ℕ) → Keeps NameWithin writeName s at (nameAt short s at)
+  unfolding nameAt writeName
   name-keeps short at =
       told-bind _ (byte-keeps short at) (λ k n h.
       told-pick _ (λ e. told-pick _ (λ g. told-ok (name k n h.0 h.1 (leb-true _ _ e) g)) (λ g. told-no tt)) (λ e. told-no tt))

@@ -9,8 +9,8 @@ use borrow.Author.Tests.{leb-true, eqb-true, eqb-false}
 use lib.ListN.{length, drop}
 use Rattle.image.specs.Schema.{Name, Label, label, Ty}
 use Rattle.image.specs.Parse.{Parsed, shift, within}
-use Rattle.image.specs.Names.{name_at, names_at}
-use Rattle.image.specs.Types.{Follows, code, subByte, identity, size, nothing, bits, unknown, followsTag, innerTypes, afterTag, label_of, inner_at, type_of, type_at}
+use Rattle.image.specs.Names.{nameAt, namesAt}
+use Rattle.image.specs.Types.{Follows, code, subByte, identity, size, nothing, bits, unknown, followsTag, innerTypes, afterTag, labelOf, innerAt, typeOf, typeAt}
 use Rattle.written.specs.Writer.{writeEach, writeName, writeAfter, writeLabel, writeType}
 use Rattle.written.specs.Limits as Limits
 use Rattle.written.specs.Limits.{Each, Byte, NameWithin, Wrapping, optional, array, set, vector, LabelWithin, primitive, semantic, named, wrapping, fixedArray, map, result, Typed, bare, around, between, nodes, TypeWithin}
@@ -75,7 +75,7 @@ After tag s at l n = (l.tag ≡ tag) × LabelWithin (innerTypes l.tag) l × Run 
 
 after-keeps : (s : List ℕ) → Each Byte s → (tag : ℕ) (f : Follows) → Tag tag f → (at : ℕ) → at ≤ length s
     → Told (After tag s at) Free (afterTag tag f s at)
-unfolding afterTag names_at writeAfter followsTag innerTypes
+unfolding afterTag namesAt writeAfter followsTag innerTypes
 after-keeps s bytes tag _ (is-primitive e) at h =
     rw e (told-bind _ (code-keeps s bytes 0 13 at) (λ a n q. told-ok (refl, primitive q.0.1, q.1)))
 after-keeps s bytes tag _ (is-subByte e) at h =
@@ -90,7 +90,7 @@ after-keeps s bytes tag _ (is-fixed e) at h = rw e (told-bind _ (number-keeps s 
 after-keeps s bytes tag _ (is-bits e) at h =
     rw e
     (told-bind _ (byte-keeps s bytes 8 at) (λ k n q.
-    told-bind _ (each_keeps s bytes (name_at 8) writeName NameWithin (name-keeps s bytes 8) k n (run_inside q.1)) (λ xs m r.
+    told-bind _ (each_keeps s bytes (nameAt 8) writeName NameWithin (name-keeps s bytes 8) k n (run_inside q.1)) (λ xs m r.
     told-ok (
       refl,
       Limits.bits (few k xs q.0 r.0.0) r.0.1,
@@ -104,8 +104,8 @@ after-keeps s bytes tag _ (is-other low six high) at h =
     told-ok {n = at} (refl, p.within, rw p.follows (run_none h))
 after-keeps s bytes tag _ is_none at h = told-no tt
 
-label-keeps : (s : List ℕ) → Each Byte s → Keeps (λ l. LabelWithin (innerTypes l.tag) l) writeLabel s 0 (label_of s)
-unfolding label_of writeLabel
+label-keeps : (s : List ℕ) → Each Byte s → Keeps (λ l. LabelWithin (innerTypes l.tag) l) writeLabel s 0 (labelOf s)
+unfolding labelOf writeLabel
 label-keeps s bytes =
     told-bind _ (byte-keeps s bytes 8 0) (λ tag n a.
     told-then (after-keeps s bytes tag (followsTag tag) (tag_view tag) n (run_inside a.1))
@@ -126,15 +126,15 @@ shift-keeps s at h (told-no u) = told-no u
 abbrev Kept : ℕ → Ty → Type 0
 Kept left t = Typed t × (nodes t ≤ left)
 
-inner-keeps : (left : ℕ) → ((t : List ℕ) → Each Byte t → Keeps (Kept left) writeType t 0 (type_of left t)) → (s : List ℕ) → Each Byte s → (i : ℕ)
+inner-keeps : (left : ℕ) → ((t : List ℕ) → Each Byte t → Keeps (Kept left) writeType t 0 (typeOf left t)) → (s : List ℕ) → Each Byte s → (i : ℕ)
     → i ≤ 2 → (l : Label)
-    → LabelWithin i l → (n : ℕ) → Run s 0 n (writeLabel l) → Keeps (Kept (suc left)) writeType s 0 (inner_at i l (type_of left) s n)
-unfolding inner_at within writeType nodes
+    → LabelWithin i l → (n : ℕ) → Run s 0 n (writeLabel l) → Keeps (Kept (suc left)) writeType s 0 (innerAt i l (typeOf left) s n)
+unfolding innerAt within writeType nodes
 inner-keeps left f s bytes zero h l q n r = told-ok ((bare q, omega arith), r)
 inner-keeps left f s bytes (suc zero) h l q n r =
     told-bind _ (part n (run_inside r)) (λ t m b. told-ok ((around q b.0.0, deep b.0.1), run_join (writeLabel l) (writeType t) r b.1))
   where
-    part : (at : ℕ) → at ≤ length s → Keeps (Kept left) writeType s at (shift at (type_of left (drop at s)))
+    part : (at : ℕ) → at ≤ length s → Keeps (Kept left) writeType s at (shift at (typeOf left (drop at s)))
     part at h = shift-keeps s at h (f (drop at s) (each-drop at s bytes))
 
     deep : {a : ℕ} → a ≤ left → suc a ≤ suc left
@@ -147,7 +147,7 @@ inner-keeps left f s bytes (suc (suc k)) h l q n r =
       run_join (writeLabel l) _ r (run_join (writeType t) (writeType u) b.1 c.1),
     )))
   where
-    part : (at : ℕ) → at ≤ length s → Keeps (Kept left) writeType s at (shift at (type_of left (drop at s)))
+    part : (at : ℕ) → at ≤ length s → Keeps (Kept left) writeType s at (shift at (typeOf left (drop at s)))
     part at h = shift-keeps s at h (f (drop at s) (each-drop at s bytes))
 
     deep : {a b : ℕ} → a ≤ left → b ≤ left → suc (max a b) ≤ suc left
@@ -156,15 +156,15 @@ inner-keeps left f s bytes (suc (suc k)) h l q n r =
     two-inside : LabelWithin 2 l
     two-inside = let z : suc (suc k) ≡ 2 = omega arith in rw z at q
 
-type-keeps : (left : ℕ) (s : List ℕ) → Each Byte s → Keeps (Kept left) writeType s 0 (type_of left s)
-unfolding type_of
+type-keeps : (left : ℕ) (s : List ℕ) → Each Byte s → Keeps (Kept left) writeType s 0 (typeOf left s)
+unfolding typeOf
 type-keeps zero s bytes = told-no tt
 type-keeps (suc left) s bytes =
     told-bind _ (label-keeps s bytes) (λ l n a.
     inner-keeps left (type-keeps left) s bytes (innerTypes l.tag) (inner-most l.tag) l a.0 n a.1)
 
-pub typeAt-keeps : (s : List ℕ) → Each Byte s → (at : ℕ) → at ≤ length s → Keeps TypeWithin writeType s at (type_at s at)
-unfolding type_at within
+pub typeAt-keeps : (s : List ℕ) → Each Byte s → (at : ℕ) → at ≤ length s → Keeps TypeWithin writeType s at (typeAt s at)
+unfolding typeAt within
 typeAt-keeps s bytes at h =
     told-then (shift-keeps s at h (type-keeps 32 (drop at s) (each-drop at s bytes)))
     (λ t n q. (record { typed = q.0.0; path = omega (arith, q.0.1) }, q.1))

@@ -10,7 +10,7 @@ use lib.Dec.{eqb}
 use lib.ListN.{length, drop}
 use Rattle.image.specs.Schema.{Label, Ty, leaf, one, two}
 use Rattle.image.specs.Parse.{Parsed, ok, shift, within}
-use Rattle.image.specs.Types.{nothing, followsTag, innerTypes, afterTag, label_of, inner_at, type_of, type_at}
+use Rattle.image.specs.Types.{nothing, followsTag, innerTypes, afterTag, labelOf, innerAt, typeOf, typeAt}
 use Rattle.written.specs.Writer.{writeAfter, writeLabel, writeType}
 use Rattle.written.specs.Limits.{Wrapping, optional, array, set, vector, LabelWithin, primitive, subByte, semantic, named, bits, wrapping, fixedArray, map, result, Typed, bare, around, between, nodes, TypeWithin}
 use Rattle.written.proofs.Here.{Here, here-drop}
@@ -76,8 +76,8 @@ within-back : {A : Type 0} (p : List ℕ → Parsed A) (w : List ℕ) (x : A) �
 unfolding within shift
 within-back p w x back s at h = rw (back (drop at s) (here-drop h), zero-add (length w))
 
-label-back : {n : ℕ} (l : Label) → LabelWithin n l → Starts label_of (writeLabel l) l
-unfolding label_of writeLabel
+label-back : {n : ℕ} (l : Label) → LabelWithin n l → Starts labelOf (writeLabel l) l
+unfolding labelOf writeLabel
 label-back l q s h = seq (l.tag ∷ []) _ h _ (byte-back 8 l.tag s 0) (after-back l q s 1)
 
 some-node : (t : Ty) → 1 ≤ nodes t
@@ -86,19 +86,19 @@ some-node (leaf l) = omega arith
 some-node (one l t) = omega arith
 some-node (two l t u) = omega arith
 
-type-back : (left : ℕ) (t : Ty) → Typed t → nodes t ≤ left → Starts (type_of left) (writeType t) t
-unfolding type_of inner_at writeType nodes
+type-back : (left : ℕ) (t : Ty) → Typed t → nodes t ≤ left → Starts (typeOf left) (writeType t) t
+unfolding typeOf innerAt writeType nodes
 type-back zero t q l s h = absurd (omega (arith, some-node t))
 type-back (suc left) _ (bare {l = x} q) l s h = got _ (label-back x q s h) (rw (inner-count q))
 type-back (suc left) _ (around {l = x} {t = t} q r) l s h =
     seq (writeLabel x) _ h _ (label-back x q s) (λ g.
-    rw (inner-count q) (got _ (within-back (type_of left) _ t (type-back left t r (omega arith)) s _ g) refl))
+    rw (inner-count q) (got _ (within-back (typeOf left) _ t (type-back left t r (omega arith)) s _ g) refl))
 type-back (suc left) _ (between {l = x} {t = t} {u = u} q r v) l s h =
     seq (writeLabel x) _ h _ (label-back x q s) (λ g.
     rw (inner-count q)
-    (seq (writeType t) _ g _ (within-back (type_of left) _ t (type-back left t r (omega arith)) s _) (λ k.
-    got _ (within-back (type_of left) _ u (type-back left u v (omega arith)) s _ k) refl)))
+    (seq (writeType t) _ g _ (within-back (typeOf left) _ t (type-back left t r (omega arith)) s _) (λ k.
+    got _ (within-back (typeOf left) _ u (type-back left u v (omega arith)) s _ k) refl)))
 
-pub typeAt-back : (t : Ty) → TypeWithin t → Reads type_at (writeType t) t
-unfolding type_at
-typeAt-back t q = within-back (type_of 32) (writeType t) t (type-back 32 t q.typed (omega (arith, q.path)))
+pub typeAt-back : (t : Ty) → TypeWithin t → Reads typeAt (writeType t) t
+unfolding typeAt
+typeAt-back t q = within-back (typeOf 32) (writeType t) t (type-back 32 t q.typed (omega (arith, q.path)))

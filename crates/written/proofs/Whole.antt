@@ -9,8 +9,8 @@ use borrow.Author.Tests.{le-leb, eq-eqb, ne_eqb}
 use lib.ListN.{length, length-append}
 use Rattle.image.specs.Schema.{Decl, Schema}
 use Rattle.image.specs.Parse.{ok, bind, pick}
-use Rattle.image.specs.Names.{names_at}
-use Rattle.image.specs.Image.{u16At, format, entryCount, idCount, segmentCount, entryOffset, entryLength, idsAt, segmentsAt, idsFrom, head_of, tables_of, laid, entry_of, entriesOf, readImage}
+use Rattle.image.specs.Names.{namesAt}
+use Rattle.image.specs.Image.{u16At, format, entryCount, idCount, segmentCount, entryOffset, entryLength, idsAt, segmentsAt, idsFrom, headOf, tablesOf, laid, entryOf, entriesOf, readImage}
 use Rattle.written.specs.Writer.{digits, writeEach, writeName, writeBody, writeEntry, writeContents, writeHead, bodiesAt, write}
 use Rattle.written.specs.Limits.{Each, end, also, U32, DeclWithin, EntryWithin, empty, full, Within}
 use Rattle.refusals.proofs.Refusals.{head_passed}
@@ -76,13 +76,13 @@ Read es s i at = (laid (length es) s i at ≡ true) × (entriesOf (length es) s 
 
 empty_back : (es : List (Option Decl)) (s : List ℕ) (i at : ℕ) → entryOffset s i ≡ 0 → entryLength s i ≡ 0 → Read es s (i + 1) at
     → Read (none ∷ es) s i at
-unfolding laid entriesOf entry_of pick bind
+unfolding laid entriesOf entryOf pick bind
 empty_back es s i at o n r = (simp (o, n, r.0), simp (n, r.1))
 
 full_back : (d : Decl) → DeclWithin d → (es : List (Option Decl)) (s : List ℕ) (i at : ℕ) → entryOffset s i ≡ at
     → entryLength s i ≡ length (writeBody d)
     → Here s at (writeBody d) → Read es s (i + 1) (at + length (writeBody d)) → Read (some d ∷ es) s i at
-unfolding laid entriesOf entry_of pick bind
+unfolding laid entriesOf entryOf pick bind
 full_back d q es s i at o n h r = (
   simp (o, n, ne_eqb _ 0 (some_byte d), eq-eqb at at refl, le-leb _ _ (here-fits h), r.0),
   simp (o, n, ne_eqb _ 0 (some_byte d), here-part h, body_back d q, r.1),
@@ -186,7 +186,7 @@ back s =
     atNames : Here (write s) (8 + 4 * length s.registry + 4 * length s.ids) (n ++ b)
     atNames = rw (ids-length s.ids) at (here-next d _ atIds)
 
-head-back : (s : Schema) → Within s → head_of (write s) ≡ ok tt 8
+head-back : (s : Schema) → Within s → headOf (write s) ≡ ok tt 8
 head-back s q =
     let f = front s q in
     head_passed (write s)
@@ -198,15 +198,15 @@ head-back s q =
       segments = rw f.segments q.segmentCount;
     })
 
-tables-back : (s : Schema) → Within s → tables_of (write s) ≡ ok s.ids (8 + 4 * length s.registry + 4 * length s.ids)
-unfolding tables_of segmentsAt idsAt pick
+tables-back : (s : Schema) → Within s → tablesOf (write s) ≡ ok s.ids (8 + 4 * length s.registry + 4 * length s.ids)
+unfolding tablesOf segmentsAt idsAt pick
 tables-back s q =
     let f = front s q in
     let b = back s in
     simp (f.entries, f.ids, le-leb _ _ b.names.from, ids-back s.ids q.ids (write s) _ b.ids)
 
 segments-back : (s : Schema) → Within s
-    → names_at 2 (segmentCount (write s)) (write s) (8 + 4 * length s.registry + 4 * length s.ids) ≡ ok s.namespace (bodiesAt s)
+    → namesAt 2 (segmentCount (write s)) (write s) (8 + 4 * length s.registry + 4 * length s.ids) ≡ ok s.namespace (bodiesAt s)
 unfolding bodiesAt
 segments-back s q = rw (front s q).segments (names-back 2 s.namespace q.segments (write s) _ (back s).names)
 

@@ -1,7 +1,7 @@
 -- The format from the other side: the bytes of a schema, in document 01's words and order. Assumes nothing.
 use Rattle.std.specs.Prelude.{Bool, true, false, List, [], ◌∷◌, ◌++◌, ℕ, zero, suc, ◌+◌, ◌*◌, ◌/◌, ◌%◌, length, replicate}
 use Rattle.std.proofs.Math.Option.{Option, none, some}
-use Rattle.image.specs.Kinds.{Kind, message, enum, flags, union, newtype, config, alias, trait, impl, other, kind_of}
+use Rattle.image.specs.Kinds.{Kind, message, enum, flags, union, newtype, config, alias, trait, impl, other, kindOf}
 use Rattle.image.specs.Schema.{Name, Marks, Encoding, Label, Ty, leaf, one, two, Field, Variant, Decl, Schema}
 use Rattle.image.specs.Types.{Follows, code, subByte, identity, size, nothing, bits, unknown, followsTag}
 
@@ -89,7 +89,7 @@ writeDecl other d = []
 
 -- "A body is a u8 kind, then .."
 unfoldable pub writeBody : Decl → List ℕ
-writeBody d = d.kind ∷ writeDecl (kind_of d.kind) d
+writeBody d = d.kind ∷ writeDecl (kindOf d.kind) d
 
 -- the body of an entry, none for an empty one
 unfoldable pub writeEntry : Option Decl → List ℕ

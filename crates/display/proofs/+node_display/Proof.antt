@@ -18,7 +18,7 @@ use Rattle.text.proofs.Writing.{puts-length}
 use Rattle.text.proofs.Pieces.{Owes, owes-start, owes-cut, owes-room, owes-next, owes-end}
 use Rattle.types.specs.Nodes.{Leaf, Node}
 use Rattle.types.specs.Resolved.{nodeIn, typeIn}
-use Rattle.display.specs.Words.{word_in}
+use Rattle.display.specs.Words.{wordIn}
 use Rattle.display.specs.Display.{Displayed}
 use Rattle.types.proofs.Laws.Trees.{node}
 use Rattle.display.proofs.Laws.Texts.{space-for, puts-for, openings, closing, text-leaf, text-some, closing-one, closing-two}
@@ -151,7 +151,7 @@ module _ (t : ℕ) where
 
   all-owed : (c : here t lts.Else1)
       → Owed c (start c.before).args.at (start c.before).args.out.now
-      (word_in openings c.before.before.before.type-tag.result ∷ inner c c.before.label-end.result ∷ rest c ∷ [])
+      (wordIn openings c.before.before.before.type-tag.result ∷ inner c c.before.label-end.result ∷ rest c ∷ [])
   all-owed c =
       let l = c.before in
       owes-start (text-some _ _ _ (the-node l) c.if1.false l.before.before.type-tag.ensures l.label-end.ensures) (start l).requires.1.2

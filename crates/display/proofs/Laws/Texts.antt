@@ -24,9 +24,9 @@ use Rattle.text.specs.declared.Mode.{Mode}
 use Rattle.text.proofs.Writing.{in-nil}
 use Rattle.text.proofs.Pieces.{together}
 use Rattle.types.specs.Names.{run, NamesIn, namesIn, LabelNames}
-use Rattle.display.specs.Words.{word_in}
+use Rattle.display.specs.Words.{wordIn}
 use Rattle.types.specs.Nodes.{Leaf, Node}
-use Rattle.types.specs.Resolved.{named_by, nodeIn, typeIn}
+use Rattle.types.specs.Resolved.{namedBy, nodeIn, typeIn}
 use Rattle.display.specs.Display.{repeated}
 use Rattle.types.proofs.Laws.Names.{names-none}
 use Rattle.display.proofs.Laws.Words.{table, whole, wholeWords, table-word}
@@ -46,26 +46,26 @@ puts-nothing {m} {d} {at} = record { end = omega arith; bytes = sym (in-nil m d 
 
 -- ---- words
 
-pub primitive-words : (code : ℕ) → word_in (bytes "bool u8 u16 u32 u64 i8 i16 i32 i64 f32 f64 fixed32 fixed64 void ") code ≡ primitiveWord code
+pub primitive-words : (code : ℕ) → wordIn (bytes "bool u8 u16 u32 u64 i8 i16 i32 i64 f32 f64 fixed32 fixed64 void ") code ≡ primitiveWord code
 unfolding primitiveWord bytes table wholeWords whole
 primitive-words code = table-word _ refl code
 
-pub semantic-words : (code : ℕ) → word_in (bytes "string bytes rgb uuid timestamp hash ") code ≡ semanticWord code
+pub semantic-words : (code : ℕ) → wordIn (bytes "string bytes rgb uuid timestamp hash ") code ≡ semanticWord code
 unfolding semanticWord bytes table wholeWords whole
 semantic-words code = table-word _ refl code
 
-pub sign-words : (code : ℕ) → word_in (bytes "u i ") code ≡ word ("u" ∷ "i" ∷ []) code
+pub sign-words : (code : ℕ) → wordIn (bytes "u i ") code ≡ word ("u" ∷ "i" ∷ []) code
 unfolding bytes table wholeWords whole
 sign-words code = table-word _ refl code
 
-pub base-words : (code : ℕ) → word_in (bytes "default varint zigzag ") code ≡ word ("default" ∷ "varint" ∷ "zigzag" ∷ []) code
+pub base-words : (code : ℕ) → wordIn (bytes "default varint zigzag ") code ≡ word ("default" ∷ "varint" ∷ "zigzag" ∷ []) code
 unfolding bytes table wholeWords whole
 base-words code = table-word _ refl code
 
 abbrev pub openings : List ℕ
 openings = bytes "    optional< array< array< set< map< result< vec2< vec3< vec4< quat< mat3< mat4< "
 
-opening-words : (tag : ℕ) → word_in openings tag ≡ opening tag
+opening-words : (tag : ℕ) → wordIn openings tag ≡ opening tag
 unfolding opening bytes table wholeWords whole
 opening-words tag = table-word _ refl tag
 
@@ -76,20 +76,20 @@ module _ (s : List ℕ) (node : ℕ) where
   unnamed n = not_named _ (labelIn s node) n
 
   pub leaf-primitive : (labelIn s node).tag ≡ number primitiveTag → {x : ℕ} → x ≡ (labelIn s node).first
-      → showLeaf (nodeIn s node) ≡ word_in (bytes "bool u8 u16 u32 u64 i8 i16 i32 i64 f32 f64 fixed32 fixed64 void ") x
+      → showLeaf (nodeIn s node) ≡ wordIn (bytes "bool u8 u16 u32 u64 i8 i16 i32 i64 f32 f64 fixed32 fixed64 void ") x
   unfolding showLeaf
   leaf-primitive e q = rw (unnamed (λ z. absurd (omega arith)), e, q) (sym (primitive-words (labelIn s node).first))
 
   pub leaf-sub-byte : (labelIn s node).tag ≡ number subByteTag → {x y : ℕ} → x ≡ (labelIn s node).first → y ≡ (labelIn s node).second
-      → showLeaf (nodeIn s node) ≡ together (word_in (bytes "u i ") x ∷ decimal y ∷ [])
+      → showLeaf (nodeIn s node) ≡ together (wordIn (bytes "u i ") x ∷ decimal y ∷ [])
   unfolding showLeaf together
   leaf-sub-byte e p q = rw (unnamed (λ z. absurd (omega arith)), e, p, q, sign-words (labelIn s node).first)
 
-  pub leaf-semantic : (labelIn s node).tag ≡ number semanticTag → {x : ℕ} → x ≡ (labelIn s node).first → showLeaf (nodeIn s node) ≡ word_in (bytes "string bytes rgb uuid timestamp hash ") x
+  pub leaf-semantic : (labelIn s node).tag ≡ number semanticTag → {x : ℕ} → x ≡ (labelIn s node).first → showLeaf (nodeIn s node) ≡ wordIn (bytes "string bytes rgb uuid timestamp hash ") x
   unfolding showLeaf
   leaf-semantic e q = rw (unnamed (λ z. absurd (omega arith)), e, q) (sym (semantic-words (labelIn s node).first))
 
-  pub leaf-named : (labelIn s node).tag ≡ number namedTag → {x : ℕ} → x ≡ (labelIn s node).first → showLeaf (nodeIn s node) ≡ showName (named_by s x)
+  pub leaf-named : (labelIn s node).tag ≡ number namedTag → {x : ℕ} → x ≡ (labelIn s node).first → showLeaf (nodeIn s node) ≡ showName (namedBy s x)
   unfolding showLeaf
   leaf-named e q = rw (named _ (labelIn s node) e, q)
 
@@ -129,7 +129,7 @@ module _ (s : List ℕ) (node inner : ℕ) where
   text-leaf n = rw n.tree
 
   pub text-some : {left : ℕ} → Node left s node inner → (inner ≡ 0 → ⊥) → {x : ℕ} → x ≡ (labelIn s node).tag → {p : ℕ} → p ≡ labelEnd s node
-      → showType (typeIn s node) ≡ together (word_in openings x ∷ showType (typeIn s p) ∷ closing s node inner ∷ [])
+      → showType (typeIn s node) ≡ together (wordIn openings x ∷ showType (typeIn s p) ∷ closing s node inner ∷ [])
   unfolding showType resolve together closing
   text-some n f {x} e {p} q = rw (q, e, opening-words (labelIn s node).tag) (go (eqb inner 1) refl)
     where
@@ -163,7 +163,7 @@ deltas-around (suc n) text =
     ∙ ap (λ (l : List ℕ). d ++ (repeated n d ++ l)) (append_assoc text (repeated n c) c ∙ ap (λ (l : List ℕ). text ++ l) (repeated-last n c))
     ∙ sym (append_assoc d (repeated n d) (text ++ (c ++ repeated n c)))
 
-pub encoding-text : (e : Encoding) → showEncoding (codingOf e) ≡ together (repeated e.deltas (bytes "delta(") ∷ word_in (bytes "default varint zigzag ") e.base ∷ repeated e.deltas (bytes ")") ∷ [])
+pub encoding-text : (e : Encoding) → showEncoding (codingOf e) ≡ together (repeated e.deltas (bytes "delta(") ∷ wordIn (bytes "default varint zigzag ") e.base ∷ repeated e.deltas (bytes ")") ∷ [])
 unfolding showEncoding codingOf together
 encoding-text e = rw (base-words e.base) (deltas-around e.deltas _)
 

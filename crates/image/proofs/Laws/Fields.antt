@@ -7,9 +7,9 @@ use native.Mathlib.Numerals.{sub-one}
 use borrow.Author.Tests.{ne_eqb}
 use lib.ListN.{get_or}
 use Rattle.image.specs.Schema.{Name, Variant}
-use Rattle.image.specs.Parse.{Parsed, ok, no, bind, pick, code_at, number_at, counted}
-use Rattle.image.specs.Names.{name_at}
-use Rattle.image.specs.Types.{type_at}
+use Rattle.image.specs.Parse.{Parsed, ok, no, bind, pick, codeAt, numberAt, counted}
+use Rattle.image.specs.Names.{nameAt}
+use Rattle.image.specs.Types.{typeAt}
 use Rattle.image.specs.Fields.{marksAt, delta, encodingOf, encodingAt, limitAt, fieldAt, bareAt, variantAt}
 use Rattle.image.specs.Reads.{skip}
 use Rattle.image.specs.declared.Read.{Read}
@@ -19,15 +19,15 @@ use Rattle.image.proofs.Laws.Numbers.{There}
 
 -- an encoding of at most `left` deltas: its byte is refused; it is no delta; a delta too many; a delta and an inner encoding
 module _ (left : ℕ) (s : List ℕ) (at : ℕ) where
-  pub encoding-stop : {x : Read} {k : ℕ} → x ≡ Refused k → x ≡ skip (code_at 0 3 s at) → x ≡ skip (encodingOf left s at)
+  pub encoding-stop : {x : Read} {k : ℕ} → x ≡ Refused k → x ≡ skip (codeAt 0 3 s at) → x ≡ skip (encodingOf left s at)
   unfolding encodingOf
   encoding-stop {x} h e = go left
     where
       go : (left : ℕ) → x ≡ skip (encodingOf left s at)
-      go zero = stop (code_at 0 3 s at) _ h e
-      go (suc left) = stop (code_at 0 3 s at) _ h e
+      go zero = stop (codeAt 0 3 s at) _ h e
+      go (suc left) = stop (codeAt 0 3 s at) _ h e
 
-  module _ {n : ℕ} (b : There (code_at 0 3 s at) s at n) where
+  module _ {n : ℕ} (b : There (codeAt 0 3 s at) s at n) where
     pub encoding-plain : (get_or s at 0 ≡ 3 → ⊥) → At n ≡ skip (encodingOf left s at)
     unfolding encodingOf bind skip pick
     encoding-plain d = go left
@@ -50,24 +50,24 @@ module _ (left : ℕ) (s : List ℕ) (at : ℕ) where
 
 -- a limit: its byte is refused; it is 0; it is 1, and a number follows
 module _ (s : List ℕ) (at : ℕ) where
-  pub limit-stop : {x : Read} {k : ℕ} → x ≡ Refused k → x ≡ skip (code_at 0 1 s at) → x ≡ skip (limitAt s at)
+  pub limit-stop : {x : Read} {k : ℕ} → x ≡ Refused k → x ≡ skip (codeAt 0 1 s at) → x ≡ skip (limitAt s at)
   unfolding limitAt
   limit-stop h e = stop _ _ h e
 
-  module _ {n : ℕ} (b : There (code_at 0 1 s at) s at n) where
+  module _ {n : ℕ} (b : There (codeAt 0 1 s at) s at n) where
     pub limit-none : get_or s at 0 ≡ 0 → At n ≡ skip (limitAt s at)
     unfolding limitAt bind skip pick
     limit-none e = simp (b.is, e)
 
-    pub limit-number : (get_or s at 0 ≡ 0 → ⊥) → skip (number_at 8 s n) ≡ skip (limitAt s at)
+    pub limit-number : (get_or s at 0 ≡ 0 → ⊥) → skip (numberAt 8 s n) ≡ skip (limitAt s at)
     unfolding limitAt bind pick
-    limit-number e = simp (b.is, ne_eqb _ _ e) (sym (skip-ok (number_at 8 s n) some))
+    limit-number e = simp (b.is, ne_eqb _ _ e) (sym (skip-ok (numberAt 8 s n) some))
 
 -- what starts with an ordinal and a name starts with a bare item
 bare-first : {B : Type 0} (s : List ℕ) (at : ℕ) (f : ℕ → Name → ℕ → Parsed B)
-    → bind (bareAt s at) (λ v n. f v.ordinal v.name n) ≡ bind (number_at 4 s at) (λ o n. bind (name_at 8 s n) (λ x m. f o x m))
+    → bind (bareAt s at) (λ v n. f v.ordinal v.name n) ≡ bind (numberAt 4 s at) (λ o n. bind (nameAt 8 s n) (λ x m. f o x m))
 unfolding bareAt bind
-bare-first s at f = go (number_at 4 s at)
+bare-first s at f = go (numberAt 4 s at)
   where
     bare : ℕ → Name → Variant
     bare o x = record { ordinal = o; name = x; fields = [] }
@@ -76,29 +76,29 @@ bare-first s at f = go (number_at 4 s at)
     name o (ok x m) = refl
     name o (no k) = refl
 
-    go : (p : Parsed ℕ) → bind (bind p (λ o n. bind (name_at 8 s n) (λ x m. ok (bare o x) m))) (λ v n. f v.ordinal v.name n)
-        ≡ bind p (λ o n. bind (name_at 8 s n) (λ x m. f o x m))
-    go (ok o n) = name o (name_at 8 s n)
+    go : (p : Parsed ℕ) → bind (bind p (λ o n. bind (nameAt 8 s n) (λ x m. ok (bare o x) m))) (λ v n. f v.ordinal v.name n)
+        ≡ bind p (λ o n. bind (nameAt 8 s n) (λ x m. f o x m))
+    go (ok o n) = name o (nameAt 8 s n)
     go (no k) = refl
 
 module _ {B : Type 0} (s : List ℕ) (at : ℕ) (f : ℕ → Name → ℕ → Parsed B) where
   bare-stop : {x : Read} {k : ℕ} → x ≡ Refused k → x ≡ skip (bareAt s at)
-      → x ≡ skip (bind (number_at 4 s at) (λ o n. bind (name_at 8 s n) (λ x m. f o x m)))
+      → x ≡ skip (bind (numberAt 4 s at) (λ o n. bind (nameAt 8 s n) (λ x m. f o x m)))
   bare-stop h e = stop (bareAt s at) _ h e ∙ ap skip (bare-first s at f)
 
   bare-next : {r : Read} {n : ℕ} → Got (bareAt s at) n → ((o : ℕ) (y : Name) → r ≡ skip (f o y n))
-      → r ≡ skip (bind (number_at 4 s at) (λ o n. bind (name_at 8 s n) (λ x m. f o x m)))
+      → r ≡ skip (bind (numberAt 4 s at) (λ o n. bind (nameAt 8 s n) (λ x m. f o x m)))
   bare-next b g = next _ b (λ v. g v.ordinal v.name) ∙ ap skip (bare-first s at f)
 
 module _ (s : List ℕ) (at : ℕ) where
   -- a bare item: its ordinal refused, or its name's answer
-  pub ordinal-stop : {x : Read} {k : ℕ} → x ≡ Refused k → x ≡ skip (number_at 4 s at) → x ≡ skip (bareAt s at)
+  pub ordinal-stop : {x : Read} {k : ℕ} → x ≡ Refused k → x ≡ skip (numberAt 4 s at) → x ≡ skip (bareAt s at)
   unfolding bareAt
   ordinal-stop h e = stop _ _ h e
 
-  pub ordinal-name : {r : Read} {n : ℕ} → Got (number_at 4 s at) n → r ≡ skip (name_at 8 s n) → r ≡ skip (bareAt s at)
+  pub ordinal-name : {r : Read} {n : ℕ} → Got (numberAt 4 s at) n → r ≡ skip (nameAt 8 s n) → r ≡ skip (bareAt s at)
   unfolding bareAt
-  ordinal-name {n = n} o q = next _ o (λ _. q ∙ sym (skip-ok (name_at 8 s n) _))
+  ordinal-name {n = n} o q = next _ o (λ _. q ∙ sym (skip-ok (nameAt 8 s n) _))
 
   -- a variant of a union: its ordinal and name refused, or its fields' answer
   pub variant-stop : {x : Read} {k : ℕ} → x ≡ Refused k → x ≡ skip (bareAt s at) → x ≡ skip (variantAt s at)
@@ -129,11 +129,11 @@ module _ (s : List ℕ) (at : ℕ) where
         unfolding fieldAt
         field-limit h q = bare-next s at _ b (λ _ _. next _ m (λ _. next _ e (λ _. stop _ _ h q)))
 
-        pub field-type : {n₄ : ℕ} → Got (limitAt s n₃) n₄ → {r : Read} → r ≡ skip (type_at s n₄) → r ≡ skip (fieldAt s at)
+        pub field-type : {n₄ : ℕ} → Got (limitAt s n₃) n₄ → {r : Read} → r ≡ skip (typeAt s n₄) → r ≡ skip (fieldAt s at)
         unfolding fieldAt
         field-type {n₄} l q =
             bare-next s at _ b (λ _ _.
             next _ m (λ _.
             next _ e (λ _.
             next _ l (λ _.
-            q ∙ sym (skip-ok (type_at s n₄) _)))))
+            q ∙ sym (skip-ok (typeAt s n₄) _)))))

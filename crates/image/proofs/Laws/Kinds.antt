@@ -3,7 +3,7 @@ use mathlib.Core.Path.{◌≡◌, refl}
 use Prim.Native.Nat.{ℕ, zero, suc, ◌≤◌, ◌<◌}
 use native.Mathlib.Omega.{arith}
 use lib.ListN.{length, get_or}
-use Rattle.image.specs.Kinds.{Kind, kind_of}
+use Rattle.image.specs.Kinds.{Kind, kindOf}
 use Rattle.image.specs.Codes.{number, messageKind, enumKind, flagsKind, unionKind, newtypeKind, configKind, aliasKind, traitKind, implKind}
 use Rattle.image.specs.Words.{bytes, kindName, kindNames}
 
@@ -19,8 +19,8 @@ pub data Says : ℕ → Kind → Type 0 where
   impl : Says (number implKind) Kind.impl
   other : (n : ℕ) → (number implKind) < n → Says n Kind.other
 
-pub says : (n : ℕ) → Says n (kind_of n)
-unfolding kind_of
+pub says : (n : ℕ) → Says n (kindOf n)
+unfolding kindOf
 says zero = message
 says (suc zero) = enum
 says (suc (suc zero)) = flags
@@ -33,8 +33,8 @@ says (suc (suc (suc (suc (suc (suc (suc (suc zero)))))))) = impl
 says (suc (suc (suc (suc (suc (suc (suc (suc (suc k))))))))) = other (suc (suc (suc (suc (suc (suc (suc (suc (suc k))))))))) (omega arith)
 
 -- the words of kinds: the table has each at its number, and none is longer than `generic_alias`
-pub kind-named : (n : ℕ) → get_or kindNames n "" ≡ kindName (kind_of n)
-unfolding kind_of
+pub kind-named : (n : ℕ) → get_or kindNames n "" ≡ kindName (kindOf n)
+unfolding kindOf
 kind-named zero = refl
 kind-named (suc zero) = refl
 kind-named (suc (suc zero)) = refl

@@ -9,29 +9,29 @@ use native.Mathlib.Numerals.{add-one}
 use borrow.Author.Tests.{le-leb, lt-leb, lt-ltb, le-ltb}
 use lib.ListN.{length, get_or, take, drop, length-take, length-drop}
 use lib.Seq.{drop-cons}
-use Rattle.image.specs.Parse.{bind, pick, part, byte_at}
-use Rattle.image.specs.Names.{nameByte, nameBytes, name_at}
+use Rattle.image.specs.Parse.{bind, pick, part, byteAt}
+use Rattle.image.specs.Names.{nameByte, nameBytes, nameAt}
 use Rattle.image.specs.Reads.{skip}
 use Rattle.image.specs.declared.Read.TheVariants.{At, Refused}
 
 -- the length is past the end; the bytes run past the end; one is not allowed; all are
 module _ (short : ℕ) (s : List ℕ) (at : ℕ) where
-  pub name-past : length s ≤ at → Refused short ≡ skip (name_at short s at)
-  unfolding name_at byte_at bind skip pick
+  pub name-past : length s ≤ at → Refused short ≡ skip (nameAt short s at)
+  unfolding nameAt byteAt bind skip pick
   name-past h = rw (le-ltb at (length s) h)
 
   module _ (h : at < length s) where
-    pub name-long : length s < at + 1 + get_or s at 0 → Refused short ≡ skip (name_at short s at)
-    unfolding name_at byte_at bind skip pick
+    pub name-long : length s < at + 1 + get_or s at 0 → Refused short ≡ skip (nameAt short s at)
+    unfolding nameAt byteAt bind skip pick
     name-long l = rw (lt-ltb at (length s) h, lt-leb (at + 1 + get_or s at 0) (length s) l)
 
     module _ (l : at + 1 + get_or s at 0 ≤ length s) where
-      pub name-bad : nameBytes (part (at + 1) (get_or s at 0) s) ≡ false → Refused 7 ≡ skip (name_at short s at)
-      unfolding name_at byte_at bind skip pick
+      pub name-bad : nameBytes (part (at + 1) (get_or s at 0) s) ≡ false → Refused 7 ≡ skip (nameAt short s at)
+      unfolding nameAt byteAt bind skip pick
       name-bad e = rw (lt-ltb at (length s) h, le-leb (at + 1 + get_or s at 0) (length s) l, e)
 
-      pub name-good : nameBytes (part (at + 1) (get_or s at 0) s) ≡ true → At (at + 1 + get_or s at 0) ≡ skip (name_at short s at)
-      unfolding name_at byte_at bind skip pick
+      pub name-good : nameBytes (part (at + 1) (get_or s at 0) s) ≡ true → At (at + 1 + get_or s at 0) ≡ skip (nameAt short s at)
+      unfolding nameAt byteAt bind skip pick
       name-good e = rw (lt-ltb at (length s) h, le-leb (at + 1 + get_or s at 0) (length s) l, e)
 
 -- a part is no longer than its count, nor than what is there

@@ -8,7 +8,7 @@ use native.Mathlib.Nat.{pow-suc, pow-le-pow_right}
 use borrow.Author.Tests.{le-leb, lt-leb, lt-ltb, le-ltb}
 use lib.ListN.{length, get_or, drop}
 use lib.Seq.{drop-drop, get_or-drop}
-use Rattle.image.specs.Parse.{Parsed, ok, bind, pick, littleEndian, byte_at, code_at, number_at}
+use Rattle.image.specs.Parse.{Parsed, ok, bind, pick, littleEndian, byteAt, codeAt, numberAt}
 use Rattle.image.specs.Reads.{skip}
 use Rattle.image.specs.declared.Read.{Read}
 use Rattle.image.specs.declared.Read.TheVariants.{At, Refused}
@@ -17,31 +17,31 @@ use Rattle.image.proofs.Laws.Sure.{sure-at, byte-sure, code-sure, number-sure}
 
 -- a byte past the end, or there
 module _ (short : ℕ) (s : List ℕ) (at : ℕ) where
-  pub byte_past : length s ≤ at → Refused short ≡ skip (byte_at short s at)
-  unfolding byte_at skip pick
+  pub byte_past : length s ≤ at → Refused short ≡ skip (byteAt short s at)
+  unfolding byteAt skip pick
   byte_past h = rw (le-ltb at (length s) h)
 
-  pub byte-at : at < length s → At (at + 1) ≡ skip (byte_at short s at)
-  unfolding byte_at skip pick
+  pub byte-at : at < length s → At (at + 1) ≡ skip (byteAt short s at)
+  unfolding byteAt skip pick
   byte-at h = rw (lt-ltb at (length s) h)
 
 -- a coded byte past the end, too low, too high, or allowed
 module _ (lo hi : ℕ) (s : List ℕ) (at : ℕ) where
-  pub code-past : length s ≤ at → Refused 8 ≡ skip (code_at lo hi s at)
-  unfolding code_at byte_at bind skip pick
+  pub code-past : length s ≤ at → Refused 8 ≡ skip (codeAt lo hi s at)
+  unfolding codeAt byteAt bind skip pick
   code-past h = rw (le-ltb at (length s) h)
 
   module _ (there : at < length s) where
-    pub code-low : get_or s at 0 < lo → Refused 9 ≡ skip (code_at lo hi s at)
-    unfolding code_at byte_at bind skip pick
+    pub code-low : get_or s at 0 < lo → Refused 9 ≡ skip (codeAt lo hi s at)
+    unfolding codeAt byteAt bind skip pick
     code-low h = rw (lt-ltb at (length s) there, lt-leb lo (get_or s at 0) h)
 
-    pub code-high : hi < get_or s at 0 → Refused 9 ≡ skip (code_at lo hi s at)
-    unfolding code_at byte_at bind skip pick
+    pub code-high : hi < get_or s at 0 → Refused 9 ≡ skip (codeAt lo hi s at)
+    unfolding codeAt byteAt bind skip pick
     code-high h = simp (lt-ltb at (length s) there, lt-leb (get_or s at 0) hi h, and-false)
 
-    pub code-at : lo ≤ get_or s at 0 → get_or s at 0 ≤ hi → At (at + 1) ≡ skip (code_at lo hi s at)
-    unfolding code_at byte_at bind skip pick
+    pub code-at : lo ≤ get_or s at 0 → get_or s at 0 ≤ hi → At (at + 1) ≡ skip (codeAt lo hi s at)
+    unfolding codeAt byteAt bind skip pick
     code-at l h = rw (lt-ltb at (length s) there, le-leb lo (get_or s at 0) l, le-leb (get_or s at 0) hi h)
 
 -- what a read tells that was not refused: the byte is there, and is the value
@@ -52,30 +52,30 @@ pub record There (p : Parsed ℕ) (s : List ℕ) (at n : ℕ) : Type 0 where
 pub there-got : {p : Parsed ℕ} {s : List ℕ} {at n : ℕ} → There p s at n → Got p n
 there-got {s = s} {at = at} b = record { value = get_or s at 0; is = b.is }
 
-pub byte-there : (short : ℕ) (s : List ℕ) (at : ℕ) {x : Read} {n : ℕ} → x ≡ At n → x ≡ skip (byte_at short s at)
-    → There (byte_at short s at) s at n
+pub byte-there : (short : ℕ) (s : List ℕ) (at : ℕ) {x : Read} {n : ℕ} → x ≡ At n → x ≡ skip (byteAt short s at)
+    → There (byteAt short s at) s at n
 byte-there short s at {n = n} h e =
     let (b, q, r) = sure-at (byte-sure short s at) h e in
     record { inside = (let i = r.inside in let j = r.next in omega arith); is = q ∙ ap (λ (v : ℕ). ok v n) r.value }
 
-pub code-there : (lo hi : ℕ) (s : List ℕ) (at : ℕ) {x : Read} {n : ℕ} → x ≡ At n → x ≡ skip (code_at lo hi s at)
-    → There (code_at lo hi s at) s at n
+pub code-there : (lo hi : ℕ) (s : List ℕ) (at : ℕ) {x : Read} {n : ℕ} → x ≡ At n → x ≡ skip (codeAt lo hi s at)
+    → There (codeAt lo hi s at) s at n
 code-there lo hi s at {n = n} h e =
     let (b, q, r) = sure-at (code-sure lo hi s at) h e in
     record { inside = (let i = r.byte.inside in let j = r.byte.next in omega arith); is = q ∙ ap (λ (v : ℕ). ok v n) r.byte.value }
 
 -- a number of w bytes runs past the end, or stands there
 module _ (w : ℕ) (s : List ℕ) (at : ℕ) where
-  pub number_short : length s < at + w → Refused 8 ≡ skip (number_at w s at)
-  unfolding number_at skip pick
+  pub number_short : length s < at + w → Refused 8 ≡ skip (numberAt w s at)
+  unfolding numberAt skip pick
   number_short h = rw (lt-leb (at + w) (length s) h)
 
-  pub number-at : at + w ≤ length s → At (at + w) ≡ skip (number_at w s at)
-  unfolding number_at skip pick
+  pub number-at : at + w ≤ length s → At (at + w) ≡ skip (numberAt w s at)
+  unfolding numberAt skip pick
   number-at h = rw (le-leb (at + w) (length s) h)
 
-  module _ {x : Read} {n : ℕ} (h : x ≡ At n) (e : x ≡ skip (number_at w s at)) where
-    pub number_is : number_at w s at ≡ ok (littleEndian w (drop at s)) n
+  module _ {x : Read} {n : ℕ} (h : x ≡ At n) (e : x ≡ skip (numberAt w s at)) where
+    pub number_is : numberAt w s at ≡ ok (littleEndian w (drop at s)) n
     number_is =
         let (v, q, r) = sure-at (number-sure w s at) h e in
         q ∙ ap (λ (v : ℕ). ok v n) r.value

@@ -6,7 +6,7 @@ use Prim.Native.Nat.{ℕ, zero, suc, ◌+◌, ◌-◌, ◌<◌}
 use native.Mathlib.Omega.{arith}
 use native.Mathlib.Numerals.{sub-one}
 use lib.ListN.{length, drop}
-use Rattle.image.specs.Parse.{Parsed, littleEndian, number_at, many, counted}
+use Rattle.image.specs.Parse.{Parsed, littleEndian, numberAt, many, counted}
 use Rattle.image.specs.Image.{idsFrom}
 use Rattle.image.specs.Reads.{skip}
 use Rattle.image.specs.declared.Read.{Read}
@@ -37,11 +37,11 @@ module _ {A : Type 0} (p : List ℕ → ℕ → Parsed A) (c : ℕ) (s : List �
 
 -- a count, and as many
 module _ {A : Type 0} (p : List ℕ → ℕ → Parsed A) (s : List ℕ) (at : ℕ) where
-  pub counted_stop : {x : Read} {k : ℕ} → x ≡ Refused k → x ≡ skip (number_at 2 s at) → x ≡ skip (counted p s at)
+  pub counted_stop : {x : Read} {k : ℕ} → x ≡ Refused k → x ≡ skip (numberAt 2 s at) → x ≡ skip (counted p s at)
   unfolding counted
-  counted_stop h e = stop (number_at 2 s at) _ h e
+  counted_stop h e = stop (numberAt 2 s at) _ h e
 
-  counted-as : {x y : Read} {c n : ℕ} → x ≡ At n → x ≡ skip (number_at 2 s at) → c ≡ littleEndian 2 (drop at s) → y ≡ skip (many p c s n)
+  counted-as : {x y : Read} {c n : ℕ} → x ≡ At n → x ≡ skip (numberAt 2 s at) → c ≡ littleEndian 2 (drop at s) → y ≡ skip (many p c s n)
       → y ≡ skip (counted p s at)
   unfolding counted
   counted-as h e q r = next-is _ (number_is 2 s at h e) (rw q at r)
@@ -51,7 +51,7 @@ pub record Rest {A : Type 0} (p : List ℕ → ℕ → Parsed A) (s : List ℕ) 
   pub answer : skip (many p left s here) ≡ skip (counted p s at)
 
 pub rest-start : {A : Type 0} (p : List ℕ → ℕ → Parsed A) (s : List ℕ) (at : ℕ) {x : Read} {c n : ℕ} → x ≡ At n
-    → x ≡ skip (number_at 2 s at) → c ≡ littleEndian 2 (drop at s) → Rest p s at n c
+    → x ≡ skip (numberAt 2 s at) → c ≡ littleEndian 2 (drop at s) → Rest p s at n c
 rest-start p s at h e q = record { answer = counted-as p s at h e q refl }
 
 module _ {A : Type 0} {p : List ℕ → ℕ → Parsed A} {s : List ℕ} {at here left : ℕ} (rest : Rest p s at here left) where

@@ -9,12 +9,12 @@ use borrow.Author.Tests.{ltb-true, leb-true}
 use lib.ListN.{length, get_or, drop, length-drop}
 use lib.Dec.{leb}
 use Rattle.image.specs.Schema.{Label, Ty}
-use Rattle.image.specs.Parse.{Parsed, ok, no, bind, pick, shift, within, part, byte_at, code_at, littleEndian, number_at, many, counted}
-use Rattle.image.specs.Names.{nameBytes, name_at, names_at}
-use Rattle.image.specs.Types.{Follows, code, subByte, identity, size, nothing, bits, unknown, followsTag, innerTypes, afterTag, label_of}
-use Rattle.image.specs.Types.{inner_at, type_of, type_at}
+use Rattle.image.specs.Parse.{Parsed, ok, no, bind, pick, shift, within, part, byteAt, codeAt, littleEndian, numberAt, many, counted}
+use Rattle.image.specs.Names.{nameBytes, nameAt, namesAt}
+use Rattle.image.specs.Types.{Follows, code, subByte, identity, size, nothing, bits, unknown, followsTag, innerTypes, afterTag, labelOf}
+use Rattle.image.specs.Types.{innerAt, typeOf, typeAt}
 use Rattle.image.specs.Fields.{marksAt, encodingOf, encodingAt, limitAt, fieldAt, bareAt, variantAt}
-use Rattle.image.specs.Image.{entryCount, idCount, segmentCount, head_of}
+use Rattle.image.specs.Image.{entryCount, idCount, segmentCount, headOf}
 use Rattle.image.specs.Reads.{skip}
 use Rattle.image.specs.declared.Read.{Read}
 use Rattle.image.specs.declared.Read.TheVariants.{At}
@@ -68,8 +68,8 @@ pub record Byte (s : List ℕ) (at b n : ℕ) : Type 0 where
   pub next : n ≡ at + 1
   pub inside : n ≤ length s
 
-pub byte-sure : (short : ℕ) (s : List ℕ) (at : ℕ) → Sure (Byte s at) (byte_at short s at)
-unfolding byte_at
+pub byte-sure : (short : ℕ) (s : List ℕ) (at : ℕ) → Sure (Byte s at) (byteAt short s at)
+unfolding byteAt
 byte-sure short s at =
     sure-need _ _ (λ h. sure-ok (record { value = refl; next = refl; inside = (let l : at < length s = ltb-true _ _ h in omega arith) }))
 
@@ -87,8 +87,8 @@ between lo hi b h = go (leb lo b) (leb b hi) refl refl h
     go true false p q h = absurd (false≢true h)
     go false d p q h = absurd (false≢true h)
 
-pub code-sure : (lo hi : ℕ) (s : List ℕ) (at : ℕ) → Sure (Coded lo hi s at) (code_at lo hi s at)
-unfolding code_at
+pub code-sure : (lo hi : ℕ) (s : List ℕ) (at : ℕ) → Sure (Coded lo hi s at) (codeAt lo hi s at)
+unfolding codeAt
 code-sure lo hi s at =
     sure-bind _ (byte-sure 8 s at) (λ b n q.
     sure-need _ _ (λ h. sure-ok (let r = between lo hi b h in record { byte = q; low = r.0; high = r.1 })))
@@ -99,8 +99,8 @@ pub record Number (w : ℕ) (s : List ℕ) (at v n : ℕ) : Type 0 where
   pub next : n ≡ at + w
   pub inside : n ≤ length s
 
-pub number-sure : (w : ℕ) (s : List ℕ) (at : ℕ) → Sure (Number w s at) (number_at w s at)
-unfolding number_at
+pub number-sure : (w : ℕ) (s : List ℕ) (at : ℕ) → Sure (Number w s at) (numberAt w s at)
+unfolding numberAt
 number-sure w s at = sure-need _ _ (λ h. sure-ok (record { value = refl; next = refl; inside = leb-true _ _ h }))
 
 -- a name's bytes, and where it ends
@@ -111,8 +111,8 @@ pub record Named (s : List ℕ) (at : ℕ) (x : List ℕ) (n : ℕ) : Type 0 whe
   pub next : n ≡ at + 1 + get_or s at 0
   pub inside : n ≤ length s
 
-pub name-sure : (short : ℕ) (s : List ℕ) (at : ℕ) → Sure (Named s at) (name_at short s at)
-unfolding name_at
+pub name-sure : (short : ℕ) (s : List ℕ) (at : ℕ) → Sure (Named s at) (nameAt short s at)
+unfolding nameAt
 name-sure short s at =
     sure-bind _ (byte-sure short s at) (λ k n q.
     sure-need _ _ (λ h. sure-need _ _ (λ g. sure-ok (name_of k n q (leb-true _ _ h) g))))
@@ -133,9 +133,9 @@ unfolding many
 many-sure p s q zero at h = sure-ok h
 many-sure p s q (suc c) at h = sure-bind _ (q at h) (λ x n i. sure-bind _ (many-sure p s q c n i) (λ xs m j. sure-ok j))
 
-pub names-sure : (short c : ℕ) (s : List ℕ) (at : ℕ) → at ≤ length s → Sure (In s) (names_at short c s at)
-unfolding names_at
-names-sure short c s at h = many-sure (name_at short) s (λ at _. sure-then (name-sure short s at) (λ x n q. q.inside)) c at h
+pub names-sure : (short c : ℕ) (s : List ℕ) (at : ℕ) → at ≤ length s → Sure (In s) (namesAt short c s at)
+unfolding namesAt
+names-sure short c s at h = many-sure (nameAt short) s (λ at _. sure-then (name-sure short s at) (λ x n q. q.inside)) c at h
 
 -- a label has its tag
 abbrev pub Tagged : ℕ → List ℕ → Label → ℕ → Type 0
@@ -159,8 +159,8 @@ pub record Labelled (s : List ℕ) (l : Label) (n : ℕ) : Type 0 where
   pub there : 0 < length s
   pub inside : n ≤ length s
 
-pub label-sure : (s : List ℕ) → Sure (Labelled s) (label_of s)
-unfolding label_of
+pub label-sure : (s : List ℕ) → Sure (Labelled s) (labelOf s)
+unfolding labelOf
 label-sure s =
     sure-bind _ (byte-sure 8 s 0) (λ b n q.
     sure-then (tag-sure b (followsTag b) s n q.inside) (λ l m r.
@@ -180,25 +180,25 @@ unfolding within
 within-sure p s at h q = shift-sure s at h q
 
 inner-sure : (p : List ℕ → Parsed Ty) → ((t : List ℕ) → Sure (In t) (p t)) → (i : ℕ) (l : Label) (s : List ℕ) (at : ℕ) → at ≤ length s
-    → Sure (In s) (inner_at i l p s at)
-unfolding inner_at
+    → Sure (In s) (innerAt i l p s at)
+unfolding innerAt
 inner-sure p q zero l s at h = sure-ok h
 inner-sure p q (suc zero) l s at h = sure-bind _ (within-sure p s at h (q (drop at s))) (λ t n r. sure-ok r)
 inner-sure p q (suc (suc k)) l s at h =
     sure-bind _ (within-sure p s at h (q (drop at s))) (λ t n r.
     sure-bind _ (within-sure p s n r (q (drop n s))) (λ u m o. sure-ok o))
 
-pub type-sure : (d : ℕ) (s : List ℕ) → Sure (In s) (type_of d s)
-unfolding type_of
+pub type-sure : (d : ℕ) (s : List ℕ) → Sure (In s) (typeOf d s)
+unfolding typeOf
 type-sure zero s = sure-no
 type-sure (suc d) s =
-    sure-bind _ (label-sure s) (λ l n q. inner-sure (type_of d) (λ t. type-sure d t) (innerTypes l.tag) l s n q.inside)
+    sure-bind _ (label-sure s) (λ l n q. inner-sure (typeOf d) (λ t. type-sure d t) (innerTypes l.tag) l s n q.inside)
 
 -- codes and numbers, marks, encodings, limits and items end within the list, wherever they start
-pub code_in : (lo hi : ℕ) (s : List ℕ) (at : ℕ) → Sure (In s) (code_at lo hi s at)
+pub code_in : (lo hi : ℕ) (s : List ℕ) (at : ℕ) → Sure (In s) (codeAt lo hi s at)
 code_in lo hi s at = sure-then (code-sure lo hi s at) (λ b n q. q.byte.inside)
 
-pub number_in : (w : ℕ) (s : List ℕ) (at : ℕ) → Sure (In s) (number_at w s at)
+pub number_in : (w : ℕ) (s : List ℕ) (at : ℕ) → Sure (In s) (numberAt w s at)
 number_in w s at = sure-then (number-sure w s at) (λ v n q. q.inside)
 
 pub marks-sure : (s : List ℕ) (at : ℕ) → Sure (In s) (marksAt s at)
@@ -227,14 +227,14 @@ unfolding bareAt
 bare-sure s at = sure-bind _ (number_in 4 s at) (λ o n q. sure-bind _ (name-sure 8 s n) (λ x m r. sure-ok r.inside))
 
 pub field-sure : (s : List ℕ) (at : ℕ) → Sure (In s) (fieldAt s at)
-unfolding fieldAt type_at
+unfolding fieldAt typeAt
 field-sure s at =
     sure-bind _ (number_in 4 s at) (λ o n₁ _.
     sure-bind _ (name-sure 8 s n₁) (λ x n₂ _.
     sure-bind _ (marks-sure s n₂) (λ m n₃ _.
     sure-bind _ (encoding-sure s n₃) (λ e n₄ _.
     sure-bind _ (limit-sure s n₄) (λ l n₅ q.
-    sure-bind _ (within-sure (type_of 32) s n₅ q (type-sure 32 (drop n₅ s))) (λ t n₆ r. sure-ok r))))))
+    sure-bind _ (within-sure (typeOf 32) s n₅ q (type-sure 32 (drop n₅ s))) (λ t n₆ r. sure-ok r))))))
 
 counted-sure : {A : Type 0} (p : List ℕ → ℕ → Parsed A) (s : List ℕ) → ((at : ℕ) → Sure (In s) (p s at)) → (at : ℕ)
     → Sure (In s) (counted p s at)
@@ -254,8 +254,8 @@ pub record Head (s : List ℕ) : Type 0 where
   pub least : 8 ≤ length s
   pub counts : (leb (entryCount s) 512 && (leb (idCount s) 512 && leb (segmentCount s) 16)) ≡ true
 
-pub head-sure : (s : List ℕ) → Sure (λ _ _. Head s) (head_of s)
-unfolding head_of
+pub head-sure : (s : List ℕ) → Sure (λ _ _. Head s) (headOf s)
+unfolding headOf
 head-sure s =
     sure-need _ _ (λ a. sure-need _ _ (λ b. sure-need _ _ (λ _. sure-need _ _ (λ c.
     sure-ok (record { most = leb-true (length s) 32768 a; least = leb-true 8 (length s) b; counts = c })))))

@@ -10,9 +10,9 @@ use lib.ListN.{length, get_or, take, drop, length-drop}
 use lib.Seq.{take_all}
 use lib.Dec.{leb, eqb}
 use Rattle.image.specs.Schema.{Label, Ty}
-use Rattle.image.specs.Parse.{Parsed, bind, within, byte_at}
-use Rattle.image.specs.Names.{names_at}
-use Rattle.image.specs.Types.{Follows, nothing, bits, unknown, followsTag, innerTypes, afterTag, label_of, inner_at, type_of}
+use Rattle.image.specs.Parse.{Parsed, bind, within, byteAt}
+use Rattle.image.specs.Names.{namesAt}
+use Rattle.image.specs.Types.{Follows, nothing, bits, unknown, followsTag, innerTypes, afterTag, labelOf, innerAt, typeOf}
 use Rattle.image.specs.Reads.{skip}
 use Rattle.image.specs.declared.Read.{Read}
 use Rattle.image.specs.declared.Read.TheVariants.{At, Refused}
@@ -27,9 +27,9 @@ from_start p s n h =
     h ∙ ap (λ (l : List ℕ). skip (p l)) (take_all (length s - n) (drop n s) (let e = length-drop n s in omega arith))
 
 -- a label whose tag is t, by what follows t
-pub label-by : (s : List ℕ) {n : ℕ} {x : Read} (t : ℕ) (f : Follows) → There (byte_at 8 s 0) s 0 n → get_or s 0 0 ≡ t → followsTag t ≡ f
-    → x ≡ skip (afterTag t f s n) → x ≡ skip (label_of s)
-unfolding label_of bind
+pub label-by : (s : List ℕ) {n : ℕ} {x : Read} (t : ℕ) (f : Follows) → There (byteAt 8 s 0) s 0 n → get_or s 0 0 ≡ t → followsTag t ≡ f
+    → x ≡ skip (afterTag t f s n) → x ≡ skip (labelOf s)
+unfolding labelOf bind
 label-by s t f b k q e = simp (b.is, k, q) e
 
 -- at most two inner types
@@ -55,10 +55,10 @@ follows-unknown tag f h =
     rw (ne 0 (omega arith), ne 1 (omega arith), ne 2 (omega arith), ne 3 (omega arith), ne 6 (omega arith), ne_eqb tag 16 f, lt-leb tag 15 h)
 
 -- bits: a count and as many names
-pub bits-as : (s : List ℕ) (at : ℕ) {n : ℕ} {x : Read} → There (byte_at 8 s at) s at n → x ≡ skip (names_at 8 (get_or s at 0) s n)
+pub bits-as : (s : List ℕ) (at : ℕ) {n : ℕ} {x : Read} → There (byteAt 8 s at) s at n → x ≡ skip (namesAt 8 (get_or s at 0) s n)
     → x ≡ skip (afterTag 16 bits s at)
 unfolding afterTag
-bits-as s at {n} b e = next-is _ b.is (e ∙ sym (skip-ok (names_at 8 (get_or s at 0) s n) _))
+bits-as s at {n} b e = next-is _ b.is (e ∙ sym (skip-ok (namesAt 8 (get_or s at 0) s n) _))
 
 -- how many inner types
 pub inner_below : (tag : ℕ) → tag < 4 → 0 ≡ innerTypes tag
@@ -79,32 +79,32 @@ inner-single tag lo hi f g = simp (le-leb 4 tag lo, le-leb tag 15 hi) (go (leb 8
     go false b p q = refl
 
 -- a type that is refused before its tag is read, or by its label
-pub type-deep : (d : ℕ) (s : List ℕ) → d ≡ 0 → Refused 10 ≡ skip (type_of d s)
-unfolding type_of skip
+pub type-deep : (d : ℕ) (s : List ℕ) → d ≡ 0 → Refused 10 ≡ skip (typeOf d s)
+unfolding typeOf skip
 type-deep d s e = rw e
 
-pub type-stop : (d : ℕ) (s : List ℕ) {x : Read} {k : ℕ} → (d ≡ 0 → ⊥) → x ≡ Refused k → x ≡ skip (label_of s) → x ≡ skip (type_of d s)
-unfolding type_of
+pub type-stop : (d : ℕ) (s : List ℕ) {x : Read} {k : ℕ} → (d ≡ 0 → ⊥) → x ≡ Refused k → x ≡ skip (labelOf s) → x ≡ skip (typeOf d s)
+unfolding typeOf
 type-stop zero s p h e = absurd (p refl)
-type-stop (suc d) s p h e = stop (label_of s) _ h e
+type-stop (suc d) s p h e = stop (labelOf s) _ h e
 
 -- a type whose label was read goes on with its inner types
-pub type-label : (d : ℕ) (s : List ℕ) {x r : Read} {n : ℕ} → (d ≡ 0 → ⊥) → x ≡ At n → x ≡ skip (label_of s)
-    → ((l : Label) → r ≡ skip (inner_at (innerTypes (get_or s 0 0)) l (type_of (d - 1)) s n)) → r ≡ skip (type_of d s)
-unfolding type_of
+pub type-label : (d : ℕ) (s : List ℕ) {x r : Read} {n : ℕ} → (d ≡ 0 → ⊥) → x ≡ At n → x ≡ skip (labelOf s)
+    → ((l : Label) → r ≡ skip (innerAt (innerTypes (get_or s 0 0)) l (typeOf (d - 1)) s n)) → r ≡ skip (typeOf d s)
+unfolding typeOf
 type-label zero s p h e g = absurd (p refl)
 type-label (suc d) s {n = n} p h e g =
     let (l, q, r) = sure-at (label-sure s) h e in
-    next-is _ q (rw sub-one at (g l) ∙ ap (λ (tag : ℕ). skip (inner_at (innerTypes tag) l (type_of d) s n)) (sym r.tagged))
+    next-is _ q (rw sub-one at (g l) ∙ ap (λ (tag : ℕ). skip (innerAt (innerTypes tag) l (typeOf d) s n)) (sym r.tagged))
 
 -- where a label ends
-pub label-within : (s : List ℕ) {x : Read} {n : ℕ} → x ≡ At n → x ≡ skip (label_of s) → (0 < length s) × (n ≤ length s)
+pub label-within : (s : List ℕ) {x : Read} {n : ℕ} → x ≡ At n → x ≡ skip (labelOf s) → (0 < length s) × (n ≤ length s)
 label-within s h e =
     let (l, q, r) = sure-at (label-sure s) h e in
     (r.there, r.inside)
 
 -- where an inner type ends
-pub inner-within : (d : ℕ) (s : List ℕ) (at : ℕ) {x : Read} {n : ℕ} → at ≤ length s → x ≡ At n → x ≡ skip (type_of d (drop at s))
+pub inner-within : (d : ℕ) (s : List ℕ) (at : ℕ) {x : Read} {n : ℕ} → at ≤ length s → x ≡ At n → x ≡ skip (typeOf d (drop at s))
     → at + n ≤ length s
 inner-within d s at l h e =
     let (t, q, r) = sure-at (type-sure d (drop at s)) h e in
@@ -113,36 +113,36 @@ inner-within d s at l h e =
 
 -- the inner types: none; the first refused; one; the second refused; two
 module _ (i : ℕ) (l : Label) (p : List ℕ → Parsed Ty) (s : List ℕ) (at : ℕ) where
-  pub inner-none : i ≡ 0 → At at ≡ skip (inner_at i l p s at)
-  unfolding inner_at skip
+  pub inner-none : i ≡ 0 → At at ≡ skip (innerAt i l p s at)
+  unfolding innerAt skip
   inner-none e = rw e
 
-  pub inner-stop : {x : Read} {k : ℕ} → (i ≡ 0 → ⊥) → x ≡ Refused k → x ≡ skip (p (drop at s)) → x ≡ skip (inner_at i l p s at)
-  unfolding inner_at
+  pub inner-stop : {x : Read} {k : ℕ} → (i ≡ 0 → ⊥) → x ≡ Refused k → x ≡ skip (p (drop at s)) → x ≡ skip (innerAt i l p s at)
+  unfolding innerAt
   inner-stop {x} f h e = go i f
     where
-      go : (j : ℕ) → (j ≡ 0 → ⊥) → x ≡ skip (inner_at j l p s at)
+      go : (j : ℕ) → (j ≡ 0 → ⊥) → x ≡ skip (innerAt j l p s at)
       go zero f = absurd (f refl)
       go (suc zero) f = stop _ _ h (within-no p s at h e)
       go (suc (suc j)) f = stop _ _ h (within-no p s at h e)
 
-  pub inner-one : {x : Read} {n : ℕ} → i ≡ 1 → x ≡ At n → x ≡ skip (p (drop at s)) → At (at + n) ≡ skip (inner_at i l p s at)
-  unfolding inner_at
+  pub inner-one : {x : Read} {n : ℕ} → i ≡ 1 → x ≡ At n → x ≡ skip (p (drop at s)) → At (at + n) ≡ skip (innerAt i l p s at)
+  unfolding innerAt
   inner-one {x} {n} q h e = rw q (within-at p s at h e ∙ sym (skip-ok _ _))
 
   module _ {x : Read} {n : ℕ} (f : i ≡ 0 → ⊥) (g : i ≡ 1 → ⊥) (h : x ≡ At n) (e : x ≡ skip (p (drop at s))) where
-    inner-second : {r : Read} → r ≡ skip (within p s (at + n)) → r ≡ skip (inner_at i l p s at)
-    unfolding inner_at
+    inner-second : {r : Read} → r ≡ skip (within p s (at + n)) → r ≡ skip (innerAt i l p s at)
+    unfolding innerAt
     inner-second {r} e' = go i f g
       where
-        go : (j : ℕ) → (j ≡ 0 → ⊥) → (j ≡ 1 → ⊥) → r ≡ skip (inner_at j l p s at)
+        go : (j : ℕ) → (j ≡ 0 → ⊥) → (j ≡ 1 → ⊥) → r ≡ skip (innerAt j l p s at)
         go zero f g = absurd (f refl)
         go (suc zero) f g = absurd (g refl)
         go (suc (suc j)) f g =
             next _ (got refl (within-at p s at h e)) (λ t. e' ∙ sym (skip-ok (within p s (at + n)) _))
 
-    pub inner-two-stop : {y : Read} {k : ℕ} → y ≡ Refused k → y ≡ skip (p (drop (at + n) s)) → y ≡ skip (inner_at i l p s at)
+    pub inner-two-stop : {y : Read} {k : ℕ} → y ≡ Refused k → y ≡ skip (p (drop (at + n) s)) → y ≡ skip (innerAt i l p s at)
     inner-two-stop h' e' = inner-second (within-no p s (at + n) h' e')
 
-    pub inner-two : {y : Read} {m : ℕ} → y ≡ At m → y ≡ skip (p (drop (at + n) s)) → At (at + n + m) ≡ skip (inner_at i l p s at)
+    pub inner-two : {y : Read} {m : ℕ} → y ≡ At m → y ≡ skip (p (drop (at + n) s)) → At (at + n + m) ≡ skip (innerAt i l p s at)
     inner-two h' e' = inner-second (within-at p s (at + n) h' e')

@@ -11,8 +11,8 @@ use lib.Dec.{eqb, ltb}
 use lib.ListN.{length, get_or, length-take, length-drop}
 use Rattle.image.specs.Schema.{Decl}
 use Rattle.image.specs.Parse.{Parsed, ok, no, pick, part}
-use Rattle.image.specs.Bodies.{body_of}
-use Rattle.image.specs.Image.{entryCount, entryOffset, entryLength, entry_of, entriesOf, readImage}
+use Rattle.image.specs.Bodies.{bodyOf}
+use Rattle.image.specs.Image.{entryCount, entryOffset, entryLength, entryOf, entriesOf, readImage}
 use Rattle.image.specs.WellFormed.{Good}
 use Rattle.image.proofs.Laws.Sure.{Sure, sure-ok, sure-no, sure-bind, sure-need}
 use Rattle.image.proofs.Laws.Names.{part_length}
@@ -54,22 +54,22 @@ placed s =
     sure-bind _ (anything _) (λ es n₄ _.
     sure-ok (laid-inside (entryCount s) s n₃ e))))))
 
-entry-good : (s : List ℕ) (c i j : ℕ) → j < c → Good (entriesOf c s i) → Good (entry_of s (i + j))
+entry-good : (s : List ℕ) (c i j : ℕ) → j < c → Good (entriesOf c s i) → Good (entryOf s (i + j))
 unfolding entriesOf
 entry-good s zero i j l g = absurd (omega arith)
 entry-good s (suc c) i zero l g =
     let z : i + 0 ≡ i = omega arith in
-    rw z (good-first none (entry_of s i) _ g)
+    rw z (good-first none (entryOf s i) _ g)
 entry-good s (suc c) i (suc j) l g =
     let z : i + suc j ≡ i + 1 + j = omega arith in
-    rw z (entry-good s c (i + 1) j (omega arith) (good-first [] (entriesOf c s (i + 1)) _ (good-second none (entry_of s i) _ g)))
+    rw z (entry-good s c (i + 1) j (omega arith) (good-first [] (entriesOf c s (i + 1)) _ (good-second none (entryOf s i) _ g)))
 
-body-good : (s : List ℕ) (i : ℕ) → (entryLength s i ≡ 0 → ⊥) → Good (entry_of s i) → Good (body_of (part (entryOffset s i) (entryLength s i) s))
-unfolding entry_of pick
-body-good s i f g = good-first noDecl (body_of (part (entryOffset s i) (entryLength s i) s)) _ (rw (ne_eqb (entryLength s i) 0 f) at g)
+body-good : (s : List ℕ) (i : ℕ) → (entryLength s i ≡ 0 → ⊥) → Good (entryOf s i) → Good (bodyOf (part (entryOffset s i) (entryLength s i) s))
+unfolding entryOf pick
+body-good s i f g = good-first noDecl (bodyOf (part (entryOffset s i) (entryLength s i) s)) _ (rw (ne_eqb (entryLength s i) 0 f) at g)
 
 -- a body that was read has its declaration at its start, and in the image at the body's place
-module _ (s : List ℕ) (from count : ℕ) (l : from ≤ length s) (g : Good (body_of (part from count s))) where
+module _ (s : List ℕ) (from count : ℕ) (l : from ≤ length s) (g : Good (bodyOf (part from count s))) where
   start-here : DeclHere (part from count s) 0
   unfolding DeclHere
   start-here = kept-good (body_kept 0 (part from count s) (part from count s) (part-self (part from count s))) g
@@ -99,7 +99,7 @@ module _ (s : List ℕ) (g : Accepted s) (id : ℕ) (l : id < length (schemaOf s
       unfolding Accepted
       fits = sure-good (schemaOf s) (placed s) g id id-within
 
-      good : Good (body_of (part (entryOffset s id) (entryLength s id) s))
+      good : Good (bodyOf (part (entryOffset s id) (entryLength s id) s))
       good =
           let z : 0 + id ≡ id = omega arith in
           body-good s id some-body (rw z at (entry-good s (entryCount s) 0 id id-within (whole s g).entries))

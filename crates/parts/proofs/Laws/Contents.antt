@@ -7,10 +7,10 @@ use native.Mathlib.Omega.{arith}
 use borrow.Author.Tests.{leb-true, ne_eqb}
 use lib.ListN.{length, get_or, take, drop, get_or-eq_default}
 use Rattle.image.specs.Schema.{Decl, Schema}
-use Rattle.image.specs.Parse.{ok, bind, pick, part, littleEndian, byte_at}
-use Rattle.image.specs.Names.{name_at, names_at}
-use Rattle.image.specs.Bodies.{body_of}
-use Rattle.image.specs.Image.{entryCount, idCount, segmentCount, entryOffset, entryLength, idsAt, segmentsAt, idsFrom, head_of, tables_of, entry_of, entriesOf, readImage}
+use Rattle.image.specs.Parse.{ok, bind, pick, part, littleEndian, byteAt}
+use Rattle.image.specs.Names.{nameAt, namesAt}
+use Rattle.image.specs.Bodies.{bodyOf}
+use Rattle.image.specs.Image.{entryCount, idCount, segmentCount, entryOffset, entryLength, idsAt, segmentsAt, idsFrom, headOf, tablesOf, entryOf, entriesOf, readImage}
 use Rattle.image.specs.WellFormed.{Good, valueOr}
 use Rattle.image.proofs.Laws.Sure.{Head, head-sure}
 use Rattle.image.proofs.Laws.Good.{sure-good, good-first}
@@ -28,23 +28,23 @@ noSchema = record { registry = []; ids = []; namespace = [] }
 pub record Whole (s : List ℕ) : Type 0 where
   pub head : Head s
   pub tables : segmentsAt s ≤ length s
-  pub names : Good (names_at 2 (segmentCount s) s (segmentsAt s))
+  pub names : Good (namesAt 2 (segmentCount s) s (segmentsAt s))
   pub entries : Good (entriesOf (entryCount s) s 0)
   pub is : schemaOf s ≡ record {
     registry = valueOr [] (entriesOf (entryCount s) s 0);
     ids = idsFrom (idCount s) s (idsAt s);
-    namespace = valueOr [] (names_at 2 (segmentCount s) s (segmentsAt s));
+    namespace = valueOr [] (namesAt 2 (segmentCount s) s (segmentsAt s));
   }
 
 pub whole : (s : List ℕ) → Accepted s → Whole s
-unfolding Accepted schemaOf readImage tables_of valueOr
+unfolding Accepted schemaOf readImage tablesOf valueOr
 whole s g =
-    let b₁ = good-first tt (head_of s) _ g in
-    let g₂ = then-good _ (good-is tt (head_of s) b₁) g in
-    let b₂ = good-first [] (tables_of s) _ g₂ in
+    let b₁ = good-first tt (headOf s) _ g in
+    let g₂ = then-good _ (good-is tt (headOf s) b₁) g in
+    let b₂ = good-first [] (tablesOf s) _ g₂ in
     let e₂ = need-is 2 _ _ b₂ in
     let g₃ = then-good _ e₂ g₂ in
-    let b₃ = good-first [] (names_at 2 (segmentCount s) s (segmentsAt s)) _ g₃ in
+    let b₃ = good-first [] (namesAt 2 (segmentCount s) s (segmentsAt s)) _ g₃ in
     let e₃ = good-is [] _ b₃ in
     let g₄ = then-good _ e₃ g₃ in
     let e₄ = need-is 5 _ _ g₄ in
@@ -55,7 +55,7 @@ whole s g =
       tables = leb-true (segmentsAt s) (length s) (need-true 2 _ _ b₂);
       names = b₃;
       entries = b₅;
-      is = ap (valueOr noSchema) (then_is _ (good-is tt (head_of s) b₁) ∙ then_is _ e₂ ∙ then_is _ e₃ ∙ e₄ ∙ then_is _ (good-is [] _ b₅));
+      is = ap (valueOr noSchema) (then_is _ (good-is tt (headOf s) b₁) ∙ then_is _ e₂ ∙ then_is _ e₃ ∙ e₄ ∙ then_is _ (good-is [] _ b₅));
     }
 
 -- the ids
@@ -73,11 +73,11 @@ module _ (s : List ℕ) where
 -- the entries, one by one
 module _ (s : List ℕ) where
   entries-more : (c i : ℕ) → Good (entriesOf (suc c) s i)
-      → Good (entry_of s i) × Good (entriesOf c s (i + 1)) × (valueOr [] (entriesOf (suc c) s i) ≡ valueOr none (entry_of s i) ∷ valueOr [] (entriesOf c s (i + 1)))
+      → Good (entryOf s i) × Good (entriesOf c s (i + 1)) × (valueOr [] (entriesOf (suc c) s i) ≡ valueOr none (entryOf s i) ∷ valueOr [] (entriesOf c s (i + 1)))
   unfolding entriesOf valueOr
   entries-more c i g =
-      let a = good-first none (entry_of s i) _ g in
-      let e = good-is none (entry_of s i) a in
+      let a = good-first none (entryOf s i) _ g in
+      let e = good-is none (entryOf s i) a in
       let b = good-first [] (entriesOf c s (i + 1)) _ (then-good _ e g) in
       (a, b, ap (valueOr []) (then_is _ e ∙ then_is _ (good-is [] _ b)))
 
@@ -91,7 +91,7 @@ module _ (s : List ℕ) where
       let (a, b, e) = entries-more c i g in
       ap length e ∙ ap suc (entries-count c (i + 1) b)
 
-  entries_at : (c i j : ℕ) → j < c → Good (entriesOf c s i) → Good (entry_of s (i + j)) × (get_or (valueOr [] (entriesOf c s i)) j none ≡ valueOr none (entry_of s (i + j)))
+  entries_at : (c i j : ℕ) → j < c → Good (entriesOf c s i) → Good (entryOf s (i + j)) × (get_or (valueOr [] (entriesOf c s i)) j none ≡ valueOr none (entryOf s (i + j)))
   entries_at zero i j l g = absurd (omega arith)
   entries_at (suc c) i zero l g =
       let (a, b, e) = entries-more c i g in
@@ -104,27 +104,27 @@ module _ (s : List ℕ) where
       rw z (r.0, ap (λ (r : List (Option Decl)). get_or r (suc j) none) e ∙ r.1)
 
   -- an empty one, and one with a body
-  entry-empty : (i : ℕ) → entryLength s i ≡ 0 → valueOr none (entry_of s i) ≡ none
-  unfolding entry_of pick valueOr
+  entry-empty : (i : ℕ) → entryLength s i ≡ 0 → valueOr none (entryOf s i) ≡ none
+  unfolding entryOf pick valueOr
   entry-empty i z = rw z
 
-  entry-is : (i : ℕ) → (entryLength s i ≡ 0 → ⊥) → entry_of s i ≡ bind (body_of (part (entryOffset s i) (entryLength s i) s)) (λ d n. ok (some d) n)
-  unfolding entry_of pick
+  entry-is : (i : ℕ) → (entryLength s i ≡ 0 → ⊥) → entryOf s i ≡ bind (bodyOf (part (entryOffset s i) (entryLength s i) s)) (λ d n. ok (some d) n)
+  unfolding entryOf pick
   entry-is i f = rw (ne_eqb (entryLength s i) 0 f)
 
-  body-there : (from count : ℕ) → Good (body_of (part from count s)) → from ≤ length s
-  unfolding body_of part
+  body-there : (from count : ℕ) → Good (bodyOf (part from count s)) → from ≤ length s
+  unfolding bodyOf part
   body-there from count g =
-      let l = (byte-is (take count (drop from s)) 0 8 (good-first 0 (byte_at 8 (take count (drop from s)) 0) _ g)).1 in
+      let l = (byte-is (take count (drop from s)) 0 8 (good-first 0 (byteAt 8 (take count (drop from s)) 0) _ g)).1 in
       omega (arith, (part_length from count s).1)
 
-  entry-body : (i : ℕ) → (entryLength s i ≡ 0 → ⊥) → Good (entry_of s i) → DeclHere s (entryOffset s i) × (valueOr none (entry_of s i) ≡ some (declIn s (entryOffset s i)))
+  entry-body : (i : ℕ) → (entryLength s i ≡ 0 → ⊥) → Good (entryOf s i) → DeclHere s (entryOffset s i) × (valueOr none (entryOf s i) ≡ some (declIn s (entryOffset s i)))
   unfolding DeclHere declIn valueOr
   entry-body i f g =
       let t = part (entryOffset s i) (entryLength s i) s in
-      let b = good-first noDecl (body_of t) _ (rw (entry-is i f) at g) in
+      let b = good-first noDecl (bodyOf t) _ (rw (entry-is i f) at g) in
       let k = body_kept (entryOffset s i) t s (part_of (entryOffset s i) (entryLength s i) s (body-there (entryOffset s i) (entryLength s i) b)) in
-      (kept-good k b, ap (valueOr none) (entry-is i f ∙ then_is _ (good-is noDecl (body_of t) b)) ∙ ap some (sym (kept-value noDecl k b)))
+      (kept-good k b, ap (valueOr none) (entry-is i f ∙ then_is _ (good-is noDecl (bodyOf t) b)) ∙ ap some (sym (kept-value noDecl k b)))
 
 -- what an accepted image says of its tables
 module _ (s : List ℕ) (g : Accepted s) where
@@ -173,11 +173,11 @@ module _ (s : List ℕ) (g : Accepted s) where
     pub pair-there : 8 + 4 * id + 4 ≤ length s
     pair-there = let t = tables-there in omega arith
 
-    found : Good (entry_of s id) × (get_or (schemaOf s).registry id none ≡ valueOr none (entry_of s id))
+    found : Good (entryOf s id) × (get_or (schemaOf s).registry id none ≡ valueOr none (entryOf s id))
     found =
         let z : 0 + id ≡ id = omega arith in
         let r = entries_at s (entryCount s) 0 id l (whole s g).entries in
-        (rw z at r.0, ap (λ (r : List (Option Decl)). get_or r id none) entries-are ∙ r.1 ∙ ap (λ (i : ℕ). valueOr none (entry_of s i)) z)
+        (rw z at r.0, ap (λ (r : List (Option Decl)). get_or r id none) entries-are ∙ r.1 ∙ ap (λ (i : ℕ). valueOr none (entryOf s i)) z)
 
     pub empty-entry : entryLength s id ≡ 0 → get_or (schemaOf s).registry id none ≡ none
     empty-entry e = found.1 ∙ entry-empty s id e
@@ -186,14 +186,14 @@ module _ (s : List ℕ) (g : Accepted s) where
     body_entry f = let r = entry-body s id f found.0 in (r.0, found.1 ∙ r.1)
 
   -- the namespace
-  names-again : Good (names_at 8 (segmentCount s) s (segmentsAt s)) × ((schemaOf s).namespace ≡ valueOr [] (names_at 8 (segmentCount s) s (segmentsAt s)))
+  names-again : Good (namesAt 8 (segmentCount s) s (segmentsAt s)) × ((schemaOf s).namespace ≡ valueOr [] (namesAt 8 (segmentCount s) s (segmentsAt s)))
   names-again =
       let z : 0 + segmentsAt s ≡ segmentsAt s = omega arith in
       let k = rw z at (names-kept (part-self s) 2 8 (segmentCount s) (segmentsAt s)) in
       (kept-good k (whole s g).names, ap (λ (c : Schema). c.namespace) (whole s g).is ∙ sym (kept-value [] k (whole s g).names))
 
   pub segments-listed : NamesListed s (segmentsIn s) (schemaOf s).namespace
-  unfolding NamesHere segmentsIn namePlaces nameIn nameEnd names_at
+  unfolding NamesHere segmentsIn namePlaces nameIn nameEnd namesAt
   segments-listed =
       let h = names-again in
-      record { here = h.0; are = h.1 ∙ many-places [] (name_at 8) s (segmentCount s) (segmentsAt s) h.0 }
+      record { here = h.0; are = h.1 ∙ many-places [] (nameAt 8) s (segmentCount s) (segmentsAt s) h.0 }

@@ -5,9 +5,9 @@ use Prim.Native.Nat.{ℕ, zero, suc, ◌-◌, ◌≤◌}
 use native.Mathlib.Nat.{le_of_eq}
 use native.Mathlib.Omega.{arith}
 use Rattle.image.specs.Schema.{noType}
-use Rattle.image.specs.Types.{innerTypes, type_at}
+use Rattle.image.specs.Types.{innerTypes, typeAt}
 use Rattle.image.specs.Parse.{many}
-use Rattle.image.specs.WellFormed.{Good, end_of}
+use Rattle.image.specs.WellFormed.{Good, endOf}
 use Rattle.image.proofs.Laws.Types.{inner-most}
 use Rattle.parts.specs.Promise.{labelIn, labelEnd, TypeHere, typeEnd}
 use Rattle.parts.proofs.Laws.Places.{many-turn}
@@ -16,8 +16,8 @@ use Rattle.parts.proofs.Laws.Trees.{type-whole, type-label, type-first, type-sec
 use Rattle.parts.proofs.Laws.Skips.{node-inner, types-start, types-done}
 
 module _ (s : List ℕ) (at left : ℕ) (h : TypeHere left s at) where
-  inner : Good (many type_at (innerTypes (labelIn s at).tag) s (labelEnd s at))
-      × (end_of (many type_at (innerTypes (labelIn s at).tag) s (labelEnd s at)) ≡ typeEnd s at)
+  inner : Good (many typeAt (innerTypes (labelIn s at).tag) s (labelEnd s at))
+      × (endOf (many typeAt (innerTypes (labelIn s at).tag) s (labelEnd s at)) ≡ typeEnd s at)
   inner = let l = label-there s at (type-label s at left h) in node-inner s at (type-whole s at left h) (omega arith)
 
   pub end-leaf : innerTypes (labelIn s at).tag ≡ 0 → typeEnd s at ≡ labelEnd s at

@@ -9,9 +9,9 @@ use borrow.Author.Tests.{eqb-true, eqb-false, ne_eqb}
 use lib.Dec.{eqb}
 use lib.ListN.{length, get_or, drop}
 use Rattle.image.specs.Schema.{Encoding, Field}
-use Rattle.image.specs.Parse.{ok, bind, pick, littleEndian, code_at, number_at}
+use Rattle.image.specs.Parse.{ok, bind, pick, littleEndian, codeAt, numberAt}
 use Rattle.image.specs.Fields.{plain, delta, encodingOf, encodingAt, limitAt}
-use Rattle.image.specs.WellFormed.{Good, valueOr, end_of}
+use Rattle.image.specs.WellFormed.{Good, valueOr, endOf}
 use Rattle.image.proofs.Laws.Sure.{Sure, sure-ok, sure-no, sure-bind, sure-pick, Byte, Coded, code-sure}
 use Rattle.image.proofs.Laws.Good.{sure-good, good-first}
 use Rattle.parts.specs.Promise.{nameEnd, ItemHere, fieldIn, marksPlace, encodingPlace, encodingIn, limitPlace, typePlace, codingOf, limitOf}
@@ -76,15 +76,15 @@ module _ (s : List ℕ) where
       (λ h. sure-bind _ (encoding-of-sure left n) (λ e m r. sure-ok (one_more left at b n m e q.byte (eqb-true b 3 h) r)))
       (λ h. sure-ok (base-only _ at b n q (eqb-false b 3 h))))
 
-  encoding-stands : (at : ℕ) → Good (encodingAt s at) → Encoded 8 s at (encodingIn s at) (end_of (encodingAt s at))
+  encoding-stands : (at : ℕ) → Good (encodingAt s at) → Encoded 8 s at (encodingIn s at) (endOf (encodingAt s at))
   unfolding encodingIn encodingAt
   encoding-stands at g = sure-good (plain 0) (encoding-of-sure 8 at) g
 
 -- a limit is a byte 0, or another and a number
 module _ (s : List ℕ) (at : ℕ) (g : Good (limitAt s at)) where
-  first : (code_at 0 1 s at ≡ ok (get_or s at 0) (at + 1)) × (at < length s)
+  first : (codeAt 0 1 s at ≡ ok (get_or s at 0) (at + 1)) × (at < length s)
   unfolding limitAt
-  first = let h = code_is s at 0 1 (good-first 0 (code_at 0 1 s at) _ g) in (h.0, h.1)
+  first = let h = code_is s at 0 1 (good-first 0 (codeAt 0 1 s at) _ g) in (h.0, h.1)
 
   limit-there : at < length s
   limit-there = first.1
@@ -93,14 +93,14 @@ module _ (s : List ℕ) (at : ℕ) (g : Good (limitAt s at)) where
   unfolding limitAt pick
   limit-none e = then_is _ first.0 ∙ rw e
 
-  limit-some : (get_or s at 0 ≡ 0 → ⊥) → limitAt s at ≡ bind (number_at 8 s (at + 1)) (λ v m. ok (some v) m)
+  limit-some : (get_or s at 0 ≡ 0 → ⊥) → limitAt s at ≡ bind (numberAt 8 s (at + 1)) (λ v m. ok (some v) m)
   unfolding limitAt pick
   limit-some f = then_is _ first.0 ∙ rw (ne_eqb (get_or s at 0) 0 f)
 
   limit-number : (get_or s at 0 ≡ 0 → ⊥) → (limitAt s at ≡ ok (some (littleEndian 8 (drop (at + 1) s))) (at + 1 + 8)) × (at + 1 + 8 ≤ length s)
   limit-number f =
       let e = limit-some f in
-      let h = number_is s (at + 1) 8 (good-first 0 (number_at 8 s (at + 1)) _ (rw e at g)) in
+      let h = number_is s (at + 1) 8 (good-first 0 (numberAt 8 s (at + 1)) _ (rw e at g)) in
       (e ∙ then_is _ h.0, h.1)
 
 coding : ℕ → ℕ → Encoding
@@ -143,7 +143,7 @@ module _ (s : List ℕ) (at : ℕ) (g : ItemHere shape.Field s at) where
       unfolding limitPlace encodingPlace marksPlace
       limit-at =
           let h = (encoding-stands s (e + 1) encoding-good).next in
-          ap (λ (k : ℕ). e + 1 + k + 1) d ∙ sym h ∙ ap (λ (k : ℕ). end_of (encodingAt s (k + 1))) q
+          ap (λ (k : ℕ). e + 1 + k + 1) d ∙ sym h ∙ ap (λ (k : ℕ). endOf (encodingAt s (k + 1))) q
 
       pub coded : codingOf (record { deltas = n; base = get_or s (e + 1 + n) 0 }) ≡ (fieldIn s at).encoding
       unfolding coding codingOf encodingIn encodingPlace marksPlace
@@ -165,10 +165,10 @@ module _ (s : List ℕ) (at : ℕ) (g : ItemHere shape.Field s at) where
         delta-done s (e + 1) (encoding-good q) 0 (omega arith) (λ t. let y : ◌≡◌ {A = ℕ} 0 3 = sym z ∙ ap (λ (i : ℕ). get_or s i 0) (sym k) ∙ t in omega arith)
 
     no_more : get_or s (e + 1) 0 ≡ 0 → get_or s (e + 1 + 1) 0 ≡ 0 → e + 1 + 2 ≡ typePlace s at
-    unfolding typePlace end_of
+    unfolding typePlace endOf
     no_more z y =
         let l : e + 1 + 1 ≡ limitPlace s at = (let m = limit-at q (no-delta z) in omega arith) in
-        let r = ap end_of (limit-none s (limitPlace s at) (field-parts s at g).limit (ap (λ (i : ℕ). get_or s i 0) (sym l) ∙ y)) in
+        let r = ap endOf (limit-none s (limitPlace s at) (field-parts s at g).limit (ap (λ (i : ℕ). get_or s i 0) (sym l) ∙ y)) in
         omega arith
 
     pub plain_type : {b : Bool} → b ≡ true → b ≡ (eqb (get_or s (e + 1) 0) 0 && eqb (get_or s (e + 1 + 1) 0) 0) → e + 1 + 2 ≡ typePlace s at
@@ -192,13 +192,13 @@ module _ (s : List ℕ) (at : ℕ) (g : ItemHere shape.Field s at) where
     value : (fieldIn s at).limit ≡ valueOr none (limitAt s p)
     value = ap (λ (f : Field). f.limit) (field-parts s at g).value ∙ ap (λ (k : ℕ). valueOr none (limitAt s k)) (sym q)
 
-    type_at : typePlace s at ≡ end_of (limitAt s p)
+    type_at : typePlace s at ≡ endOf (limitAt s p)
     unfolding typePlace
-    type_at = ap (λ (k : ℕ). end_of (limitAt s k)) (sym q)
+    type_at = ap (λ (k : ℕ). endOf (limitAt s k)) (sym q)
 
     pub unlimited : get_or s p 0 ≡ 0 → (limitOf Unlimited ≡ (fieldIn s at).limit) × (p + 1 ≡ typePlace s at)
-    unfolding limitOf valueOr end_of
-    unlimited e = let r = limit-none s p good e in (sym (value ∙ ap (valueOr none) r), sym (type_at ∙ ap end_of r))
+    unfolding limitOf valueOr endOf
+    unlimited e = let r = limit-none s p good e in (sym (value ∙ ap (valueOr none) r), sym (type_at ∙ ap endOf r))
 
     module _ (f : get_or s p 0 ≡ 0 → ⊥) where
       pub number-there : p + 1 + 8 ≤ length s
@@ -209,5 +209,5 @@ module _ (s : List ℕ) (at : ℕ) (g : ItemHere shape.Field s at) where
       limited e = sym (value ∙ ap (valueOr none) (limit-number s p good f).0 ∙ ap some (sym e))
 
       pub type-after : p + 9 ≡ typePlace s at
-      unfolding end_of
-      type-after = let r = ap end_of (limit-number s p good f).0 in let t = type_at in omega arith
+      unfolding endOf
+      type-after = let r = ap endOf (limit-number s p good f).0 in let t = type_at in omega arith

@@ -10,15 +10,15 @@ use lib.ListN.{length, get_or, drop, length-drop}
 use lib.Seq.{drop-drop, get_or-drop, get_or-take, ext_get_or, length-take-le}
 use lib.Dec.{ltb, leb, eqb}
 use Rattle.image.specs.Schema.{Label, Ty}
-use Rattle.image.specs.Parse.{Parsed, ok, no, bind, pick, shift, within, part, littleEndian, byte_at, code_at, number_at, many, counted}
-use Rattle.image.specs.Names.{nameBytes, name_at, names_at}
-use Rattle.image.specs.Types.{Follows, code, subByte, identity, size, nothing, bits, unknown, followsTag, innerTypes, afterTag, label_of, inner_at, type_of, type_at}
+use Rattle.image.specs.Parse.{Parsed, ok, no, bind, pick, shift, within, part, littleEndian, byteAt, codeAt, numberAt, many, counted}
+use Rattle.image.specs.Names.{nameBytes, nameAt, namesAt}
+use Rattle.image.specs.Types.{Follows, code, subByte, identity, size, nothing, bits, unknown, followsTag, innerTypes, afterTag, labelOf, innerAt, typeOf, typeAt}
 use Rattle.image.specs.Fields.{marksAt, encodingOf, encodingAt, limitAt, fieldAt, bareAt, variantAt}
-use Rattle.image.specs.Kinds.{Kind, message, enum, flags, union, newtype, config, alias, trait, impl, other, kind_of}
+use Rattle.image.specs.Kinds.{Kind, message, enum, flags, union, newtype, config, alias, trait, impl, other, kindOf}
 use Rattle.image.specs.Codes.{number, configKind, aliasKind, traitKind}
-use Rattle.image.specs.Bodies.{messageAt, enum_at, flagsAt, unionAt, newtypeAt, otherAt, implAt, declAt, body_of}
-use Rattle.parts.specs.Promise.{body_at}
-use Rattle.image.specs.WellFormed.{Good, valueOr, end_of}
+use Rattle.image.specs.Bodies.{messageAt, enumAt, flagsAt, unionAt, newtypeAt, otherAt, implAt, declAt, bodyOf}
+use Rattle.parts.specs.Promise.{bodyAt}
+use Rattle.image.specs.WellFormed.{Good, valueOr, endOf}
 use Rattle.image.proofs.Laws.Names.{part_length}
 
 -- the first answer is a refusal, or the second is the same with its end moved on
@@ -37,8 +37,8 @@ unfolding Good valueOr
 kept-value d (kept-ok e) g = refl
 kept-value d kept-no g = absurd g
 
-pub kept-end : {A : Type 0} {by : ℕ} {p q : Parsed A} → Kept by p q → Good p → end_of q ≡ by + end_of p
-unfolding Good end_of
+pub kept-end : {A : Type 0} {by : ℕ} {p q : Parsed A} → Kept by p q → Good p → endOf q ≡ by + endOf p
+unfolding Good endOf
 kept-end (kept-ok e) g = e
 kept-end kept-no g = absurd g
 
@@ -128,22 +128,22 @@ module _ {by : ℕ} {t s : List ℕ} (h : Part by t s) where
   fits-most : (at k : ℕ) → leb (at + k) (length t) ≡ true → leb (by + at + k) (length s) ≡ true
   fits-most at k e = let l = leb-true (at + k) (length t) e in let f = h.fits in le-leb (by + at + k) (length s) (omega arith)
 
-  pub byte-kept : (k m at : ℕ) → Kept by (byte_at k t at) (byte_at m s (by + at))
-  unfolding byte_at
+  pub byte-kept : (k m at : ℕ) → Kept by (byteAt k t at) (byteAt m s (by + at))
+  unfolding byteAt
   byte-kept k m at =
       kept-need _ _ _ _ (fits-less at) (λ e. kept-as (sym (h.same at (ltb-true at (length t) e))) (omega arith))
 
-  code-kept : (lo hi at : ℕ) → Kept by (code_at lo hi t at) (code_at lo hi s (by + at))
-  unfolding code_at
+  code-kept : (lo hi at : ℕ) → Kept by (codeAt lo hi t at) (codeAt lo hi s (by + at))
+  unfolding codeAt
   code-kept lo hi at = kept-bind _ _ (byte-kept 8 8 at) (λ b n. kept-need _ _ _ _ (λ e. e) (λ _. kept-ok refl))
 
-  number-kept : (w at : ℕ) → Kept by (number_at w t at) (number_at w s (by + at))
-  unfolding number_at
+  number-kept : (w at : ℕ) → Kept by (numberAt w t at) (numberAt w s (by + at))
+  unfolding numberAt
   number-kept w at =
       kept-need _ _ _ _ (fits-most at w) (λ e. kept-as (sym (le-part w h at (leb-true (at + w) (length t) e))) (omega arith))
 
-  name-kept : (k m at : ℕ) → Kept by (name_at k t at) (name_at m s (by + at))
-  unfolding name_at
+  name-kept : (k m at : ℕ) → Kept by (nameAt k t at) (nameAt m s (by + at))
+  unfolding nameAt
   name-kept k m at =
       kept-bind _ _ (byte-kept k m at) (λ c n.
       kept-need _ _ _ _ (fits-most n c) (λ e.
@@ -170,9 +170,9 @@ within-kept {by = by} p q f h at = shift_kept by at (f _ _ (part-drop _ _ _ at h
 
 -- labels and types
 module _ {by : ℕ} {t s : List ℕ} (h : Part by t s) where
-  pub names-kept : (k m c at : ℕ) → Kept by (names_at k c t at) (names_at m c s (by + at))
-  unfolding names_at
-  names-kept k m c at = many-kept (name_at k) (name_at m) (name-kept h k m) c at
+  pub names-kept : (k m c at : ℕ) → Kept by (namesAt k c t at) (namesAt m c s (by + at))
+  unfolding namesAt
+  names-kept k m c at = many-kept (nameAt k) (nameAt m) (name-kept h k m) c at
 
   counted-kept : {A : Type 0} (p : List ℕ → ℕ → Parsed A) → ((at : ℕ) → Kept by (p t at) (p s (by + at))) → (at : ℕ)
       → Kept by (counted p t at) (counted p s (by + at))
@@ -190,30 +190,30 @@ module _ {by : ℕ} {t s : List ℕ} (h : Part by t s) where
   after_kept tag unknown at = kept-no
 
   inner-kept : (p q : List ℕ → Parsed Ty) → ((u v : List ℕ) → Part 0 u v → Kept 0 (p u) (q v)) → (i : ℕ) (l : Label) (at : ℕ)
-      → Kept by (inner_at i l p t at) (inner_at i l q s (by + at))
-  unfolding inner_at
+      → Kept by (innerAt i l p t at) (innerAt i l q s (by + at))
+  unfolding innerAt
   inner-kept p q f zero l at = kept-ok refl
   inner-kept p q f (suc zero) l at = kept-bind _ _ (within-kept p q f h at) (λ u n. kept-ok refl)
   inner-kept p q f (suc (suc k)) l at =
       kept-bind _ _ (within-kept p q f h at) (λ u n. kept-bind _ _ (within-kept p q f h n) (λ v m. kept-ok refl))
 
-label_kept : (t s : List ℕ) → Part 0 t s → Kept 0 (label_of t) (label_of s)
-unfolding label_of
+label_kept : (t s : List ℕ) → Part 0 t s → Kept 0 (labelOf t) (labelOf s)
+unfolding labelOf
 label_kept t s h = kept-bind _ _ (byte-kept h 8 8 0) (λ tag n. after_kept h tag (followsTag tag) n)
 
-pub type-kept : (d e : ℕ) → d ≤ e → (t s : List ℕ) → Part 0 t s → Kept 0 (type_of d t) (type_of e s)
-unfolding type_of
+pub type-kept : (d e : ℕ) → d ≤ e → (t s : List ℕ) → Part 0 t s → Kept 0 (typeOf d t) (typeOf e s)
+unfolding typeOf
 type-kept zero e l t s h = kept-no
 type-kept (suc d) zero l t s h = absurd (omega arith)
 type-kept (suc d) (suc e) l t s h =
     kept-bind _ _ (label_kept t s h) (λ a n.
-    inner-kept h (type_of d) (type_of e) (λ u v p. type-kept d e (omega arith) u v p) (innerTypes a.tag) a n)
+    inner-kept h (typeOf d) (typeOf e) (λ u v p. type-kept d e (omega arith) u v p) (innerTypes a.tag) a n)
 
 -- items
 module _ {by : ℕ} {t s : List ℕ} (h : Part by t s) where
-  type-at-kept : (at : ℕ) → Kept by (type_at t at) (type_at s (by + at))
-  unfolding type_at
-  type-at-kept at = within-kept (type_of 32) (type_of 32) (type-kept 32 32 (omega arith)) h at
+  type-at-kept : (at : ℕ) → Kept by (typeAt t at) (typeAt s (by + at))
+  unfolding typeAt
+  type-at-kept at = within-kept (typeOf 32) (typeOf 32) (type-kept 32 32 (omega arith)) h at
 
   marks-kept : (at : ℕ) → Kept by (marksAt t at) (marksAt s (by + at))
   unfolding marksAt
@@ -263,8 +263,8 @@ module _ {by : ℕ} {t s : List ℕ} (h : Part by t s) where
   message-kept at =
       kept-bind _ _ (name-kept h 8 8 at) (λ x n₁. kept-bind _ _ (marks-kept n₁) (λ m n₂. kept-bind _ _ (counted-kept h fieldAt field-kept n₂) (λ fs n₃. kept-ok refl)))
 
-  enum-kept : (at : ℕ) → Kept by (enum_at t at) (enum_at s (by + at))
-  unfolding enum_at
+  enum-kept : (at : ℕ) → Kept by (enumAt t at) (enumAt s (by + at))
+  unfolding enumAt
   enum-kept at =
       kept-bind _ _ (name-kept h 8 8 at) (λ x n₁. kept-bind _ _ (marks-kept n₁) (λ m n₂. kept-bind _ _ (counted-kept h bareAt bare-kept n₂) (λ vs n₃. kept-ok refl)))
 
@@ -309,8 +309,8 @@ kept_test test k (kept-ok {n = n} e) = tested (test n) k (kept-ok e)
 kept_test test k kept-no = kept-no
 
 -- a whole body
-pub body_kept : (by : ℕ) (t s : List ℕ) → Part by t s → Kept by (body_of t) (body_at s by)
-unfolding body_of body_at
+pub body_kept : (by : ℕ) (t s : List ℕ) → Part by t s → Kept by (bodyOf t) (bodyAt s by)
+unfolding bodyOf bodyAt
 body_kept by t s h =
     let z : by + 0 ≡ by = omega arith in
-    kept-bind _ _ (rw z at (byte-kept h 8 8 0)) (λ kind n. kept_test (λ m. eqb m (length t)) 8 (decl-kept h (kind_of kind) n))
+    kept-bind _ _ (rw z at (byte-kept h 8 8 0)) (λ kind n. kept_test (λ m. eqb m (length t)) 8 (decl-kept h (kindOf kind) n))

@@ -9,15 +9,15 @@ use lib.Dec.{eqb, leb}
 use lib.ListN.{length, get_or, drop, length-drop}
 use lib.Seq.{get_or-drop}
 use Rattle.image.specs.Schema.{Label, label}
-use Rattle.image.specs.Parse.{Parsed, ok, bind, littleEndian, byte_at, code_at, number_at}
-use Rattle.image.specs.Names.{name_at, names_at}
-use Rattle.image.specs.Types.{Follows, code, subByte, identity, size, nothing, bits, unknown, followsTag, afterTag, label_of}
-use Rattle.image.specs.WellFormed.{Good, valueOr, end_of}
+use Rattle.image.specs.Parse.{Parsed, ok, bind, littleEndian, byteAt, codeAt, numberAt}
+use Rattle.image.specs.Names.{nameAt, namesAt}
+use Rattle.image.specs.Types.{Follows, code, subByte, identity, size, nothing, bits, unknown, followsTag, afterTag, labelOf}
+use Rattle.image.specs.WellFormed.{Good, valueOr, endOf}
 use Rattle.image.specs.WellFormed.{labelIn as firstLabel}
 use Rattle.image.proofs.Laws.Good.{good-first}
 use Rattle.image.proofs.Laws.Trees.{label-tag}
 use Rattle.image.proofs.Laws.Types.{follows_nothing}
-use Rattle.parts.specs.Promise.{no_label, NamesHere, NamesListed, namesEnd, nameEnd, nameIn, namePlaces, LabelHere, labelIn, labelEnd, bitsIn, Regular}
+use Rattle.parts.specs.Promise.{noLabel, NamesHere, NamesListed, namesEnd, nameEnd, nameIn, namePlaces, LabelHere, labelIn, labelEnd, bitsIn, Regular}
 use Rattle.parts.proofs.Laws.Kept.{Kept, kept-good, kept-value, kept-end, part-from, byte-kept, after_kept, kept-bind}
 use Rattle.parts.proofs.Laws.Steps.{good-is, then_is, then-good, byte-is, code_is, number_is}
 use Rattle.parts.proofs.Laws.Places.{many-places}
@@ -60,62 +60,62 @@ After identity tag s n = (afterTag tag identity s n ≡ ok (label tag (littleEnd
 After size tag s n = (afterTag tag size s n ≡ ok (label tag (littleEndian 8 (drop n s)) 0 []) (n + 8)) × (n + 8 ≤ length s)
 After nothing tag s n = (afterTag tag nothing s n ≡ ok (label tag 0 0 []) n) × Unit {0}
 After bits tag s n =
-    (afterTag tag bits s n ≡ ok (label tag 0 0 (valueOr [] (names_at 8 (get_or s n 0) s (n + 1)))) (end_of (names_at 8 (get_or s n 0) s (n + 1))))
-    × (n < length s) × Good (names_at 8 (get_or s n 0) s (n + 1))
+    (afterTag tag bits s n ≡ ok (label tag 0 0 (valueOr [] (namesAt 8 (get_or s n 0) s (n + 1)))) (endOf (namesAt 8 (get_or s n 0) s (n + 1))))
+    × (n < length s) × Good (namesAt 8 (get_or s n 0) s (n + 1))
 After unknown tag s n = ⊥
 
 after : (f : Follows) (tag : ℕ) (s : List ℕ) (n : ℕ) → Good (afterTag tag f s n) → After f tag s n
 unfolding afterTag Good
 after (code most) tag s n g =
-    let h = code_is s n 0 most (good-first 0 (code_at 0 most s n) _ g) in
+    let h = code_is s n 0 most (good-first 0 (codeAt 0 most s n) _ g) in
     (then_is _ h.0, h.1, h.3)
 after subByte tag s n g =
-    let h = code_is s n 0 1 (good-first 0 (code_at 0 1 s n) _ g) in
-    let k = code_is s (n + 1) 1 64 (good-first 0 (code_at 1 64 s (n + 1)) _ (then-good _ h.0 g)) in
+    let h = code_is s n 0 1 (good-first 0 (codeAt 0 1 s n) _ g) in
+    let k = code_is s (n + 1) 1 64 (good-first 0 (codeAt 1 64 s (n + 1)) _ (then-good _ h.0 g)) in
     (then_is _ h.0 ∙ then_is _ k.0, k.1, h.3, (k.2, k.3))
 after identity tag s n g =
-    let h = number_is s n 4 (good-first 0 (number_at 4 s n) _ g) in
+    let h = number_is s n 4 (good-first 0 (numberAt 4 s n) _ g) in
     (then_is _ h.0, h.1)
 after size tag s n g =
-    let h = number_is s n 8 (good-first 0 (number_at 8 s n) _ g) in
+    let h = number_is s n 8 (good-first 0 (numberAt 8 s n) _ g) in
     (then_is _ h.0, h.1)
 after nothing tag s n g = (refl, tt)
 after bits tag s n g =
-    let h = byte-is s n 8 (good-first 0 (byte_at 8 s n) _ g) in
-    let k = good-first [] (names_at 8 (get_or s n 0) s (n + 1)) _ (then-good _ h.0 g) in
+    let h = byte-is s n 8 (good-first 0 (byteAt 8 s n) _ g) in
+    let k = good-first [] (namesAt 8 (get_or s n 0) s (n + 1)) _ (then-good _ h.0 g) in
     (then_is _ h.0 ∙ then_is _ (good-is [] _ k), h.1, k)
 after unknown tag s n g = g
 
 -- the same label, read at its place in the whole list
-label_at : List ℕ → ℕ → Parsed Label
-label_at s at = bind (byte_at 8 s at) (λ tag n. afterTag tag (followsTag tag) s n)
+labelAt : List ℕ → ℕ → Parsed Label
+labelAt s at = bind (byteAt 8 s at) (λ tag n. afterTag tag (followsTag tag) s n)
 
 module _ (s : List ℕ) (at : ℕ) (g : LabelHere s at) where
   pub label-there : at < length s
   unfolding LabelHere
   label-there = let h = (label-tag (drop at s) g).there in let e = length-drop at s in omega arith
 
-  moved : Kept at (label_of (drop at s)) (label_at s at)
-  unfolding label_of label_at
+  moved : Kept at (labelOf (drop at s)) (labelAt s at)
+  unfolding labelOf labelAt
   moved =
       let z : at + 0 ≡ at = omega arith in
       let l = label-there in
       let p = part-from at s (omega arith) in
       kept-bind _ _ (rw z at (byte-kept p 8 8 0)) (λ tag n. after_kept p tag (followsTag tag) n)
 
-  first : Good (label_at s at)
+  first : Good (labelAt s at)
   unfolding LabelHere
   first = kept-good moved g
 
-  tag_at : label_at s at ≡ afterTag (get_or s at 0) (followsTag (get_or s at 0)) s (at + 1)
-  unfolding label_at
-  tag_at = then_is _ (byte-is s at 8 (good-first 0 (byte_at 8 s at) _ first)).0
+  tag_at : labelAt s at ≡ afterTag (get_or s at 0) (followsTag (get_or s at 0)) s (at + 1)
+  unfolding labelAt
+  tag_at = then_is _ (byte-is s at 8 (good-first 0 (byteAt 8 s at) _ first)).0
 
-  label-value : labelIn s at ≡ valueOr no_label (label_at s at)
+  label-value : labelIn s at ≡ valueOr noLabel (labelAt s at)
   unfolding LabelHere labelIn
-  label-value = sym (kept-value no_label moved g)
+  label-value = sym (kept-value noLabel moved g)
 
-  label-end : labelEnd s at ≡ end_of (label_at s at)
+  label-end : labelEnd s at ≡ endOf (labelAt s at)
   unfolding LabelHere labelEnd
   label-end = sym (kept-end moved g)
 
@@ -131,10 +131,10 @@ module _ (s : List ℕ) (at : ℕ) (g : LabelHere s at) where
   label_after f e = after f (get_or s at 0) s (at + 1) (rw (tag_at, e) at first)
 
   label_is : (f : Follows) → followsTag (get_or s at 0) ≡ f → (l : Label) (n : ℕ) → afterTag (get_or s at 0) f s (at + 1) ≡ ok l n → (labelIn s at ≡ l) × (labelEnd s at ≡ n)
-  unfolding valueOr end_of
+  unfolding valueOr endOf
   label_is f e l n q =
       let r = tag_at ∙ ap (λ (k : Follows). afterTag (get_or s at 0) k s (at + 1)) e ∙ q in
-      (label-value ∙ ap (valueOr no_label) r, label-end ∙ ap end_of r)
+      (label-value ∙ ap (valueOr noLabel) r, label-end ∙ ap endOf r)
 
 -- what a tag has is within its values, and what it has not is 0 or empty
 only-first : (t first : ℕ) → t ≤ 16 → (t ≡ 1 → ⊥) → (t ≡ 0 → first ≤ 13) → (t ≡ 2 → first ≤ 5) → (3 < t → (t ≡ 6 → ⊥) → first ≡ 0) → Regular (label t first 0 [])
@@ -239,14 +239,14 @@ module _ (s : List ℕ) (at : ℕ) (g : LabelHere s at) where
   count-part e = (parts 16 bits e refl).1
 
   pub bits-listed : (labelIn s at).tag ≡ 16 → NamesListed s (bitsIn s at) (labelIn s at).names
-  unfolding followsTag NamesHere bitsIn namePlaces nameIn nameEnd names_at
+  unfolding followsTag NamesHere bitsIn namePlaces nameIn nameEnd namesAt
   bits-listed e =
       let p = parts 16 bits e refl in
       let z : at + 1 + 1 ≡ at + 2 = omega arith in
       record {
         here = rw z at p.2;
         are = ap (λ (x : Label). x.names) (value 16 bits e refl p.0)
-            ∙ many-places [] (name_at 8) s _ _ p.2
+            ∙ many-places [] (nameAt 8) s _ _ p.2
             ∙ ap (λ (n : ℕ). map (nameIn s) (namePlaces s (get_or s (at + 1) 0) n)) z;
       }
 
@@ -274,7 +274,7 @@ module _ (s : List ℕ) (at : ℕ) (g : LabelHere s at) where
   by-follows bits q =
       let p = label_after s at g bits q in
       let z : at + 1 + 1 ≡ at + 2 = omega arith in
-      (ends bits q p.0 ∙ ap (λ (n : ℕ). end_of (names_at 8 (get_or s (at + 1) 0) s n)) z, p.1, rw z at p.2)
+      (ends bits q p.0 ∙ ap (λ (n : ℕ). endOf (namesAt 8 (get_or s (at + 1) 0) s n)) z, p.1, rw z at p.2)
   by-follows unknown q = label_after s at g unknown q
 
   pub ended : (t : ℕ) (f : Follows) → get_or s at 0 ≡ t → followsTag t ≡ f → Ended f s at

@@ -7,16 +7,16 @@ use native.Mathlib.Omega.{arith}
 use native.Mathlib.Nat.{add-sub_cancel_left}
 use borrow.Author.Tests.{le-leb}
 use lib.ListN.{length, get_or, take, drop}
-use Rattle.image.specs.Parse.{Parsed, ok, no, bind, pick, part, littleEndian, byte_at, code_at, number_at}
-use Rattle.image.specs.Names.{name_at}
+use Rattle.image.specs.Parse.{Parsed, ok, no, bind, pick, part, littleEndian, byteAt, codeAt, numberAt}
+use Rattle.image.specs.Names.{nameAt}
 use Rattle.image.specs.Fields.{marksOf, marksAt}
-use Rattle.image.specs.WellFormed.{Good, valueOr, end_of}
+use Rattle.image.specs.WellFormed.{Good, valueOr, endOf}
 use Rattle.image.proofs.Laws.Sure.{Named, byte-sure, code-sure, number-sure, name-sure}
 use Rattle.image.proofs.Laws.Good.{sure-good, good-first}
 use Rattle.parts.specs.Promise.{NameHere, nameIn, nameEnd}
 
-pub good-is : {A : Type 0} (d : A) (p : Parsed A) → Good p → p ≡ ok (valueOr d p) (end_of p)
-unfolding Good valueOr end_of
+pub good-is : {A : Type 0} (d : A) (p : Parsed A) → Good p → p ≡ ok (valueOr d p) (endOf p)
+unfolding Good valueOr endOf
 good-is d (ok a n) g = refl
 good-is d (no k) g = absurd g
 
@@ -43,35 +43,35 @@ module _ {A : Type 0} (k : ℕ) where
 
 -- bytes, numbers, marks, names
 module _ (s : List ℕ) (at : ℕ) where
-  pub byte-is : (short : ℕ) → Good (byte_at short s at) → (byte_at short s at ≡ ok (get_or s at 0) (at + 1)) × (at < length s)
+  pub byte-is : (short : ℕ) → Good (byteAt short s at) → (byteAt short s at ≡ ok (get_or s at 0) (at + 1)) × (at < length s)
   byte-is short g =
       let h = sure-good 0 (byte-sure short s at) g in
       (good-is 0 _ g ∙ ap₂ ok h.value h.next, (let i = h.inside in let j = h.next in omega arith))
 
-  pub code_is : (lo hi : ℕ) → Good (code_at lo hi s at) → (code_at lo hi s at ≡ ok (get_or s at 0) (at + 1)) × (at < length s) × (lo ≤ get_or s at 0) × (get_or s at 0 ≤ hi)
+  pub code_is : (lo hi : ℕ) → Good (codeAt lo hi s at) → (codeAt lo hi s at ≡ ok (get_or s at 0) (at + 1)) × (at < length s) × (lo ≤ get_or s at 0) × (get_or s at 0 ≤ hi)
   code_is lo hi g =
       let k = sure-good 0 (code-sure lo hi s at) g in
       let h = k.byte in
       (good-is 0 _ g ∙ ap₂ ok h.value h.next, (let i = h.inside in let j = h.next in omega arith), rw h.value at k.low, rw h.value at k.high)
 
-  pub number_is : (w : ℕ) → Good (number_at w s at) → (number_at w s at ≡ ok (littleEndian w (drop at s)) (at + w)) × (at + w ≤ length s)
+  pub number_is : (w : ℕ) → Good (numberAt w s at) → (numberAt w s at ≡ ok (littleEndian w (drop at s)) (at + w)) × (at + w ≤ length s)
   number_is w g =
       let h = sure-good 0 (number-sure w s at) g in
       (good-is 0 _ g ∙ ap₂ ok h.value h.next, (let i = h.inside in let j = h.next in omega arith))
 
-  pub number-there : (w : ℕ) → at + w ≤ length s → number_at w s at ≡ ok (littleEndian w (drop at s)) (at + w)
-  unfolding number_at pick
+  pub number-there : (w : ℕ) → at + w ≤ length s → numberAt w s at ≡ ok (littleEndian w (drop at s)) (at + w)
+  unfolding numberAt pick
   number-there w l = rw (le-leb (at + w) (length s) l)
 
   pub marks-is : Good (marksAt s at) → (marksAt s at ≡ ok (marksOf (get_or s at 0)) (at + 1)) × (at < length s)
   unfolding marksAt
   marks-is g =
-      let h = code_is 0 3 (good-first 0 (code_at 0 3 s at) _ g) in
+      let h = code_is 0 3 (good-first 0 (codeAt 0 3 s at) _ g) in
       (then_is _ h.0, h.1)
 
-  pub name-is : NameHere s at → name_at 8 s at ≡ ok (nameIn s at) (nameEnd s at)
+  pub name-is : NameHere s at → nameAt 8 s at ≡ ok (nameIn s at) (nameEnd s at)
   unfolding NameHere nameIn nameEnd
-  name-is g = good-is [] (name_at 8 s at) g
+  name-is g = good-is [] (nameAt 8 s at) g
 
   pub name-stands : NameHere s at → Named s at (nameIn s at) (nameEnd s at)
   unfolding NameHere nameIn nameEnd

@@ -6,52 +6,52 @@ use native.Mathlib.Omega.{arith}
 use lib.ListN.{get_or, drop}
 use lib.Seq.{drop-drop}
 use Rattle.image.specs.Schema.{leaf, one, two, noType}
-use Rattle.image.specs.Types.{innerTypes, label_of, type_of}
-use Rattle.image.specs.WellFormed.{Good, end_of}
-use Rattle.image.specs.WellFormed.{treeIn as tree_of, labelIn as firstLabel}
+use Rattle.image.specs.Types.{innerTypes, labelOf, typeOf}
+use Rattle.image.specs.WellFormed.{Good, endOf}
+use Rattle.image.specs.WellFormed.{treeIn as treeOf, labelIn as firstLabel}
 use Rattle.image.proofs.Laws.Trees.{type-deeper, type-labelled, label-tag, tree-leaf, tree-one, tree-two, first_good, second-good}
 use Rattle.parts.specs.Promise.{LabelHere, labelIn, labelEnd, TypeHere, treeIn, typeEnd}
 use Rattle.parts.proofs.Laws.Kept.{kept-good, kept-value, kept-end, part-self, type-kept}
 
 -- what has few nodes on a path is the same with more of them allowed
-module _ (left : ℕ) (s : List ℕ) (l : left ≤ 32) (g : Good (type_of left s)) where
-  whole-good : Good (type_of 32 s)
+module _ (left : ℕ) (s : List ℕ) (l : left ≤ 32) (g : Good (typeOf left s)) where
+  whole-good : Good (typeOf 32 s)
   whole-good = kept-good (type-kept left 32 l s s (part-self s)) g
 
-  whole-tree : tree_of 32 s ≡ tree_of left s
-  unfolding tree_of
+  whole-tree : treeOf 32 s ≡ treeOf left s
+  unfolding treeOf
   whole-tree = kept-value noType (type-kept left 32 l s s (part-self s)) g
 
-  whole-end : end_of (type_of 32 s) ≡ end_of (type_of left s)
-  whole-end = kept-end (type-kept left 32 l s s (part-self s)) g ∙ (let z : 0 + end_of (type_of left s) ≡ end_of (type_of left s) = omega arith in z)
+  whole-end : endOf (typeOf 32 s) ≡ endOf (typeOf left s)
+  whole-end = kept-end (type-kept left 32 l s s (part-self s)) g ∙ (let z : 0 + endOf (typeOf left s) ≡ endOf (typeOf left s) = omega arith in z)
 
 -- a tree of fewer nodes at a place
-shallow : (s t : List ℕ) (n : ℕ) → t ≡ drop n s → Good (type_of 31 t) → tree_of 31 t ≡ treeIn s n
-unfolding treeIn tree_of
-shallow s t n e g = sym (whole-tree 31 t (omega arith) g) ∙ ap (tree_of 32) e
+shallow : (s t : List ℕ) (n : ℕ) → t ≡ drop n s → Good (typeOf 31 t) → treeOf 31 t ≡ treeIn s n
+unfolding treeIn treeOf
+shallow s t n e g = sym (whole-tree 31 t (omega arith) g) ∙ ap (treeOf 32) e
 
 -- the parts where the inner types start
 abbrev firstPart : List ℕ → List ℕ
-firstPart t = drop (end_of (label_of t)) t
+firstPart t = drop (endOf (labelOf t)) t
 
 abbrev secondPart : ℕ → List ℕ → List ℕ
-secondPart d t = drop (end_of (label_of t) + end_of (type_of d (firstPart t))) t
+secondPart d t = drop (endOf (labelOf t) + endOf (typeOf d (firstPart t))) t
 
 first-at : (s : List ℕ) (at : ℕ) → firstPart (drop at s) ≡ drop (labelEnd s at) s
 unfolding labelEnd
-first-at s at = drop-drop (end_of (label_of (drop at s))) at s
+first-at s at = drop-drop (endOf (labelOf (drop at s))) at s
 
-after : (s : List ℕ) (at x y : ℕ) → y ≡ x → at + (end_of (label_of (drop at s)) + x) ≡ labelEnd s at + y
+after : (s : List ℕ) (at x y : ℕ) → y ≡ x → at + (endOf (labelOf (drop at s)) + x) ≡ labelEnd s at + y
 unfolding labelEnd
 after s at x y e = omega arith
 
-second_at : (s : List ℕ) (at d : ℕ) → d ≤ 32 → Good (type_of d (firstPart (drop at s))) → secondPart d (drop at s) ≡ drop (typeEnd s (labelEnd s at)) s
+second_at : (s : List ℕ) (at d : ℕ) → d ≤ 32 → Good (typeOf d (firstPart (drop at s))) → secondPart d (drop at s) ≡ drop (typeEnd s (labelEnd s at)) s
 unfolding typeEnd
 second_at s at d l g =
-    let x = end_of (type_of d (firstPart (drop at s))) in
-    let y = end_of (type_of 32 (drop (labelEnd s at) s)) in
-    let e : y ≡ x = ap (λ (t : List ℕ). end_of (type_of 32 t)) (sym (first-at s at)) ∙ whole-end d (firstPart (drop at s)) l g in
-    drop-drop (end_of (label_of (drop at s)) + x) at s ∙ ap (λ (n : ℕ). drop n s) (after s at x y e)
+    let x = endOf (typeOf d (firstPart (drop at s))) in
+    let y = endOf (typeOf 32 (drop (labelEnd s at) s)) in
+    let e : y ≡ x = ap (λ (t : List ℕ). endOf (typeOf 32 t)) (sym (first-at s at)) ∙ whole-end d (firstPart (drop at s)) l g in
+    drop-drop (endOf (labelOf (drop at s)) + x) at s ∙ ap (λ (n : ℕ). drop n s) (after s at x y e)
 
 module _ (s : List ℕ) (at : ℕ) where
   pub type-whole : (left : ℕ) → TypeHere left s at → TypeHere 32 s at
@@ -69,12 +69,12 @@ module _ (s : List ℕ) (at : ℕ) where
     unfolding labelIn firstLabel
     tag-first = ap innerTypes (label-tag (drop at s) (type-labelled left (drop at s) h.good)).tagged
 
-    g : Good (type_of 32 (drop at s))
+    g : Good (typeOf 32 (drop at s))
     g = whole-good left (drop at s) h.few h.good
 
     -- a node by how many inner types its tag has: none
     pub node-leaf : innerTypes (labelIn s at).tag ≡ 0 → treeIn s at ≡ leaf (labelIn s at)
-    unfolding treeIn labelIn tree_of firstLabel
+    unfolding treeIn labelIn treeOf firstLabel
     node-leaf e = tree-leaf 32 (drop at s) g (sym tag-first ∙ e)
 
     -- one
@@ -88,11 +88,11 @@ module _ (s : List ℕ) (at : ℕ) where
         good = rw (first-at s at) at (first_good left (drop at s) h.good not_none);
       }
 
-      first-tree : tree_of 31 (firstPart (drop at s)) ≡ treeIn s (labelEnd s at)
+      first-tree : treeOf 31 (firstPart (drop at s)) ≡ treeIn s (labelEnd s at)
       first-tree = shallow s (firstPart (drop at s)) (labelEnd s at) (first-at s at) (first_good 32 (drop at s) g not_none)
 
       pub node-one : innerTypes (labelIn s at).tag ≡ 1 → treeIn s at ≡ one (labelIn s at) (treeIn s (labelEnd s at))
-      unfolding treeIn labelIn tree_of firstLabel
+      unfolding treeIn labelIn treeOf firstLabel
       node-one e = tree-one 32 (drop at s) g (sym tag-first ∙ e) ∙ ap (one (labelIn s at)) first-tree
 
       -- two
@@ -108,10 +108,10 @@ module _ (s : List ℕ) (at : ℕ) where
               good = rw (second_at s at (left - 1) l (first_good left (drop at s) h.good not_none)) at (second-good left (drop at s) h.good not_none not-one);
             }
 
-        second-tree : tree_of 31 (secondPart 31 (drop at s)) ≡ treeIn s (typeEnd s (labelEnd s at))
+        second-tree : treeOf 31 (secondPart 31 (drop at s)) ≡ treeIn s (typeEnd s (labelEnd s at))
         second-tree =
             shallow s (secondPart 31 (drop at s)) (typeEnd s (labelEnd s at)) (second_at s at 31 (omega arith) (first_good 32 (drop at s) g not_none)) (second-good 32 (drop at s) g not_none not-one)
 
         pub node-two : treeIn s at ≡ two (labelIn s at) (treeIn s (labelEnd s at)) (treeIn s (typeEnd s (labelEnd s at)))
-        unfolding treeIn labelIn tree_of firstLabel
+        unfolding treeIn labelIn treeOf firstLabel
         node-two = tree-two 32 (drop at s) g not_none not-one ∙ ap₂ (two (labelIn s at)) first-tree second-tree

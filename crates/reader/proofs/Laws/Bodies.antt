@@ -7,11 +7,11 @@ use borrow.Author.Tests.{eq-eqb, ne_eqb}
 use lib.ListN.{length, get_or}
 use lib.Dec.{eqb}
 use Rattle.image.specs.Schema.{Name, Marks, Decl}
-use Rattle.image.specs.Parse.{Parsed, ok, no, bind, pick, byte_at}
-use Rattle.image.specs.Names.{name_at}
+use Rattle.image.specs.Parse.{Parsed, ok, no, bind, pick, byteAt}
+use Rattle.image.specs.Names.{nameAt}
 use Rattle.image.specs.Fields.{marksAt}
-use Rattle.image.specs.Kinds.{kind_of}
-use Rattle.image.specs.Bodies.{otherAt, declAt, body_of}
+use Rattle.image.specs.Kinds.{kindOf}
+use Rattle.image.specs.Bodies.{otherAt, declAt, bodyOf}
 use Rattle.image.specs.Reads.{skip}
 use Rattle.image.specs.declared.Read.{Read}
 use Rattle.image.specs.declared.Read.TheVariants.{At, Refused}
@@ -21,23 +21,23 @@ use Rattle.image.proofs.Laws.Numbers.{There}
 -- a name and what a parser reads after it: the name refused, or the rest's answer
 module _ {A : Type 0} (p : List ℕ → ℕ → Parsed A) (f : Name → A → Decl) (s : List ℕ) (at : ℕ) where
   abbrev named : Parsed Decl
-  named = bind (name_at 8 s at) (λ x n. bind (p s n) (λ a m. ok (f x a) m))
+  named = bind (nameAt 8 s at) (λ x n. bind (p s n) (λ a m. ok (f x a) m))
 
-  pub named-stop : {x : Read} {k : ℕ} → x ≡ Refused k → x ≡ skip (name_at 8 s at) → x ≡ skip named
+  pub named-stop : {x : Read} {k : ℕ} → x ≡ Refused k → x ≡ skip (nameAt 8 s at) → x ≡ skip named
   named-stop h e = stop _ _ h e
 
-  pub named-rest : {x r : Read} {n : ℕ} → x ≡ At n → x ≡ skip (name_at 8 s at) → r ≡ skip (p s n) → r ≡ skip named
+  pub named-rest : {x r : Read} {n : ℕ} → x ≡ At n → x ≡ skip (nameAt 8 s at) → r ≡ skip (p s n) → r ≡ skip named
   named-rest {n = n} h e q = next _ (got h e) (λ _. q ∙ sym (skip-ok (p s n) _))
 
 -- the same with marks between them: the name refused, the marks refused, or the rest's answer
 module _ {A : Type 0} (p : List ℕ → ℕ → Parsed A) (f : Name → Marks → A → Decl) (s : List ℕ) (at : ℕ) where
   abbrev marked : Parsed Decl
-  marked = bind (name_at 8 s at) (λ x n₁. bind (marksAt s n₁) (λ m n₂. bind (p s n₂) (λ a n₃. ok (f x m a) n₃)))
+  marked = bind (nameAt 8 s at) (λ x n₁. bind (marksAt s n₁) (λ m n₂. bind (p s n₂) (λ a n₃. ok (f x m a) n₃)))
 
-  pub marked-stop : {x : Read} {k : ℕ} → x ≡ Refused k → x ≡ skip (name_at 8 s at) → x ≡ skip marked
+  pub marked-stop : {x : Read} {k : ℕ} → x ≡ Refused k → x ≡ skip (nameAt 8 s at) → x ≡ skip marked
   marked-stop h e = stop _ _ h e
 
-  module _ {x₁ : Read} {n₁ : ℕ} (h₁ : x₁ ≡ At n₁) (e₁ : x₁ ≡ skip (name_at 8 s at)) where
+  module _ {x₁ : Read} {n₁ : ℕ} (h₁ : x₁ ≡ At n₁) (e₁ : x₁ ≡ skip (nameAt 8 s at)) where
     pub marked-marks : {x : Read} {k : ℕ} → x ≡ Refused k → x ≡ skip (marksAt s n₁) → x ≡ skip marked
     marked-marks h e = next _ (got h₁ e₁) (λ _. stop _ _ h e)
 
@@ -45,19 +45,19 @@ module _ {A : Type 0} (p : List ℕ → ℕ → Parsed A) (f : Name → Marks �
     marked-rest {n = n} h e q = next _ (got h₁ e₁) (λ _. next _ (got h e) (λ _. q ∙ sym (skip-ok (p s n) _)))
 
 -- 5 to 7 have only a name
-pub decl-other : (kind : ℕ) (s : List ℕ) (at : ℕ) → 5 ≤ kind → kind ≤ 7 → skip (name_at 8 s at) ≡ skip (declAt (kind_of kind) s at)
-unfolding kind_of declAt otherAt
+pub decl-other : (kind : ℕ) (s : List ℕ) (at : ℕ) → 5 ≤ kind → kind ≤ 7 → skip (nameAt 8 s at) ≡ skip (declAt (kindOf kind) s at)
+unfolding kindOf declAt otherAt
 decl-other kind s at lo hi = go (kind - 5) (omega arith) (omega arith)
   where
-    go : (k : ℕ) → kind ≡ 5 + k → k ≤ 2 → skip (name_at 8 s at) ≡ skip (declAt (kind_of kind) s at)
-    go zero e h = rw e (sym (skip-ok (name_at 8 s at) _))
-    go (suc zero) e h = rw e (sym (skip-ok (name_at 8 s at) _))
-    go (suc (suc zero)) e h = rw e (sym (skip-ok (name_at 8 s at) _))
+    go : (k : ℕ) → kind ≡ 5 + k → k ≤ 2 → skip (nameAt 8 s at) ≡ skip (declAt (kindOf kind) s at)
+    go zero e h = rw e (sym (skip-ok (nameAt 8 s at) _))
+    go (suc zero) e h = rw e (sym (skip-ok (nameAt 8 s at) _))
+    go (suc (suc zero)) e h = rw e (sym (skip-ok (nameAt 8 s at) _))
     go (suc (suc (suc k))) e h = absurd (omega arith)
 
 -- a kind over 8
-pub decl-unknown : (kind : ℕ) (s : List ℕ) (at : ℕ) → 8 < kind → Refused 6 ≡ skip (declAt (kind_of kind) s at)
-unfolding kind_of declAt skip
+pub decl-unknown : (kind : ℕ) (s : List ℕ) (at : ℕ) → 8 < kind → Refused 6 ≡ skip (declAt (kindOf kind) s at)
+unfolding kindOf declAt skip
 decl-unknown kind s at h =
     let e : kind ≡ suc (suc (suc (suc (suc (suc (suc (suc (suc (kind - 9))))))))) = omega arith in
     rw e
@@ -72,16 +72,16 @@ unfolding pick skip
 end_whole d s n e = rw (eq-eqb n (length s) e)
 
 -- a body whose kind is there: its declaration refused, bytes left, or whole
-module _ (s : List ℕ) {n : ℕ} (b : There (byte_at 8 s 0) s 0 n) where
-  pub body-stop : {x : Read} {k : ℕ} → x ≡ Refused k → x ≡ skip (declAt (kind_of (get_or s 0 0)) s n) → x ≡ skip (body_of s)
-  unfolding body_of
+module _ (s : List ℕ) {n : ℕ} (b : There (byteAt 8 s 0) s 0 n) where
+  pub body-stop : {x : Read} {k : ℕ} → x ≡ Refused k → x ≡ skip (declAt (kindOf (get_or s 0 0)) s n) → x ≡ skip (bodyOf s)
+  unfolding bodyOf
   body-stop h e = next-is _ b.is (stop _ _ h e)
 
-  module _ {x : Read} {m : ℕ} (h : x ≡ At m) (e : x ≡ skip (declAt (kind_of (get_or s 0 0)) s n)) where
-    pub body-left : (m ≡ length s → ⊥) → Refused 8 ≡ skip (body_of s)
-    unfolding body_of
+  module _ {x : Read} {m : ℕ} (h : x ≡ At m) (e : x ≡ skip (declAt (kindOf (get_or s 0 0)) s n)) where
+    pub body-left : (m ≡ length s → ⊥) → Refused 8 ≡ skip (bodyOf s)
+    unfolding bodyOf
     body-left f = next-is _ b.is (next _ (got h e) (λ d. end-left d s m f))
 
-    pub body-whole : m ≡ length s → At m ≡ skip (body_of s)
-    unfolding body_of
+    pub body-whole : m ≡ length s → At m ≡ skip (bodyOf s)
+    unfolding bodyOf
     body-whole q = next-is _ b.is (next _ (got h e) (λ d. end_whole d s m q))

@@ -9,9 +9,9 @@ use borrow.Author.Tests.{eq-eqb, ne_eqb, le-leb, lt-leb, eqb-true, leb-true}
 use lib.ListN.{length, take, drop}
 use lib.Dec.{eqb, leb}
 use Rattle.image.specs.Parse.{ok, no, part, pick}
-use Rattle.image.specs.Names.{names_at}
-use Rattle.image.specs.Bodies.{body_of}
-use Rattle.image.specs.Image.{format, entryCount, idCount, segmentCount, entryOffset, entryLength, idsAt, segmentsAt, head_of, tables_of, laid, entry_of, entriesOf, readImage}
+use Rattle.image.specs.Names.{namesAt}
+use Rattle.image.specs.Bodies.{bodyOf}
+use Rattle.image.specs.Image.{format, entryCount, idCount, segmentCount, entryOffset, entryLength, idsAt, segmentsAt, headOf, tablesOf, laid, entryOf, entriesOf, readImage}
 use Rattle.image.specs.Reads.{skip}
 use Rattle.image.specs.declared.Read.{Read}
 use Rattle.image.specs.declared.Read.TheVariants.{At, Refused}
@@ -20,16 +20,16 @@ use Rattle.image.proofs.Laws.Sure.{Sure, sure-ok, sure-need, sure-at, names-sure
 
 -- the head: what each test leaves
 module _ (s : List ℕ) where
-  pub head-long : 32768 < length s → Refused 1 ≡ skip (head_of s)
-  unfolding head_of pick skip
+  pub head-long : 32768 < length s → Refused 1 ≡ skip (headOf s)
+  unfolding headOf pick skip
   head-long h = rw (lt-leb (length s) 32768 h)
 
-  pub head-short : length s ≤ 32768 → length s < 8 → Refused 2 ≡ skip (head_of s)
-  unfolding head_of pick skip
+  pub head-short : length s ≤ 32768 → length s < 8 → Refused 2 ≡ skip (headOf s)
+  unfolding headOf pick skip
   head-short a h = rw (le-leb (length s) 32768 a, lt-leb 8 (length s) h)
 
-  pub head-format : length s ≤ 32768 → 8 ≤ length s → (format s ≡ 1 → ⊥) → Refused 3 ≡ skip (head_of s)
-  unfolding head_of pick skip
+  pub head-format : length s ≤ 32768 → 8 ≤ length s → (format s ≡ 1 → ⊥) → Refused 3 ≡ skip (headOf s)
+  unfolding headOf pick skip
   head-format a b h = rw (le-leb (length s) 32768 a, le-leb 8 (length s) b, ne_eqb (format s) 1 h)
 
   -- the tests before the counts
@@ -39,49 +39,49 @@ module _ (s : List ℕ) where
     pub one : format s ≡ 1
 
   module _ (f : Formatted) where
-    counts : head_of s ≡ pick (leb (entryCount s) 512 && (leb (idCount s) 512 && leb (segmentCount s) 16)) (ok tt 8) (no 4)
-    unfolding head_of pick
+    counts : headOf s ≡ pick (leb (entryCount s) 512 && (leb (idCount s) 512 && leb (segmentCount s) 16)) (ok tt 8) (no 4)
+    unfolding headOf pick
     counts = rw (le-leb (length s) 32768 f.short, le-leb 8 (length s) f.there, eq-eqb (format s) 1 f.one)
 
-    pub crowded-entries : 512 < entryCount s → Refused 4 ≡ skip (head_of s)
+    pub crowded-entries : 512 < entryCount s → Refused 4 ≡ skip (headOf s)
     unfolding pick skip
     crowded-entries h = rw (counts, lt-leb (entryCount s) 512 h)
 
-    pub crowded-ids : entryCount s ≤ 512 → 512 < idCount s → Refused 4 ≡ skip (head_of s)
+    pub crowded-ids : entryCount s ≤ 512 → 512 < idCount s → Refused 4 ≡ skip (headOf s)
     unfolding pick skip
     crowded-ids d h = rw (counts, le-leb (entryCount s) 512 d, lt-leb (idCount s) 512 h)
 
-    pub crowded-segments : entryCount s ≤ 512 → idCount s ≤ 512 → 16 < segmentCount s → Refused 4 ≡ skip (head_of s)
+    pub crowded-segments : entryCount s ≤ 512 → idCount s ≤ 512 → 16 < segmentCount s → Refused 4 ≡ skip (headOf s)
     unfolding pick skip
     crowded-segments d e h = rw (counts, le-leb (entryCount s) 512 d, le-leb (idCount s) 512 e, lt-leb (segmentCount s) 16 h)
 
-    pub head-good : entryCount s ≤ 512 → idCount s ≤ 512 → segmentCount s ≤ 16 → At 8 ≡ skip (head_of s)
+    pub head-good : entryCount s ≤ 512 → idCount s ≤ 512 → segmentCount s ≤ 16 → At 8 ≡ skip (headOf s)
     unfolding pick skip
     head-good d e h = rw (counts, le-leb (entryCount s) 512 d, le-leb (idCount s) 512 e, le-leb (segmentCount s) 16 h)
 
 -- a head that was read
-pub head-there : (s : List ℕ) {x : Read} {n : ℕ} → x ≡ At n → x ≡ skip (head_of s) → 8 ≤ length s
+pub head-there : (s : List ℕ) {x : Read} {n : ℕ} → x ≡ At n → x ≡ skip (headOf s) → 8 ≤ length s
 head-there s h e = (sure-at (head-sure s) h e).2.least
 
 -- the contents and the ids
-tables-sure : (s : List ℕ) → Sure (λ a n. (8 + 4 * entryCount s ≤ length s) × (n ≤ length s)) (tables_of s)
-unfolding tables_of segmentsAt idsAt
+tables-sure : (s : List ℕ) → Sure (λ a n. (8 + 4 * entryCount s ≤ length s) × (n ≤ length s)) (tablesOf s)
+unfolding tablesOf segmentsAt idsAt
 tables-sure s = sure-need _ _ (λ a. sure-ok (let h = leb-true (8 + 4 * entryCount s + 4 * idCount s) (length s) a in (omega arith, h)))
 
 module _ (s : List ℕ) {n m : ℕ} (a : n ≡ entryCount s) (b : m ≡ idCount s) where
-  pub tables-short : length s < 8 + 4 * n + 4 * m → Refused 2 ≡ skip (tables_of s)
-  unfolding tables_of segmentsAt idsAt pick skip
+  pub tables-short : length s < 8 + 4 * n + 4 * m → Refused 2 ≡ skip (tablesOf s)
+  unfolding tablesOf segmentsAt idsAt pick skip
   tables-short h = rw (← a, ← b, lt-leb (8 + 4 * n + 4 * m) (length s) h)
 
-  pub tables-there : 8 + 4 * n + 4 * m ≤ length s → At (8 + 4 * n + 4 * m) ≡ skip (tables_of s)
-  unfolding tables_of segmentsAt idsAt pick skip
+  pub tables-there : 8 + 4 * n + 4 * m ≤ length s → At (8 + 4 * n + 4 * m) ≡ skip (tablesOf s)
+  unfolding tablesOf segmentsAt idsAt pick skip
   tables-there h = rw (← a, ← b, le-leb (8 + 4 * n + 4 * m) (length s) h)
 
-pub tables-within : (s : List ℕ) {x : Read} {n : ℕ} → x ≡ At n → x ≡ skip (tables_of s) → (8 + 4 * entryCount s ≤ length s) × (n ≤ length s)
+pub tables-within : (s : List ℕ) {x : Read} {n : ℕ} → x ≡ At n → x ≡ skip (tablesOf s) → (8 + 4 * entryCount s ≤ length s) × (n ≤ length s)
 tables-within s h e = (sure-at (tables-sure s) h e).2
 
 -- the names after them end within the image
-pub names-within : (s : List ℕ) (c : ℕ) {x y : Read} {n m : ℕ} → x ≡ At n → x ≡ skip (tables_of s) → y ≡ At m → y ≡ skip (names_at 2 c s n)
+pub names-within : (s : List ℕ) (c : ℕ) {x y : Read} {n m : ℕ} → x ≡ At n → x ≡ skip (tablesOf s) → y ≡ At m → y ≡ skip (namesAt 2 c s n)
     → m ≤ length s
 names-within s c {n = n} h e h' e' = (sure-at (names-sure 2 c s n (tables-within s h e).1) h' e').2
 
@@ -170,15 +170,15 @@ entry-part s {o} {l} e f = ap₂ take (add-sub_cancel_left o l ∙ f) (ap (λ (k
 
 -- one entry: empty, or its body's answer
 module _ (s : List ℕ) (i : ℕ) {l : ℕ} (e : l ≡ entryLength s i) where
-  pub entry-empty : l ≡ 0 → At 0 ≡ skip (entry_of s i)
-  unfolding entry_of pick skip
+  pub entry-empty : l ≡ 0 → At 0 ≡ skip (entryOf s i)
+  unfolding entryOf pick skip
   entry-empty z = rw (← e, z)
 
-  pub entry-body : {o : ℕ} {x : Read} → (l ≡ 0 → ⊥) → o ≡ entryOffset s i → x ≡ skip (body_of (take (o + l - o) (drop o s)))
-      → x ≡ skip (entry_of s i)
-  unfolding entry_of pick
+  pub entry-body : {o : ℕ} {x : Read} → (l ≡ 0 → ⊥) → o ≡ entryOffset s i → x ≡ skip (bodyOf (take (o + l - o) (drop o s)))
+      → x ≡ skip (entryOf s i)
+  unfolding entryOf pick
   entry-body f d q =
-      rw (ne_eqb (entryLength s i) 0 (λ z. f (e ∙ z))) (q ∙ ap (λ (b : List ℕ). skip (body_of b)) (entry-part s d e) ∙ sym (skip-ok _ _))
+      rw (ne_eqb (entryLength s i) 0 (λ z. f (e ∙ z))) (q ∙ ap (λ (b : List ℕ). skip (bodyOf b)) (entry-part s d e) ∙ sym (skip-ok _ _))
 
 -- the entries from the i-th of n on
 module _ (n : ℕ) (s : List ℕ) (i : ℕ) where
@@ -188,13 +188,13 @@ module _ (n : ℕ) (s : List ℕ) (i : ℕ) where
       let z : n - i ≡ 0 = omega arith in
       rw z
 
-  pub entries-stop : {x : Read} {k : ℕ} → i < n → x ≡ Refused k → x ≡ skip (entry_of s i) → x ≡ skip (entriesOf (n - i) s i)
+  pub entries-stop : {x : Read} {k : ℕ} → i < n → x ≡ Refused k → x ≡ skip (entryOf s i) → x ≡ skip (entriesOf (n - i) s i)
   unfolding entriesOf
   entries-stop p h e =
       let z : n - i ≡ suc (n - (i + 1)) = omega arith in
-      rw z (stop (entry_of s i) _ h e)
+      rw z (stop (entryOf s i) _ h e)
 
-  pub entries-more : {x : Read} {m : ℕ} → i < n → x ≡ At m → x ≡ skip (entry_of s i)
+  pub entries-more : {x : Read} {m : ℕ} → i < n → x ≡ At m → x ≡ skip (entryOf s i)
       → skip (entriesOf (n - (i + 1)) s (i + 1)) ≡ skip (entriesOf (n - i) s i)
   unfolding entriesOf
   entries-more p h e =
@@ -208,24 +208,24 @@ entries-start n s =
 
 -- a whole image: the first part refused, or the one after those that were read, or the entries' answer
 module _ (s : List ℕ) where
-  pub image-head : {x : Read} {k : ℕ} → x ≡ Refused k → x ≡ skip (head_of s) → x ≡ skip (readImage s)
+  pub image-head : {x : Read} {k : ℕ} → x ≡ Refused k → x ≡ skip (headOf s) → x ≡ skip (readImage s)
   unfolding readImage
   image-head h e = stop _ _ h e
 
-  module _ {x₁ : Read} {n₁ : ℕ} (h₁ : x₁ ≡ At n₁) (e₁ : x₁ ≡ skip (head_of s)) where
-    pub image-tables : {x : Read} {k : ℕ} → x ≡ Refused k → x ≡ skip (tables_of s) → x ≡ skip (readImage s)
+  module _ {x₁ : Read} {n₁ : ℕ} (h₁ : x₁ ≡ At n₁) (e₁ : x₁ ≡ skip (headOf s)) where
+    pub image-tables : {x : Read} {k : ℕ} → x ≡ Refused k → x ≡ skip (tablesOf s) → x ≡ skip (readImage s)
     unfolding readImage
     image-tables h e = next _ (got h₁ e₁) (λ _. stop _ _ h e)
 
-    module _ {x₂ : Read} {n₂ : ℕ} (h₂ : x₂ ≡ At n₂) (e₂ : x₂ ≡ skip (tables_of s)) {c : ℕ} (ec : c ≡ segmentCount s) where
-      names-as : {x : Read} → x ≡ skip (names_at 2 c s n₂) → x ≡ skip (names_at 2 (segmentCount s) s n₂)
+    module _ {x₂ : Read} {n₂ : ℕ} (h₂ : x₂ ≡ At n₂) (e₂ : x₂ ≡ skip (tablesOf s)) {c : ℕ} (ec : c ≡ segmentCount s) where
+      names-as : {x : Read} → x ≡ skip (namesAt 2 c s n₂) → x ≡ skip (namesAt 2 (segmentCount s) s n₂)
       names-as e = rw ec at e
 
-      pub image-names : {x : Read} {k : ℕ} → x ≡ Refused k → x ≡ skip (names_at 2 c s n₂) → x ≡ skip (readImage s)
+      pub image-names : {x : Read} {k : ℕ} → x ≡ Refused k → x ≡ skip (namesAt 2 c s n₂) → x ≡ skip (readImage s)
       unfolding readImage
       image-names h e = next _ (got h₁ e₁) (λ _. next _ (got h₂ e₂) (λ _. stop _ _ h (names-as e)))
 
-      module _ {x₃ : Read} {n₃ : ℕ} (h₃ : x₃ ≡ At n₃) (e₃ : x₃ ≡ skip (names_at 2 c s n₂)) {m : ℕ} (em : m ≡ entryCount s) where
+      module _ {x₃ : Read} {n₃ : ℕ} (h₃ : x₃ ≡ At n₃) (e₃ : x₃ ≡ skip (namesAt 2 c s n₂)) {m : ℕ} (em : m ≡ entryCount s) where
         pub image-gap : laid m s 0 n₃ ≡ false → Refused 5 ≡ skip (readImage s)
         unfolding readImage
         image-gap l =

@@ -10,7 +10,7 @@ use lib.Seq.{drop-cons}
 use Rattle.maps.specs.Lists.{every}
 use Rattle.maps.specs.Orders.{same, before}
 use Rattle.maps.specs.Keyed.{lookup}
-use Rattle.maps.specs.Walk.{is_some, latest, following, better, least, covers}
+use Rattle.maps.specs.Walk.{isSome, latest, following, better, least, covers}
 use Rattle.maps.proofs.Names.{byName}
 use Rattle.maps.proofs.Searches.{latest-start, latest-nothing, latest-skips, latest-other, latest-found, lookup-latest, least-cons, least-nil}
 use Rattle.maps.proofs.Walking.{following-least}
@@ -18,7 +18,7 @@ use Rattle.image.specs.Schema.{Name, Decl}
 use Rattle.parts.specs.Promise.{schemaOf, declIn, entryDecl, EntryHere}
 use Rattle.parts.specs.declared.Entry.{Entry}
 use Rattle.parts.specs.declared.Entry.TheVariants.{Body, Unresolvable}
-use Rattle.rules.specs.Survivors.{resolved, name_of}
+use Rattle.rules.specs.Survivors.{resolved, nameOf}
 use Rattle.rules.specs.Reached.{IdSet}
 use Rattle.rules.specs.Imports.{standingWith}
 use Rattle.survivors.specs.Answers.{Survives, nearerDecl, namesakeIn, namesCovered}
@@ -43,29 +43,29 @@ present-flat (o ∷ l) = go o (present-flat l)
 
 module _ (s : List ℕ) (m : IdSet) (name : Name) where
   abbrev stands : Option Decl
-  stands = lookup name_of before name (standingWith m (schemaOf s))
+  stands = lookup nameOf before name (standingWith m (schemaOf s))
 
   -- what is found going back from a position
   unfoldable pub back : ℕ → Option Decl
-  back i = latest name_of before name (flat_map shown (take i (candidates s m)))
+  back i = latest nameOf before name (flat_map shown (take i (candidates s m)))
 
   pub back_start : (n : ℕ) → n ≡ length (candidates s m) → back n ≡ stands
   unfolding back standingWith
   back_start n e =
       ap back e
-      ∙ latest-start name_of before name shown (candidates s m)
-      ∙ ap (latest name_of before name) (sym (present-flat (candidates s m)) ∙ present-candidates s m)
-      ∙ sym (lookup-latest name_of byName name _)
+      ∙ latest-start nameOf before name shown (candidates s m)
+      ∙ ap (latest nameOf before name) (sym (present-flat (candidates s m)) ∙ present-candidates s m)
+      ∙ sym (lookup-latest nameOf byName name _)
 
   pub back_end : (i : ℕ) → i ≡ 0 → back i ≡ stands → Survives (standingWith m (schemaOf s)) s name Unresolvable
   unfolding back entryDecl EntryHere
-  back_end i e p = record { value = sym (latest-nothing name_of before name shown (candidates s m) i e) ∙ p; here = tt }
+  back_end i e p = record { value = sym (latest-nothing nameOf before name shown (candidates s m) i e) ∙ p; here = tt }
 
   -- a turn, at the entry before the position
   module _ (i : ℕ) (h : 0 < i) (b : i ≤ length (candidates s m)) {r : Entry} (v : Candidate s m (i - 1) r) where
     pub back-skips : r ≡ Unresolvable → back (i - 1) ≡ back i
     unfolding back shown resolved entryDecl
-    back-skips u = sym (latest-skips name_of before name shown (candidates s m) none i h b (rw (← v.value, u)))
+    back-skips u = sym (latest-skips nameOf before name shown (candidates s m) none i h b (rw (← v.value, u)))
 
     module _ {at : ℕ} (u : r ≡ Body at) {own : Name} (w : own ≡ (declIn s at).name) where
       one : shown (get_or (candidates s m) (i - 1) none) ≡ declIn s at ∷ []
@@ -74,12 +74,12 @@ module _ (s : List ℕ) (m : IdSet) (name : Name) where
 
       pub back-other : same before name own ≡ false → back (i - 1) ≡ back i
       unfolding back
-      back-other n = sym (latest-other name_of before name shown (candidates s m) none i h b (declIn s at) one (rw w at n))
+      back-other n = sym (latest-other nameOf before name shown (candidates s m) none i h b (declIn s at) one (rw w at n))
 
       pub back_found : same before name own ≡ true → back i ≡ stands → Survives (standingWith m (schemaOf s)) s name (Body at)
       unfolding back entryDecl EntryHere
       back_found n p = record {
-        value = sym (latest-found name_of before name shown (candidates s m) none i h b (declIn s at) one (rw w at n)) ∙ p;
+        value = sym (latest-found nameOf before name shown (candidates s m) none i h b (declIn s at) one (rw w at n)) ∙ p;
         here = entry_here s u v.here;
       }
 
@@ -88,25 +88,25 @@ module _ (s : List ℕ) (m : IdSet) (name : Name) where
 module _ (s : List ℕ) (m : IdSet) (b : Option Name) where
   -- what is found going on from a position, with the best declaration so far
   unfoldable pub ahead : Option Decl → ℕ → Option Decl
-  ahead best i = least name_of before b best (present (drop i (candidates s m)))
+  ahead best i = least nameOf before b best (present (drop i (candidates s m)))
 
-  pub ahead-start : ahead none 0 ≡ following name_of before b (standingWith m (schemaOf s))
+  pub ahead-start : ahead none 0 ≡ following nameOf before b (standingWith m (schemaOf s))
   unfolding ahead standingWith
-  ahead-start = ap (least name_of before b none) (present-candidates s m) ∙ sym (following-least name_of byName b _)
+  ahead-start = ap (least nameOf before b none) (present-candidates s m) ∙ sym (following-least nameOf byName b _)
 
   pub ahead-end : (best : Option Decl) (i : ℕ) {o : Option Decl} → length (candidates s m) ≤ i → ahead best i ≡ o → best ≡ o
   unfolding ahead present
-  ahead-end best i h p = sym (rw (drop_of_length-le (candidates s m) h) (least-nil name_of before b best)) ∙ p
+  ahead-end best i h p = sym (rw (drop_of_length-le (candidates s m) h) (least-nil nameOf before b best)) ∙ p
 
   -- the best after an entry more
   abbrev after : Option Decl → Option Decl → Option Decl
   after best o = cond (nearerDecl b best o) o best
 
   least-resolved : (best o : Option Decl) (ds : List Decl)
-      → least name_of before b best (resolved o ds) ≡ least name_of before b (after best o) ds
+      → least nameOf before b best (resolved o ds) ≡ least nameOf before b (after best o) ds
   unfolding resolved nearerDecl better
   least-resolved best none ds = refl
-  least-resolved best (some d) ds = least-cons name_of before b best d ds
+  least-resolved best (some d) ds = least-cons nameOf before b best d ds
 
   -- a turn, at the entry r of the position; t: it takes the place of the best
   module _ (best : Entry) (i : ℕ) {o : Option Decl} (h : i < length (candidates s m))
@@ -127,17 +127,17 @@ module _ (s : List ℕ) (m : IdSet) (b : Option Name) where
 
 module _ (n : List Decl) (s : List ℕ) (m : IdSet) where
   unfoldable pub namedFrom : ℕ → Bool
-  namedFrom i = covers name_of before n (present (drop i (candidates s m)))
+  namedFrom i = covers nameOf before n (present (drop i (candidates s m)))
 
   pub named_start : namedFrom 0 ≡ namesCovered n s m
   unfolding namedFrom namesCovered
-  named_start = ap (covers name_of before n) (present-candidates s m)
+  named_start = ap (covers nameOf before n) (present-candidates s m)
 
   pub named_end : (i : ℕ) {x : Bool} → length (candidates s m) ≤ i → namedFrom i ≡ x → true ≡ x
   unfolding namedFrom present covers every
   named_end i h p = rw (drop_of_length-le (candidates s m) h) at p
 
-  covers-resolved : (o : Option Decl) (ds : List Decl) → covers name_of before n (resolved o ds) ≡ (namesakeIn n o && covers name_of before n ds)
+  covers-resolved : (o : Option Decl) (ds : List Decl) → covers nameOf before n (resolved o ds) ≡ (namesakeIn n o && covers nameOf before n ds)
   unfolding covers every resolved namesakeIn
   covers-resolved none ds = refl
   covers-resolved (some d) ds = refl
@@ -163,13 +163,13 @@ module _ (n : List Decl) (s : List ℕ) {at : Entry} where
   namesake-skips e = rw (decl-none s e)
 
   module _ {body : ℕ} (e : at ≡ Body body) {own : Name} (w : own ≡ (declIn s body).name) (o : List ℕ) {r : Entry} (h : Survives n o own r) where
-    namesake : lookup name_of before (declIn s body).name n ≡ entryDecl o r
+    namesake : lookup nameOf before (declIn s body).name n ≡ entryDecl o r
     namesake = rw (← w) (sym h.value)
 
     pub namesake-found : {j : ℕ} → r ≡ Body j → true ≡ namesakeIn n (entryDecl s at)
-    unfolding namesakeIn is_some
+    unfolding namesakeIn isSome
     namesake-found f = rw (decl-body s e, namesake, decl-body o f)
 
     pub namesake-none : r ≡ Unresolvable → false ≡ namesakeIn n (entryDecl s at)
-    unfolding namesakeIn is_some
+    unfolding namesakeIn isSome
     namesake-none f = rw (decl-body s e, namesake, decl-none o f)

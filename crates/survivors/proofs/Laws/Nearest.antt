@@ -4,7 +4,7 @@ use mathlib.Core.Bool.{Bool, true, false}
 use mathlib.Core.Option.{none, some}
 use mathlib.Core.List.{List}
 use Prim.Native.Nat.{ℕ}
-use Rattle.maps.specs.Orders.{order_of, isLess, before}
+use Rattle.maps.specs.Orders.{orderOf, isLess, before}
 use Rattle.maps.specs.declared.Order.{Order}
 use Rattle.maps.specs.Walk.{past}
 use Rattle.maps.proofs.Names.{before-told}
@@ -12,12 +12,12 @@ use Rattle.image.specs.Schema.{Name}
 use Rattle.parts.specs.Promise.{DeclHere, declIn, entryDecl, EntryHere}
 use Rattle.parts.specs.declared.Entry.{Entry}
 use Rattle.parts.specs.declared.Entry.TheVariants.{Body, Unresolvable}
-use Rattle.rules.specs.Survivors.{name_of}
+use Rattle.rules.specs.Survivors.{nameOf}
 use Rattle.survivors.specs.Answers.{named, nearerDecl}
 use Rattle.survivors.proofs.Laws.Better.{nearer-first, nearer-past, nearer-before}
 
 -- which of two names stands first, by an answer of `compared`
-pub told : {a b : Name} {o p : Order} → o ≡ order_of a b → {x y : Name} → a ≡ x → b ≡ y → o ≡ p → isLess p ≡ before x y
+pub told : {a b : Name} {o p : Order} → o ≡ orderOf a b → {x y : Name} → a ≡ x → b ≡ y → o ≡ p → isLess p ≡ before x y
 told {a} {b} e u v q = sym (rw (← u, ← v) (before-told a b (sym e ∙ q)))
 
 module _ (s : List ℕ) {r : Entry} where
@@ -60,14 +60,14 @@ module _ (s : List ℕ) (after best found : Entry) where
     module _ {t : Bool} (p : t ≡ past before (named s after) (declIn s at).name) where
       pub nearer-none : best ≡ Unresolvable → t ≡ nearerDecl (named s after) (entryDecl s best) (entryDecl s found)
       unfolding nearerDecl
-      nearer-none f = rw (decl-body s e) (nearer-first name_of before _ _ _ p (decl-none s f))
+      nearer-none f = rw (decl-body s e) (nearer-first nameOf before _ _ _ p (decl-none s f))
 
       pub nearer-told : {least : ℕ} → best ≡ Body least → {u : Bool} → u ≡ before (declIn s least).name (declIn s at).name → u ≡ false
           → t ≡ nearerDecl (named s after) (entryDecl s best) (entryDecl s found)
       unfolding nearerDecl
-      nearer-told f v w = rw (decl-body s e) (nearer-past name_of before _ _ _ p (decl-body s f) (sym v ∙ w))
+      nearer-told f v w = rw (decl-body s e) (nearer-past nameOf before _ _ _ p (decl-body s f) (sym v ∙ w))
 
     pub nearer-not : {least : ℕ} → best ≡ Body least → {u : Bool} → u ≡ before (declIn s least).name (declIn s at).name → u ≡ true
         → false ≡ nearerDecl (named s after) (entryDecl s best) (entryDecl s found)
     unfolding nearerDecl
-    nearer-not f v w = rw (decl-body s e) (nearer-before name_of before _ _ _ (decl-body s f) (sym v ∙ w))
+    nearer-not f v w = rw (decl-body s e) (nearer-before nameOf before _ _ _ (decl-body s f) (sym v ∙ w))

@@ -9,7 +9,7 @@ use borrow.Author.Tests.{lt-ltb, le-ltb}
 use lib.Dec.{ltb}
 use Rattle.maps.specs.Lists.{pass}
 use Rattle.maps.specs.Keyed.{lookup}
-use Rattle.maps.specs.Walk.{is_some, past, following, nearer, better, least, has, seen, lastSeen}
+use Rattle.maps.specs.Walk.{isSome, past, following, nearer, better, least, has, seen, lastSeen}
 use Rattle.maps.proofs.Orders.{byNumber, eq-same, ne_same}
 use Rattle.maps.proofs.Survivors.{lookup-lastSeen}
 use Rattle.maps.proofs.Walking.{following-least}
@@ -18,7 +18,7 @@ use Rattle.parts.specs.Promise.{ItemHere, itemEnd, ItemsHere, placesFrom, ordina
 use Rattle.parts.specs.declared.Shape.{Shape}
 use Rattle.parts.specs.declared.Run.{Run}
 use Rattle.parts.proofs.Promise.{places-none, places-more, items-rest}
-use Rattle.survivors.specs.Answers.{place_of, FoundHere, number_of, placeMap, placeNext, NextHere}
+use Rattle.survivors.specs.Answers.{placeOf, FoundHere, numberOf, placeMap, placeNext, NextHere}
 use Rattle.survivors.specs.declared.Found.{Found}
 use Rattle.survivors.specs.declared.Found.TheVariants.{At}
 use Rattle.survivors.specs.declared.Ordinal.{Ordinal}
@@ -52,18 +52,18 @@ module _ (h : Shape) (s : List ℕ) (k : ℕ) where
 
   -- the item at a place has the ordinal, or another
   module _ (o o' : Found) (at : ℕ) {i : ℕ} (e : i ≡ ordinalIn s at) where
-    pub item-same : i ≡ k → ItemHere h s at → o' ≡ At at → (place_of o' ≡ seen (ordinalIn s) ltb k (place_of o) at) × FoundHere h s o'
-    unfolding place_of FoundHere
-    item-same q g u = (rw (u, seen_here (ordinalIn s) ltb k (place_of o) at (eq-same byNumber k (ordinalIn s at) (sym q ∙ e))), rw u g)
+    pub item-same : i ≡ k → ItemHere h s at → o' ≡ At at → (placeOf o' ≡ seen (ordinalIn s) ltb k (placeOf o) at) × FoundHere h s o'
+    unfolding placeOf FoundHere
+    item-same q g u = (rw (u, seen_here (ordinalIn s) ltb k (placeOf o) at (eq-same byNumber k (ordinalIn s at) (sym q ∙ e))), rw u g)
 
-    pub item-other : (i ≡ k → ⊥) → FoundHere h s o → o' ≡ o → (place_of o' ≡ seen (ordinalIn s) ltb k (place_of o) at) × FoundHere h s o'
-    item-other n g u = rw u (sym (seen_other (ordinalIn s) ltb k (place_of o) at (ne_same byNumber k (ordinalIn s at) (λ q. n (e ∙ sym q)))), g)
+    pub item-other : (i ≡ k → ⊥) → FoundHere h s o → o' ≡ o → (placeOf o' ≡ seen (ordinalIn s) ltb k (placeOf o) at) × FoundHere h s o'
+    item-other n g u = rw u (sym (seen_other (ordinalIn s) ltb k (placeOf o) at (ne_same byNumber k (ordinalIn s at) (λ q. n (e ∙ sym q)))), g)
 
   -- whether an item has the ordinal: of so many left
   unfoldable pub hasFrom : ℕ → ℕ → Bool
   hasFrom left at = has (ordinalIn s) ltb k (placesFrom h s left at)
 
-  pub has-start : (n : Run) → hasFrom n.count n.start ≡ is_some (lookup (ordinalIn s) ltb k (placeMap h s n))
+  pub has-start : (n : Run) → hasFrom n.count n.start ≡ isSome (lookup (ordinalIn s) ltb k (placeMap h s n))
   unfolding hasFrom placeMap
   has-start n = sym (lookup-has (ordinalIn s) byNumber k (placesFrom h s n.count n.start))
 
@@ -93,31 +93,31 @@ next_start h s b n = sym (following-least (ordinalIn s) byNumber b (placesFrom h
 
 -- whether the item at a place takes the place of the best so far
 module _ (h : Shape) (s : List ℕ) (after : Ordinal) (best : Next) (at : ℕ) {i : ℕ} (e : i ≡ ordinalIn s at) where
-  module _ {t : Bool} (p : t ≡ past ltb (number_of after) i) where
-    is-past : t ≡ past ltb (number_of after) (ordinalIn s at)
-    is-past = p ∙ ap (past ltb (number_of after)) e
+  module _ {t : Bool} (p : t ≡ past ltb (numberOf after) i) where
+    is-past : t ≡ past ltb (numberOf after) (ordinalIn s at)
+    is-past = p ∙ ap (past ltb (numberOf after)) e
 
-    pub item-first : best ≡ Nothing → t ≡ nearer (ordinalIn s) ltb (number_of after) (placeNext best) at
+    pub item-first : best ≡ Nothing → t ≡ nearer (ordinalIn s) ltb (numberOf after) (placeNext best) at
     unfolding placeNext
     item-first f = nearer-first (ordinalIn s) ltb _ _ _ is-past (ap placeNext f)
 
-    pub item-past : NextHere h s best → {l m : ℕ} → best ≡ Is l m → i ≤ l → t ≡ nearer (ordinalIn s) ltb (number_of after) (placeNext best) at
+    pub item-past : NextHere h s best → {l m : ℕ} → best ≡ Is l m → i ≤ l → t ≡ nearer (ordinalIn s) ltb (numberOf after) (placeNext best) at
     unfolding placeNext NextHere
     item-past g {m = m} f w =
         nearer-past (ordinalIn s) ltb _ _ _ is-past (ap placeNext f) (le-ltb (ordinalIn s m) (ordinalIn s at) (rw ((rw f at g).0, e) at w))
 
-  pub item-before : NextHere h s best → {l m : ℕ} → best ≡ Is l m → l < i → false ≡ nearer (ordinalIn s) ltb (number_of after) (placeNext best) at
+  pub item-before : NextHere h s best → {l m : ℕ} → best ≡ Is l m → l < i → false ≡ nearer (ordinalIn s) ltb (numberOf after) (placeNext best) at
   unfolding placeNext NextHere
   item-before g {m = m} f w =
       nearer-before (ordinalIn s) ltb _ _ _ (ap placeNext f) (lt-ltb (ordinalIn s m) (ordinalIn s at) (rw ((rw f at g).0, e) at w))
 
 -- the best after it
-module _ (h : Shape) (s : List ℕ) (after : Ordinal) (best best' : Next) (at : ℕ) {t : Bool} (p : t ≡ nearer (ordinalIn s) ltb (number_of after) (placeNext best) at) where
+module _ (h : Shape) (s : List ℕ) (after : Ordinal) (best best' : Next) (at : ℕ) {t : Bool} (p : t ≡ nearer (ordinalIn s) ltb (numberOf after) (placeNext best) at) where
   pub item-taken : t ≡ true → ItemHere h s at → {i : ℕ} → i ≡ ordinalIn s at → best' ≡ Is i at
-      → (placeNext best' ≡ better (ordinalIn s) ltb (number_of after) (placeNext best) at) × NextHere h s best'
+      → (placeNext best' ≡ better (ordinalIn s) ltb (numberOf after) (placeNext best) at) × NextHere h s best'
   unfolding placeNext NextHere
   item-taken q g e f = rw f (better-taken (ordinalIn s) ltb _ _ _ p q, (e, g))
 
   pub item-left : t ≡ false → NextHere h s best → best' ≡ best
-      → (placeNext best' ≡ better (ordinalIn s) ltb (number_of after) (placeNext best) at) × NextHere h s best'
+      → (placeNext best' ≡ better (ordinalIn s) ltb (numberOf after) (placeNext best) at) × NextHere h s best'
   item-left q g f = rw f (better-left (ordinalIn s) ltb _ _ _ p q, g)

@@ -1,7 +1,7 @@
 -- `text::put_text` meets its contract, by the mode. Assumes nothing.
 use mathlib.Core.Path.{refl}
 use borrow.Author.Rules.{rules}
-use Rattle.text.specs.Text.{put_in, Room}
+use Rattle.text.specs.Text.{putIn, Room}
 use Rattle.text.proofs.put_text.Statement.{statement}
 use Rattle.text.proofs.put_text.Tie as tie
 
@@ -22,14 +22,14 @@ add-result-2 : tie.Need-overflow-add-result-2
 add-result-2 c = search rules
 
 returns : tie.Need-returns
-unfolding put_in
+unfolding putIn
 returns c = search rules
 
 same_length : tie.Need-same-length
 same_length c = search rules
 
 returns-2 : tie.Need-returns-2
-unfolding put_in
+unfolding putIn
 returns-2 c = record { end = refl; bytes = rw c.before.before.before.before.enum-told2.given.1 c.before.before.copy.ensures }
 
 pub put-text-spec : {M : Type 1} → statement M

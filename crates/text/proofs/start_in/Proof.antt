@@ -1,6 +1,6 @@
 -- `text::start_in` meets its contract, by the mode. Assumes nothing.
 use borrow.Author.Rules.{rules}
-use Rattle.text.specs.Text.{start_in}
+use Rattle.text.specs.Text.{startIn}
 use Rattle.text.proofs.start_in.Statement.{statement}
 use Rattle.text.proofs.start_in.Tie as tie
 
@@ -11,11 +11,11 @@ enum-told-2 : tie.Need-enum-told-2
 enum-told-2 c = search rules
 
 returns : tie.Need-returns
-unfolding start_in
+unfolding startIn
 returns c = search rules
 
 returns-2 : tie.Need-returns-2
-unfolding start_in
+unfolding startIn
 returns-2 c = search rules
 
 pub start-in-spec : {M : Type 1} → statement M

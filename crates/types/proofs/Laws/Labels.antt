@@ -13,12 +13,12 @@ use Rattle.parts.specs.Promise.{LabelHere, labelIn, Regular, bitsIn, declIn, Res
 use Rattle.parts.proofs.Promise.{label-regular, bits-listed, resolved-body, resolved-none}
 use Rattle.parts.specs.declared.Entry.{Entry}
 use Rattle.parts.specs.declared.Run.{Run}
-use Rattle.rules.specs.Equal.{same_list, sameName, sameNames}
-use Rattle.rules.specs.Survivors.{Registry, stands_for}
+use Rattle.rules.specs.Equal.{sameList, sameName, sameNames}
+use Rattle.rules.specs.Survivors.{Registry, standsFor}
 use Rattle.rules.specs.Types.{nameOrNone, resolveLabel, sameLabel}
 use Rattle.rules.proofs.Types.{tag-resolved}
 use Rattle.types.specs.Names.{NamesIn, namesIn}
-use Rattle.types.specs.Resolved.{named_by, nodeIn}
+use Rattle.types.specs.Resolved.{namedBy, nodeIn}
 
 -- ---- with the name in the place of the id
 
@@ -26,35 +26,35 @@ pub not_named : (R : Registry) (l : Label) → (l.tag ≡ 3 → ⊥) → resolve
 unfolding resolveLabel
 not_named R l n = rw (ne_eqb l.tag 3 n)
 
-pub named : (R : Registry) (l : Label) → l.tag ≡ 3 → resolveLabel R l ≡ label 3 0 0 (nameOrNone (stands_for R l.first))
+pub named : (R : Registry) (l : Label) → l.tag ≡ 3 → resolveLabel R l ≡ label 3 0 0 (nameOrNone (standsFor R l.first))
 unfolding resolveLabel
 named R l e = rw (eq-eqb l.tag 3 e)
 
 -- what an id stands for, by the answer of `entry`
 module _ (s : List ℕ) (id : ℕ) {r : Entry} (h : Resolved s id r) where
-  pub id-unresolvable : r ≡ Entry.Unresolvable → named_by s id ≡ []
-  unfolding stands_for nameOrNone
+  pub id-unresolvable : r ≡ Entry.Unresolvable → namedBy s id ≡ []
+  unfolding standsFor nameOrNone
   id-unresolvable e = ap nameOrNone (resolved-none s id h e)
 
-  pub id-name : {at : ℕ} → r ≡ Entry.Body at → {x : Name} → x ≡ (declIn s at).name → named_by s id ≡ x ∷ []
-  unfolding stands_for nameOrNone
+  pub id-name : {at : ℕ} → r ≡ Entry.Body at → {x : Name} → x ≡ (declIn s at).name → namedBy s id ≡ x ∷ []
+  unfolding standsFor nameOrNone
   id-name e n = ap nameOrNone (resolved-body s id h e) ∙ rw n
 
 -- one name and none
 pub one_name : {a b : List Name} {x y : Name} → a ≡ x ∷ [] → b ≡ y ∷ [] → sameName x y ≡ sameNames a b
-unfolding sameNames same_list
+unfolding sameNames sameList
 one_name {x = x} {y = y} e f = rw (e, f) (sym (and-true (sameName x y)))
 
 pub no_names : {a b : List Name} → a ≡ [] → b ≡ [] → true ≡ sameNames a b
-unfolding sameNames same_list
+unfolding sameNames sameList
 no_names e f = rw (e, f)
 
 pub new-name : {a b : List Name} {y : Name} → a ≡ [] → b ≡ y ∷ [] → false ≡ sameNames a b
-unfolding sameNames same_list
+unfolding sameNames sameList
 new-name e f = rw (e, f)
 
 pub old-name : {a b : List Name} {x : Name} → a ≡ x ∷ [] → b ≡ [] → false ≡ sameNames a b
-unfolding sameNames same_list
+unfolding sameNames sameList
 old-name e f = rw (e, f)
 
 -- ---- two labels
@@ -77,14 +77,14 @@ same-tags R S l m e =
 -- of one tag, by what it has: what it has not is 0 or empty in both
 module _ (l m : Label) (D : Regular l) (E : Regular m) (t : l.tag ≡ m.tag) where
   first-only : l.tag < 10 → (l.tag ≡ 1 → ⊥) → sameLabel l m ≡ eqb l.first m.first
-  unfolding sameNames same_list
+  unfolding sameNames sameList
   first-only h n =
       let k : m.tag ≡ 1 → ⊥ = λ e. n (t ∙ e) in
       rw (parts l m t, D.second n, E.second k, D.names (λ e. absurd (omega arith)), E.names (λ e. absurd (omega arith)))
       (and-true (eqb l.first m.first))
 
   both-numbers : l.tag ≡ 1 → sameLabel l m ≡ (eqb l.first m.first && eqb l.second m.second)
-  unfolding sameNames same_list
+  unfolding sameNames sameList
   both-numbers h =
       rw (parts l m t, D.names (λ e. absurd (omega arith)), E.names (λ e. absurd (omega arith)), and-true (eqb l.second m.second))
 
@@ -100,7 +100,7 @@ module _ (l m : Label) (D : Regular l) (E : Regular m) (t : l.tag ≡ m.tag) whe
       )
 
   nothing-more : 3 < l.tag → (l.tag ≡ 6 → ⊥) → (l.tag ≡ 16 → ⊥) → sameLabel l m ≡ true
-  unfolding sameNames same_list
+  unfolding sameNames sameList
   nothing-more h n k =
       rw (
         parts l m t,
@@ -133,10 +133,10 @@ module _ (s : List ℕ) (i : ℕ) (t : List ℕ) (j : ℕ) {x y : ℕ} (p : x �
     tags : (labelIn s i).tag ≡ (labelIn t j).tag
     tags = sym p ∙ e ∙ q
 
-    pub by_name : x ≡ 3 → {u v : ℕ} → u ≡ (labelIn s i).first → v ≡ (labelIn t j).first → {r : Bool} → r ≡ sameNames (named_by s u) (named_by t v) → r ≡ sameLabel (nodeIn s i) (nodeIn t j)
+    pub by_name : x ≡ 3 → {u v : ℕ} → u ≡ (labelIn s i).first → v ≡ (labelIn t j).first → {r : Bool} → r ≡ sameNames (namedBy s u) (namedBy t v) → r ≡ sameLabel (nodeIn s i) (nodeIn t j)
     by_name h k m c =
         rw (named _ (labelIn s i) (sym p ∙ h), named _ (labelIn t j) (sym q ∙ sym e ∙ h))
-        (c ∙ rw (k, m) (sym (parts (label 3 0 0 (named_by s (labelIn s i).first)) (label 3 0 0 (named_by t (labelIn t j).first)) refl)))
+        (c ∙ rw (k, m) (sym (parts (label 3 0 0 (namedBy s (labelIn s i).first)) (label 3 0 0 (namedBy t (labelIn t j).first)) refl)))
 
     module _ (g : LabelHere s i) (h : LabelHere t j) where
       -- neither has an id

@@ -11,7 +11,7 @@ use Rattle.image.specs.Schema.{Name}
 use Rattle.parts.specs.Promise.{Accepted, schemaOf, NameHere, nameIn, nameEnd, segmentsIn}
 use Rattle.parts.proofs.Promise.{names-first, names-rest, name-places-none, name-places-more, segments-listed}
 use Rattle.parts.specs.declared.Run.{Run}
-use Rattle.rules.specs.Equal.{same_list, sameName, sameNames, Sound}
+use Rattle.rules.specs.Equal.{sameList, sameName, sameNames, Sound}
 use Rattle.rules.proofs.Equal.{names, nameLists}
 use Rattle.types.specs.Names.{run, NamesIn, namesIn}
 
@@ -64,17 +64,17 @@ pub same_count : (s : List ℕ) (p : Run) (t : List ℕ) (q : Run) {x : Bool} �
 same_count s p t q e h = sym (ap (λ (n : ℕ). sameNames (namesIn s p) (namesIn t (run q.start n))) (sym e) ∙ h)
 
 pub both-none : (s : List ℕ) (i : ℕ) (t : List ℕ) (j c : ℕ) → c ≡ 0 → sameNames (namesIn s (run i c)) (namesIn t (run j c)) ≡ true
-unfolding sameNames same_list
+unfolding sameNames sameList
 both-none s i t j c e = rw (names-none s i c e, names-none t j c e)
 
 module _ (s : List ℕ) (i : ℕ) (t : List ℕ) (j c : ℕ) (l : 0 < c) {x y : Name} (p : x ≡ nameIn s i) (q : y ≡ nameIn t j) {r : Bool} (e : r ≡ sameName x y) where
   pub first-differs : r ≡ false → sameNames (namesIn s (run i c)) (namesIn t (run j c)) ≡ false
-  unfolding sameNames same_list
+  unfolding sameNames sameList
   first-differs f = rw (names_more s i c l, names_more t j c l, ← p, ← q, ← e, f)
 
   pub first-same : r ≡ true → {n m : ℕ} → n ≡ nameEnd s i → m ≡ nameEnd t j
       → sameNames (namesIn s (run i c)) (namesIn t (run j c)) ≡ sameNames (namesIn s (run n (c - 1))) (namesIn t (run m (c - 1)))
-  unfolding sameNames same_list
+  unfolding sameNames sameList
   first-same f k h = rw (names_more s i c l, names_more t j c l, ← p, ← q, ← e, f, k, h)
 
 -- ---- namespaces

@@ -6,7 +6,7 @@ use Rattle.tally.proofs.Running.{ran-length}
 use Rattle.survivors.proofs.Declarations.{follows-here}
 use Rattle.survivors.proofs.Walks.{declsLeft, decls-less}
 use Rattle.checking.proofs.Turns.{Walked, walk_start, walk-done, walk-room, walk_turn}
-use Rattle.items.specs.Pairs.{context_of}
+use Rattle.items.specs.Pairs.{contextOf}
 use Rattle.items.specs.declared.Side.{Side}
 use Rattle.checking.specs.Decls.{standing, keptDecls, keptIn}
 use Rattle.checking.proofs.decls.kept_decls.Statement.{statement}
@@ -14,7 +14,7 @@ use Rattle.checking.proofs.decls.kept_decls.Tie as tie
 
 abbrev invariant-loop : tie.invariant-loop
 invariant-loop walk old new a b out₀ tally₀ after₀ out tally after =
-    Walked (matched (declRules (context_of walk.reading old new)).kept) (standing old new a b Side.Old) old (standing old new a b Side.New) walk.mode out₀ tally₀ after tally out
+    Walked (matched (declRules (contextOf walk.reading old new)).kept) (standing old new a b Side.Old) old (standing old new a b Side.New) walk.mode out₀ tally₀ after tally out
 
 abbrev decreases-loop : tie.decreases-loop
 decreases-loop walk old new a b out₀ tally₀ after₀ out tally after = declsLeft (standing old new a b Side.Old) old after

@@ -11,7 +11,7 @@ use Rattle.tally.specs.declared.Tally.{Tally}
 use Rattle.tally.proofs.Running.{Owed, owed_start, owed-room, owed-next, owed-end, ran-length}
 use Rattle.details.specs.Details.{declarationOf}
 use Rattle.lines.specs.Clauses.{fieldTypeChanged}
-use Rattle.items.specs.Pairs.{context_of}
+use Rattle.items.specs.Pairs.{contextOf}
 use Rattle.clauses.proofs.Tests.{test-asks, test-ran, types-ask, types-ran, names-differ, same-marks}
 use Rattle.clauses.proofs.Pairs.{fieldParts, field-parts, field-bare, types-here, renamed, type-changed, encoding-changed, deprecated}
 use borrow.Author.Rules.{rules}
@@ -24,7 +24,7 @@ Left k s r d =
     let old = s.args.old.now in
     let new = s.args.new.now in
     Owed s.args.walk.mode s.args.out.now s.args.t
-    (compareFields (context_of s.args.walk.reading old new) (declarationOf old new s.args.scope) (fieldIn old s.args.i) (fieldIn new s.args.j))
+    (compareFields (contextOf s.args.walk.reading old new) (declarationOf old new s.args.scope) (fieldIn old s.args.i) (fieldIn new s.args.j))
     r d
     (drop k (fieldParts s.args.walk.reading old new s.args.scope s.args.i s.args.j))
 

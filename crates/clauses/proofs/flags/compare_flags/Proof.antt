@@ -2,7 +2,7 @@
 use mathlib.Core.List.{List}
 use Prim.Native.Nat.{ℕ}
 use lib.ListN.{drop}
-use Rattle.rules.specs.Clauses.{compare_flags}
+use Rattle.rules.specs.Clauses.{compareFlags}
 use Rattle.tally.specs.declared.Tally.{Tally}
 use Rattle.tally.proofs.Running.{Owed, owed_start, owed-room, owed-next, owed-end}
 use Rattle.items.specs.Pairs.{ofPair}
@@ -27,7 +27,7 @@ inside c = (flags-bits (st c).args.walk.reading c.before.decl-items.ensures c.de
 abbrev Left : (k : ℕ) (c : tie.After-decl-items2) (r : Tally) (d : List ℕ) → Type 0
 Left k c r d =
     Owed (st c).args.walk.mode (st c).args.out.now (st c).args.t
-    (ofPair (λ r. compare_flags) (st c).args.walk.reading (st c).args.old.now (st c).args.new.now (st c).args.i (st c).args.j)
+    (ofPair (λ r. compareFlags) (st c).args.walk.reading (st c).args.old.now (st c).args.new.now (st c).args.i (st c).args.j)
     r d
     (drop k (loneParts (st c).args.walk.reading (st c).args.old.now (st c).args.new.now (items c)))
 

@@ -8,14 +8,14 @@ use Rattle.text.specs.Text.{Space}
 use borrow.Author.Rules.{rules}
 use Rattle.image.specs.Words.{bytes}
 use Rattle.rules.specs.Report.{fieldPart}
-use Rattle.details.specs.Details.{item_of, ItemOfHere}
+use Rattle.details.specs.Details.{itemOf, ItemOfHere}
 use Rattle.details.specs.declared.Item.{Item}
 use Rattle.details.proofs.Writers.{space-as, puts-as}
 use Rattle.details.proofs.names.put_field.Statement.{statement}
 use Rattle.details.proofs.names.put_field.Tie as tie
 
 abbrev text : tie.Start → Item → List ℕ
-text s p = fieldPart (item_of s.args.old.now s.args.new.now p)
+text s p = fieldPart (itemOf s.args.old.now s.args.new.now p)
 
 -- in an arm of the match m, where the item is known to be p; below, a is the place that tells it
 module _ (m : tie.After-slice-known) where
@@ -36,7 +36,7 @@ enum_told : tie.Need-enum-told
 enum_told c = search rules
 
 put-byte-requires : tie.Need-put-byte-requires
-unfolding item_of fieldPart bytes
+unfolding itemOf fieldPart bytes
 put-byte-requires c κs = let a = c.before in room a.before.before a.enum_told.given.1
 
 enum-known-item : tie.Need-enum-known-item
@@ -47,7 +47,7 @@ unfolding ItemOfHere
 item-name-requires c κs = let a = c.before.before in here a.before.before a.item.given.1
 
 put-plus-requires : tie.Need-put-plus-requires
-unfolding item_of
+unfolding itemOf
 put-plus-requires c κs =
     let a = c.before.before.before in
     space-as (ap (λ n. fieldPart (some n)) c.item-name.ensures) (room a.before.before a.item.given.1)
@@ -60,7 +60,7 @@ unfolding ItemOfHere
 item-name-requires-2 c κs = let a = c.before.before in here a.before.before a.item2.given.1
 
 put-plus-requires-2 : tie.Need-put-plus-requires-2
-unfolding item_of
+unfolding itemOf
 put-plus-requires-2 c κs =
     let a = c.before.before.before in
     space-as (ap (λ n. fieldPart (some n)) c.item-name2.ensures) (room a.before.before a.item2.given.1)
@@ -69,7 +69,7 @@ same_length : tie.Need-same-length
 same_length c = search rules
 
 returns : tie.Need-returns
-unfolding item_of fieldPart bytes
+unfolding itemOf fieldPart bytes
 returns c =
     let a = c.before.before.before.before in
     puts-as (same a.before.before a.enum_told.given.1) c.before.before.put_byte.ensures
@@ -78,7 +78,7 @@ same-length-2 : tie.Need-same-length-2
 same-length-2 c = search rules
 
 returns-2 : tie.Need-returns-2
-unfolding item_of
+unfolding itemOf
 returns-2 c =
     let a = c.before.before.before.before.before.before in
     puts-as
@@ -89,7 +89,7 @@ same-length-3 : tie.Need-same-length-3
 same-length-3 c = search rules
 
 returns-3 : tie.Need-returns-3
-unfolding item_of
+unfolding itemOf
 returns-3 c =
     let a = c.before.before.before.before.before.before in
     puts-as

@@ -5,8 +5,8 @@ use Prim.Native.Nat.{ℕ, ◌+◌}
 use borrow.Author.Rules.{rules}
 use lib.ListN.{get_or}
 use Rattle.image.specs.Words.{bytes}
-use Rattle.rules.specs.Equal.{same_list, sameName}
-use Rattle.details.specs.Words.{word_at}
+use Rattle.rules.specs.Equal.{sameList, sameName}
+use Rattle.details.specs.Words.{wordAt}
 use Rattle.details.specs.Words.{names as words}
 use Rattle.details.proofs.Table.{isCut, Cut, cut_at}
 use Rattle.details.proofs.Writers.{space-as, puts-as}
@@ -25,8 +25,8 @@ starts =
 abbrev start : tie.After-put-text-arg2 → tie.Start
 start c = c.before.before.before.before.before.before
 
-cut : (s : tie.Start) → Cut names (word_at s.args.word) (get_or starts s.args.word 0) (get_or starts (s.args.word + 1) 0)
-unfolding names starts bytes isCut sameName same_list words
+cut : (s : tie.Start) → Cut names (wordAt s.args.word) (get_or starts s.args.word 0) (get_or starts (s.args.word + 1) 0)
+unfolding names starts bytes isCut sameName sameList words
 cut s = cut_at names starts refl s.args.word s.requires.0
 
 mul-start : tie.Need-overflow-mul-start

@@ -6,7 +6,7 @@ use Rattle.image.specs.Words.{bytes}
 use Rattle.parts.specs.Promise.{codingOf}
 use Rattle.rules.specs.Text.{showEncoding}
 use Rattle.text.proofs.Pieces.{Owes, owes-start, owes-room, owes-next, owes-end}
-use Rattle.display.specs.Words.{word_in}
+use Rattle.display.specs.Words.{wordIn}
 use Rattle.display.specs.Display.{repeated}
 use Rattle.display.proofs.Laws.Texts.{encoding-text}
 use Rattle.display.proofs.encodings.encoding_display.Statement.{statement}
@@ -40,7 +40,7 @@ slice-aggregate-put-word c = search rules
 
 opened : (c : tie.After-put-times)
     → Owed (start c) c.put-times.result c.put-times.new.1.0
-    (word_in (bytes "default varint zigzag ") (start c).args.e.base ∷ closes (start c) ∷ [])
+    (wordIn (bytes "default varint zigzag ") (start c).args.e.base ∷ closes (start c) ∷ [])
 unfolding bytes
 opened c = owes-next (owes-start (encoding-text (start c).args.e) (start c).requires) c.put-times.ensures
 

@@ -4,13 +4,13 @@ use mathlib.Core.Path.{◌≡◌, refl}
 use Prim.Native.Nat.{◌≤◌}
 use native.Mathlib.Omega.{arith}
 use lib.ListN.{length, drop}
-use Rattle.display.specs.Words.{word_in}
+use Rattle.display.specs.Words.{wordIn}
 use Rattle.display.proofs.Laws.Words.{word_next, word_none, word-found}
 use Rattle.display.proofs.words.word_start.Statement.{statement}
 use Rattle.display.proofs.words.word_start.Tie as tie
 
 abbrev invariant-loop : tie.invariant-loop
-invariant-loop words number at₀ left₀ at left = (at ≤ length words) × (word_in words number ≡ word_in (drop at words) left)
+invariant-loop words number at₀ left₀ at left = (at ≤ length words) × (wordIn words number ≡ wordIn (drop at words) left)
 
 abbrev decreases-loop : tie.decreases-loop
 decreases-loop words number at₀ left₀ at left = left

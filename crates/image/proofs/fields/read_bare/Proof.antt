@@ -1,7 +1,7 @@
 -- `image::fields::read_bare` meets its contract, with positions held narrow and wide. Assumes nothing.
 use borrow.Author.Rules.{rules}
 use borrow.Author.Tests.{leb-true}
-use Rattle.image.specs.Parse.{number_at}
+use Rattle.image.specs.Parse.{numberAt}
 use Rattle.image.proofs.Laws.Answers.{Got, got}
 use Rattle.image.proofs.Laws.Sure.{number_in}
 use Rattle.image.proofs.Laws.Fields.{ordinal-stop, ordinal-name}
@@ -34,7 +34,7 @@ returns c = ordinal-stop _ _ c.enum_told.given.1 c.before.before.read_number.ens
 -- the ordinal was read
 ordinal : (c : tie.After-known-told) →
     let a = c.before.before.before.before.before.before.before.args in
-    Got (number_at 4 a.s.now a.at) c.before.ordinal.given.0.0
+    Got (numberAt 4 a.s.now a.at) c.before.ordinal.given.0.0
 ordinal c = got c.before.ordinal.given.1 c.before.before.before.read_number.ensures
 
 cast-name-at : tie.Need-overflow-cast-name-at

@@ -8,7 +8,7 @@ use Prim.Native.Nat.{ℕ}
 use native.Mathlib.Omega.{arith}
 use mir.Syntax.{w16}
 use mir.Val.{Fits}
-use Rattle.image.specs.Parse.{code_at}
+use Rattle.image.specs.Parse.{codeAt}
 use Rattle.image.specs.Fields.{encodingOf, encodingAt}
 use Rattle.image.specs.Reads.{skip}
 use Rattle.image.proofs.Laws.Numbers.{There, there-got, code-there}
@@ -63,7 +63,7 @@ returns c = encoding-stop _ _ _ c.enum_told.given.1 c.before.before.read-code.en
 byte : (c : tie.After-known-told invariant-loop decreases-loop invariant-loop2 decreases-loop2) →
     let h = c.before.before.before.before in
     let s = h.before.before.before.before.args.s.now in
-    There (code_at 0 3 s h.loop.next) s h.loop.next c.before.step.given.0.0
+    There (codeAt 0 3 s h.loop.next) s h.loop.next c.before.step.given.0.0
 byte c = code-there 0 3 _ _ c.before.step.given.1 c.before.before.before.read-code.ensures
 
 cast-inner-at : tie.Need-overflow-cast-inner-at invariant-loop decreases-loop invariant-loop2 decreases-loop2
@@ -114,7 +114,7 @@ returns-4 c = encoding-stop _ _ _ c.enum-told2.given.1 c.before.before.read-code
 byte-2 : (c : tie.After-known-told2 invariant-loop decreases-loop invariant-loop2 decreases-loop2) →
     let h = c.before.before.before.before in
     let s = h.before.before.before.args.s.now in
-    There (code_at 0 3 s h.loop2.next) s h.loop2.next c.before.step2.given.0.0
+    There (codeAt 0 3 s h.loop2.next) s h.loop2.next c.before.step2.given.0.0
 byte-2 c = code-there 0 3 _ _ c.before.step2.given.1 c.before.before.before.read-code2.ensures
 
 shared-slice-read-if5 : tie.Need-shared-slice-read-if5 invariant-loop decreases-loop invariant-loop2 decreases-loop2

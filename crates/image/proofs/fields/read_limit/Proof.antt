@@ -2,7 +2,7 @@
 use borrow.Author.Rules.{rules}
 use borrow.Author.Tests.{leb-true}
 use mathlib.Core.Path.{◌∙◌}
-use Rattle.image.specs.Parse.{code_at}
+use Rattle.image.specs.Parse.{codeAt}
 use Rattle.image.proofs.Laws.Numbers.{There, there-got, code-there}
 use Rattle.image.proofs.Laws.Sure.{code_in}
 use Rattle.image.proofs.Laws.Fields.{limit-stop, limit-none, limit-number}
@@ -35,7 +35,7 @@ returns c = limit-stop _ _ c.enum_told.given.1 c.before.before.read-code.ensures
 -- the byte is there, 0 or 1
 byte : (c : tie.After-known-told) →
     let a = c.before.before.before.before.before.before.before.args in
-    There (code_at 0 1 a.s.now a.at) a.s.now a.at c.before.step.given.0.0
+    There (codeAt 0 1 a.s.now a.at) a.s.now a.at c.before.step.given.0.0
 byte c = code-there 0 1 _ _ c.before.step.given.1 c.before.before.before.read-code.ensures
 
 cast-next : tie.Need-overflow-cast-next
@@ -74,7 +74,7 @@ returns-4 c = limit-stop _ _ c.enum-told2.given.1 c.before.before.read-code2.ens
 
 byte-2 : (c : tie.After-known-told2) →
     let a = c.before.before.before.before.before.before.args in
-    There (code_at 0 1 a.s.now a.at) a.s.now a.at c.before.step2.given.0.0
+    There (codeAt 0 1 a.s.now a.at) a.s.now a.at c.before.step2.given.0.0
 byte-2 c = code-there 0 1 _ _ c.before.step2.given.1 c.before.before.before.read-code2.ensures
 
 shared-slice-read-if4 : tie.Need-shared-slice-read-if4

@@ -3,14 +3,14 @@
 use borrow.Author.Rules.{rules}
 use mathlib.Core.Path.{◌≡◌, refl, ◌∙◌}
 use native.Mathlib.Omega.{arith}
-use Rattle.image.specs.Names.{name_at, names_at}
+use Rattle.image.specs.Names.{nameAt, namesAt}
 use Rattle.image.specs.Reads.{skip}
 use Rattle.image.proofs.Laws.Repeats.{many_more, many-stop, many-none}
 use Rattle.image.proofs.names.read_names.Statement.{statement}
 use Rattle.image.proofs.names.read_names.Tie as tie
 
 abbrev invariant-loop : tie.invariant-loop
-invariant-loop s at count short next₀ left₀ next left = skip (names_at short left s next) ≡ skip (names_at short count s at)
+invariant-loop s at count short next₀ left₀ next left = skip (namesAt short left s next) ≡ skip (namesAt short count s at)
 
 abbrev decreases-loop : tie.decreases-loop
 decreases-loop s at count short next₀ left₀ next left = left
@@ -28,9 +28,9 @@ enum_told : tie.Need-enum-told invariant-loop decreases-loop
 enum_told c = search rules
 
 returns : tie.Need-returns invariant-loop decreases-loop
-unfolding names_at
+unfolding namesAt
 returns c =
-    many-stop (name_at _) _ _ _ c.before.before.before.loop-test.true c.enum_told.given.1
+    many-stop (nameAt _) _ _ _ c.before.before.before.loop-test.true c.enum_told.given.1
     c.before.before.read_name.ensures ∙ c.before.before.before.before.loop.invariant
 
 sub-left : tie.Need-overflow-sub-left invariant-loop decreases-loop
@@ -40,14 +40,14 @@ loop-less : tie.Need-loop-smaller invariant-loop decreases-loop
 loop-less c = omega arith
 
 loop-again : tie.Need-loop-preserved invariant-loop decreases-loop
-unfolding names_at
+unfolding namesAt
 loop-again c =
-    many_more (name_at _) _ _ _ c.before.before.before.before.loop-test.true c.before.step.given.1
+    many_more (nameAt _) _ _ _ c.before.before.before.before.loop-test.true c.before.step.given.1
     c.before.before.before.read_name.ensures ∙ c.before.before.before.before.before.loop.invariant
 
 returns-2 : tie.Need-returns-2 invariant-loop decreases-loop
-unfolding names_at
-returns-2 c = many-none (name_at _) _ _ _ (omega arith) ∙ c.before.loop.invariant
+unfolding namesAt
+returns-2 c = many-none (nameAt _) _ _ _ (omega arith) ∙ c.before.loop.invariant
 
 pub read-names-spec : {M : Type 1} → statement M
 read-names-spec =

@@ -1,4 +1,4 @@
--- `image::numbers::read_code` meets its contract: at each `return` the tests that led there say which case of `code_at` holds.
+-- `image::numbers::read_code` meets its contract: at each `return` the tests that led there say which case of `codeAt` holds.
 -- Assumes nothing.
 use borrow.Author.Rules.{rules}
 use Rattle.image.proofs.Laws.Numbers.{code-past, code-low, code-high, code-at}

@@ -9,7 +9,7 @@ use lib.ListN.{length, get_or, drop}
 use borrow.Fn.Kinds.{In, Out}
 use borrow.Fn.PlainCycle.{Measures, is, falls, and}
 use Rattle.image.specs.Schema.{Label}
-use Rattle.image.specs.Types.{innerTypes, inner_at, type_of}
+use Rattle.image.specs.Types.{innerTypes, innerAt, typeOf}
 use Rattle.image.specs.Reads.{skip}
 use Rattle.image.specs.declared.Read.{Read}
 use Rattle.image.proofs.Laws.Types.{from_start, type-deep, type-stop, type-label, label-within, inner-within, inner-none, inner-stop, inner-one, inner-two-stop, inner-two}
@@ -78,8 +78,8 @@ module _ (t : ℕ) where
 
   -- and what is left are the inner types
   rest : (c : here t lts.After-known-told) {r : Read} →
-      ((l : Label) → r ≡ skip (inner_at (innerTypes (get_or (bytes c) 0 0)) l (type_of (nodes c - 1)) (bytes c) (first c))) → r ≡ skip
-      (type_of (nodes c) (bytes c))
+      ((l : Label) → r ≡ skip (innerAt (innerTypes (get_or (bytes c) 0 0)) l (typeOf (nodes c - 1)) (bytes c) (first c))) → r ≡ skip
+      (typeOf (nodes c) (bytes c))
   rest c g =
       type-label _ _ c.before.before.before.before.if1.false c.before.head.given.1
       c.before.before.before.read-label.ensures g
@@ -115,10 +115,10 @@ module _ (t : ℕ) where
   -- the first inner type is read from the part that starts at it
   first_inner : (c : here t lts.After-read-type) →
       let l = c.before.before.before.before.before in
-      c.read-type.result ≡ skip (type_of (nodes l - 1) (drop (first l) (bytes l)))
+      c.read-type.result ≡ skip (typeOf (nodes l - 1) (drop (first l) (bytes l)))
   first_inner c =
       let l = c.before.before.before.before.before in
-      from_start (type_of (nodes l - 1)) (bytes l) (first l) c.read-type.ensures
+      from_start (typeOf (nodes l - 1)) (bytes l) (first l) c.read-type.ensures
 
   enum-known-one : here t lts.Need-enum-known-one
   enum-known-one c = search rules
@@ -176,10 +176,10 @@ module _ (t : ℕ) where
 
   second-inner : (c : here t lts.After-read-type2) →
       let l = labelled c.before.before.before in
-      c.read-type2.result ≡ skip (type_of (nodes l - 1) (drop (second c.before.before.before) (bytes l)))
+      c.read-type2.result ≡ skip (typeOf (nodes l - 1) (drop (second c.before.before.before) (bytes l)))
   second-inner c =
       let l = labelled c.before.before.before in
-      from_start (type_of (nodes l - 1)) (bytes l) (second c.before.before.before) c.read-type2.ensures
+      from_start (typeOf (nodes l - 1)) (bytes l) (second c.before.before.before) c.read-type2.ensures
 
   enum-known-two : here t lts.Need-enum-known-two
   enum-known-two c = search rules

@@ -2,7 +2,7 @@
 -- Assumes nothing.
 use borrow.Author.Rules.{rules}
 use native.Mathlib.Omega.{arith}
-use Rattle.image.specs.Parse.{byte_at}
+use Rattle.image.specs.Parse.{byteAt}
 use Rattle.image.specs.Types.{afterTag}
 use Rattle.image.proofs.Laws.Answers.{stop}
 use Rattle.image.proofs.Laws.Numbers.{There, byte-there}
@@ -26,7 +26,7 @@ returns c = stop _ _ c.enum_told.given.1 c.before.before.read_byte.ensures
 -- the count is there
 count : (c : tie.After-known-told) →
     let a = c.before.before.before.before.before.args in
-    There (byte_at 8 a.s.now a.at) a.s.now a.at c.before.step.given.0.0
+    There (byteAt 8 a.s.now a.at) a.s.now a.at c.before.step.given.0.0
 count c = byte-there 8 _ _ c.before.step.given.1 c.before.before.before.read_byte.ensures
 
 shared-slice-read-count : tie.Need-shared-slice-read-count

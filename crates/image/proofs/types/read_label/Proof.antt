@@ -3,8 +3,8 @@
 use borrow.Author.Rules.{rules}
 use mathlib.Core.Path.{refl, sym, ◌∙◌}
 use Rattle.image.specs.Reads.{skip}
-use Rattle.image.specs.Parse.{byte_at}
-use Rattle.image.specs.Types.{label_of, afterTag, followsTag}
+use Rattle.image.specs.Parse.{byteAt}
+use Rattle.image.specs.Types.{labelOf, afterTag, followsTag}
 use Rattle.image.proofs.Laws.Answers.{stop, skip-ok}
 use Rattle.image.proofs.Laws.Numbers.{There, byte-there}
 use Rattle.image.proofs.Laws.Types.{label-by, follows_nothing, follows-unknown}
@@ -21,13 +21,13 @@ enum_told : tie.Need-enum-told
 enum_told c = search rules
 
 returns : tie.Need-returns
-unfolding label_of
+unfolding labelOf
 returns c = stop _ _ c.enum_told.given.1 c.before.before.read_byte.ensures
 
 -- the tag is there
 tag : (c : tie.After-known-told) →
     let s = c.before.before.before.before.before.args.s.now in
-    There (byte_at 8 s 0) s 0 c.before.step.given.0.0
+    There (byteAt 8 s 0) s 0 c.before.step.given.0.0
 tag c = byte-there 8 _ _ c.before.step.given.1 c.before.before.before.read_byte.ensures
 
 shared-slice-read-tag : tie.Need-shared-slice-read-tag

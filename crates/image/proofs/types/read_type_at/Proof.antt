@@ -3,7 +3,7 @@ use borrow.Author.Rules.{rules}
 use mathlib.Core.Path.{◌≡◌}
 use native.Mathlib.Omega.{arith}
 use lib.ListN.{drop}
-use Rattle.image.specs.Types.{type_of, type_at}
+use Rattle.image.specs.Types.{typeOf, typeAt}
 use Rattle.image.specs.Reads.{skip}
 use Rattle.image.proofs.Laws.Answers.{within-at, within-no}
 use Rattle.image.proofs.Laws.Types.{from_start, inner-within}
@@ -30,12 +30,12 @@ enum_told c = search rules
 
 -- the answer for the part that starts at the type
 type-is : (c : tie.After-read-type)
-    → c.read-type.result ≡ skip (type_of 32 (drop c.before.before.before.args.at c.before.before.before.args.s.now))
-type-is c = from_start (type_of 32) c.before.before.before.args.s.now c.before.before.before.args.at c.read-type.ensures
+    → c.read-type.result ≡ skip (typeOf 32 (drop c.before.before.before.args.at c.before.before.before.args.s.now))
+type-is c = from_start (typeOf 32) c.before.before.before.args.s.now c.before.before.before.args.at c.read-type.ensures
 
 returns : tie.Need-returns
-unfolding type_at
-returns c = within-no (type_of 32) _ _ c.enum_told.given.1 (type-is c.before.before)
+unfolding typeAt
+returns c = within-no (typeOf 32) _ _ c.enum_told.given.1 (type-is c.before.before)
 
 add-t6 : tie.Need-overflow-add-t6
 add-t6 c =
@@ -44,8 +44,8 @@ add-t6 c =
     omega arith
 
 returns-2 : tie.Need-returns-2
-unfolding type_at
-returns-2 c = within-at (type_of 32) _ _ c.before.step.given.1 (type-is c.before.before.before)
+unfolding typeAt
+returns-2 c = within-at (typeOf 32) _ _ c.before.step.given.1 (type-is c.before.before.before)
 
 pub read-type-at-spec : {M : Type 1} → statement M
 read-type-at-spec =

@@ -8,7 +8,7 @@ use native.Mathlib.Omega.{arith}
 use Rattle.image.specs.Words.{bytes}
 use Rattle.rules.specs.Report.{changeWord, bumpWord, fieldPart, changeLine}
 use Rattle.tally.proofs.Lines.{linePieces}
-use Rattle.details.specs.Details.{declarationOf, item_of, detailText}
+use Rattle.details.specs.Details.{declarationOf, itemOf, detailText}
 use Rattle.lines.specs.Sites.{changeOf}
 use Rattle.details.proofs.Table.{change-word, bump-word}
 use Rattle.lines.proofs.Lines.{site-line}
@@ -29,7 +29,7 @@ pieces s =
     let new = s.args.new.now in
     let site = s.args.site in
     changeWord site.kind ∷ bytes ";" ∷ bumpWord site.bump.level ∷ bytes ";" ∷ declarationOf old new site.scope ∷ bytes ";"
-    ∷ fieldPart (item_of old new site.item) ∷ bytes ";" ∷ detailText old new site.detail ∷ bytes "\n" ∷ []
+    ∷ fieldPart (itemOf old new site.item) ∷ bytes ";" ∷ detailText old new site.detail ∷ bytes "\n" ∷ []
 
 -- after the first k pieces
 abbrev Left : (k : ℕ) (s : tie.Start) (r : ℕ) (d : List ℕ) → Type 0

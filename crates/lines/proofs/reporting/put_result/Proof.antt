@@ -8,10 +8,10 @@ use Prim.Native.Nat.{ℕ, ◌+◌, ◌<◌}
 use native.Mathlib.Omega.{arith}
 use Rattle.image.specs.Words.{bytes}
 use Rattle.text.specs.Decimal.{decimal}
-use Rattle.rules.specs.Verdict.{result_at}
+use Rattle.rules.specs.Verdict.{resultAt}
 use Rattle.rules.specs.Report.{bumpWord, resultWord}
 use Rattle.tally.proofs.Lines.{linePieces, line-pieces}
-use Rattle.details.specs.Words.{word_at}
+use Rattle.details.specs.Words.{wordAt}
 use Rattle.lines.specs.Last.{lastLineOf}
 use Rattle.details.proofs.Table.{bump-word, result-word}
 use Rattle.lines.proofs.Lines.{result-most}
@@ -30,8 +30,8 @@ level c = c.before.before.before.before.args.t.bump.level
 result-there : (c : tie.After-result) → 21 + c.result.result < 32
 result-there c = omega (arith, c.result.ensures, result-most (level c))
 
-result : (c : tie.After-result) → word_at (21 + c.result.result) ≡ resultWord (result_at (level c))
-result c = ap (λ r. word_at (21 + r)) c.result.ensures ∙ result-word (result_at (level c)) (result-most (level c))
+result : (c : tie.After-result) → wordAt (21 + c.result.result) ≡ resultWord (resultAt (level c))
+result c = ap (λ r. wordAt (21 + r)) c.result.ensures ∙ result-word (resultAt (level c)) (result-most (level c))
 
 abbrev text : tie.Start → List ℕ
 text s = lastLineOf s.args.t
@@ -39,7 +39,7 @@ text s = lastLineOf s.args.t
 abbrev pieces : tie.Start → List (List ℕ)
 pieces s =
     let t = s.args.t in
-    resultWord (result_at t.bump.level) ∷ bytes ";" ∷ bumpWord t.bump.level ∷ bytes ";" ∷ decimal t.changes ∷ bytes "\n" ∷ []
+    resultWord (resultAt t.bump.level) ∷ bytes ";" ∷ bumpWord t.bump.level ∷ bytes ";" ∷ decimal t.changes ∷ bytes "\n" ∷ []
 
 -- after the first k pieces
 abbrev Left : (k : ℕ) (s : tie.Start) (r : ℕ) (d : List ℕ) → Type 0
@@ -68,7 +68,7 @@ o₀ : (s : tie.Start) → Left 0 s 0 s.args.out.now
 unfolding linePieces lastLineOf
 o₀ s =
     let t = s.args.t in
-    owes-start (line-pieces (resultWord (result_at t.bump.level) ∷ bumpWord t.bump.level ∷ decimal t.changes ∷ [])) s.requires.1
+    owes-start (line-pieces (resultWord (resultAt t.bump.level) ∷ bumpWord t.bump.level ∷ decimal t.changes ∷ [])) s.requires.1
 
 o₁ : (c : tie.After-put-word) → Left 1 (s₁ c) c.put_word.result c.put_word.new.1.0
 unfolding bytes

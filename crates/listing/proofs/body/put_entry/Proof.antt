@@ -44,7 +44,7 @@ use Rattle.text.specs.Text.{Space, Puts}
 use Rattle.text.specs.declared.Mode.{Mode}
 use Rattle.text.specs.contracts.Mode as E
 use Rattle.text.proofs.Mode.TheLaws as E'
-use Rattle.listing.specs.Listing.{line_of, entryLine}
+use Rattle.listing.specs.Listing.{lineOf, entryLine}
 use Rattle.listing.specs.declared.body.Reader.{Reader}
 use Rattle.listing.proofs.Lines.{line-ready, line-puts}
 use Rattle.listing.proofs.Returned.{tells, returned}
@@ -251,7 +251,7 @@ module _ {M : Type 1} {𝓤 : Ura M} (𝓛 : Logic 𝓤) (mem : Memory → SProp
         -- `put_line`: [what it asks; what the body owns; _11; …]
         use3 𝓛 (raw ((Line 𝓛 mem run).pre (to-line k n u₂ u₃)) ⊛ ‵ Body) (goes-line k n u₂ u₃ k-is ke ne) $ split ! $
         calls_at ! fm (Line 𝓛 mem run) known-line (to-line k n u₂ u₃) (and_then ! (load ! (from ! (stop !)) (look ! 22 refl)) (and_then ! (load ! (from ! (stop !)) (look ! 20 refl)) (and_then ! (load ! (from ! (stop !)) (look ! 12 refl)) (and_then ! (load ! (from ! (stop !)) (look ! 8 refl)) (and_then ! (load ! (from ! (stop !)) (look ! 2 refl)) (no_more !)))))) (λ w.
-        returned ! tt line.ended (line.clauses 𝓛 mem run) (to-line k n u₂ u₃) w (λ r' zs. heard ! (Puts mode ys 0 (line_of id k n.now) r' zs.1.1.1.1.0) (λ e'.
+        returned ! tt line.ended (line.clauses 𝓛 mem run) (to-line k n u₂ u₃) w (λ r' zs. heard ! (Puts mode ys 0 (lineOf id k n.now) r' zs.1.1.1.1.0) (λ e'.
         fsplit ! $ drop ! $ fsplit ! $ drop ! $ fsplit ! $ drop ! $ fsplit ! $ drop ! $ fsplit ! $ fsplit ! $ move ! (1 ∷ []) $ feq_l ! (λ l.
         -- [the last list; true; the result; the tokens; what the body owns; _11; …]
         move ! (2 ∷ 3 ∷ []) $ peeks ! usize (Is usize) (shows 𝓛 usize) r' (w ∷ []) (λ is'.

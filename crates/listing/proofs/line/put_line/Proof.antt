@@ -7,12 +7,12 @@ use Rattle.image.specs.Words.{bytes, kindWord}
 use Rattle.text.specs.Decimal.{decimal}
 use Rattle.text.proofs.Writing.{puts-length}
 use Rattle.text.proofs.Pieces.{together, Owes, owes-start, owes-room, owes-next, owes-end}
-use Rattle.listing.specs.Listing.{line_of}
+use Rattle.listing.specs.Listing.{lineOf}
 use Rattle.listing.proofs.line.put_line.Statement.{statement}
 use Rattle.listing.proofs.line.put_line.Tie as tie
 
 abbrev text : tie.Start → List ℕ
-text s = line_of s.args.id s.args.kind s.args.name.now
+text s = lineOf s.args.id s.args.kind s.args.name.now
 
 abbrev pieces : tie.Start → List (List ℕ)
 pieces s = decimal s.args.id ∷ bytes ";" ∷ kindWord s.args.kind ∷ bytes ";" ∷ s.args.name.now ∷ bytes "\n" ∷ []
@@ -41,7 +41,7 @@ abbrev s₆ : tie.After-put-byte3 → tie.Start
 s₆ c = s₅ c.before.before.before.before
 
 o₀ : (s : tie.Start) → Left 0 s 0 s.args.out.now
-unfolding line_of together
+unfolding lineOf together
 o₀ s = owes-start refl s.requires.1
 
 o₁ : (c : tie.After-put-number) → Left 1 (s₁ c) c.put-number.result c.put-number.new.1.0

@@ -6,8 +6,8 @@ use native.Mathlib.Omega.{arith}
 use borrow.Author.Rules.{rules}
 use lib.ListN.{length, get_or}
 use Rattle.image.specs.Parse.{many}
-use Rattle.image.specs.Types.{type_at}
-use Rattle.image.specs.WellFormed.{Good, end_of}
+use Rattle.image.specs.Types.{typeAt}
+use Rattle.image.specs.WellFormed.{Good, endOf}
 use Rattle.image.proofs.Laws.Types.{inner-most}
 use Rattle.parts.proofs.Laws.Labels.{label-there}
 use Rattle.parts.proofs.Laws.Skips.{label-longer, types-start, types-done, types-label, types-turn}
@@ -16,7 +16,7 @@ use Rattle.parts.proofs.types.type_end.Statement.{statement}
 use Rattle.parts.proofs.types.type_end.Tie as tie
 
 abbrev invariant-loop : tie.invariant-loop
-invariant-loop image at next₀ left₀ next left = Good (many type_at left image next) × (end_of (many type_at left image next) ≡ typeEnd image at) × (left + at ≤ next + 1)
+invariant-loop image at next₀ left₀ next left = Good (many typeAt left image next) × (endOf (many typeAt left image next) ≡ typeEnd image at) × (left + at ≤ next + 1)
 
 abbrev decreases-loop : tie.decreases-loop
 decreases-loop image at next₀ left₀ next left = length image - next

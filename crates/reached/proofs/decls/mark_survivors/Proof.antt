@@ -2,7 +2,7 @@
 -- The measure is how many survivors are left. Assumes nothing.
 use borrow.Author.Rules.{rules}
 use Rattle.parts.specs.Promise.{schemaOf, EntryHere}
-use Rattle.rules.specs.Survivors.{view_of}
+use Rattle.rules.specs.Survivors.{viewOf}
 use Rattle.rules.specs.Reached.{namedFrom}
 use Rattle.survivors.proofs.Declarations.{follows-here}
 use Rattle.reached.proofs.Marking.{marked-length, Owing, owing-ready}
@@ -12,7 +12,7 @@ use Rattle.reached.proofs.decls.mark_survivors.Tie as tie
 
 abbrev invariant-loop : tie.invariant-loop
 invariant-loop image marks₀ after₀ marks after =
-    Owing image marks₀ (namedFrom (view_of (schemaOf image))) marks (toMarkDecls image after) × EntryHere image after
+    Owing image marks₀ (namedFrom (viewOf (schemaOf image))) marks (toMarkDecls image after) × EntryHere image after
 
 abbrev decreases-loop : tie.decreases-loop
 decreases-loop image marks₀ after₀ marks after = leftDecls image after

@@ -1,8 +1,8 @@
 -- `reader::bodies::read_body` meets its contract. Assumes nothing.
 use borrow.Author.Rules.{rules}
 use native.Mathlib.Omega.{arith}
-use Rattle.image.specs.Parse.{byte_at}
-use Rattle.image.specs.Bodies.{body_of}
+use Rattle.image.specs.Parse.{byteAt}
+use Rattle.image.specs.Bodies.{bodyOf}
 use Rattle.image.proofs.Laws.Answers.{stop}
 use Rattle.image.proofs.Laws.Numbers.{There, byte-there}
 use Rattle.reader.proofs.Laws.Bodies.{body-stop, body-left, body-whole}
@@ -19,13 +19,13 @@ enum_told : tie.Need-enum-told
 enum_told c = search rules
 
 returns : tie.Need-returns
-unfolding body_of
+unfolding bodyOf
 returns c = stop _ _ c.enum_told.given.1 c.before.before.read_byte.ensures
 
 -- the kind is there
 kind : (c : tie.After-known-told) →
     let s = c.before.before.before.before.before.args.s.now in
-    There (byte_at 8 s 0) s 0 c.before.kind.given.0.0
+    There (byteAt 8 s 0) s 0 c.before.kind.given.0.0
 kind c = byte-there 8 _ _ c.before.kind.given.1 c.before.before.before.read_byte.ensures
 
 shared-slice-read-read-decl : tie.Need-shared-slice-read-read-decl

@@ -2,7 +2,7 @@
 use borrow.Author.Rules.{rules}
 use mathlib.Core.Path.{◌∙◌}
 use native.Mathlib.Omega.{arith}
-use Rattle.image.specs.Kinds.{kind_of}
+use Rattle.image.specs.Kinds.{kindOf}
 use Rattle.image.specs.Bodies.{implAt, declAt}
 use Rattle.image.specs.Reads.{skip}
 use Rattle.reader.proofs.Laws.Bodies.{decl-other, decl-unknown}
@@ -28,27 +28,27 @@ read-name-requires : tie.Need-read-name-requires
 read-name-requires c κs = search rules
 
 returns : tie.Need-returns
-unfolding kind_of declAt
+unfolding kindOf declAt
 returns c = rw c.before.match.keys1 c.read-message.ensures
 
 returns-2 : tie.Need-returns-2
-unfolding kind_of declAt
+unfolding kindOf declAt
 returns-2 c = rw c.before.match.keys2 c.read-enum.ensures
 
 returns-3 : tie.Need-returns-3
-unfolding kind_of declAt
+unfolding kindOf declAt
 returns-3 c = rw c.before.match.keys3 c.read-Flags.ensures
 
 returns-4 : tie.Need-returns-4
-unfolding kind_of declAt
+unfolding kindOf declAt
 returns-4 c = rw c.before.match.keys4 c.read-union.ensures
 
 returns-5 : tie.Need-returns-5
-unfolding kind_of declAt
+unfolding kindOf declAt
 returns-5 c = rw c.before.match.keys5 c.read-newtype.ensures
 
 returns-6 : tie.Need-returns-6
-unfolding kind_of declAt implAt skip
+unfolding kindOf declAt implAt skip
 returns-6 c = rw c.match.keys6
 
 returns-7 : tie.Need-returns-7

@@ -2,7 +2,7 @@
 use borrow.Author.Rules.{rules}
 use Rattle.image.specs.Parse.{counted}
 use Rattle.image.specs.Fields.{bareAt}
-use Rattle.image.specs.Bodies.{enum_at}
+use Rattle.image.specs.Bodies.{enumAt}
 use Rattle.reader.proofs.Laws.Bodies.{marked-stop, marked-marks, marked-rest}
 use Rattle.reader.proofs.bodies.read_enum.Statement.{statement}
 use Rattle.reader.proofs.bodies.read_enum.Tie as tie
@@ -17,7 +17,7 @@ enum_told : tie.Need-enum-told
 enum_told c = search rules
 
 returns : tie.Need-returns
-unfolding enum_at
+unfolding enumAt
 returns c = marked-stop (counted bareAt) _ _ _ c.enum_told.given.1 c.before.before.read_name.ensures
 
 read-marks-requires : tie.Need-read-marks-requires
@@ -30,7 +30,7 @@ enum-told-2 : tie.Need-enum-told-2
 enum-told-2 c = search rules
 
 returns-2 : tie.Need-returns-2
-unfolding enum_at
+unfolding enumAt
 returns-2 c =
     let n = c.before.before.before in
     marked-marks (counted bareAt) _ _ _ n.before.name.given.1 n.before.before.before.read_name.ensures
@@ -40,7 +40,7 @@ read-bares-requires : tie.Need-read-bares-requires
 read-bares-requires c κs = search rules
 
 returns-3 : tie.Need-returns-3
-unfolding enum_at
+unfolding enumAt
 returns-3 c =
     let m = c.before in
     let n = m.before.before.before.before in

@@ -1,6 +1,6 @@
 -- `reader::bodies::read_newtype` meets its contract. Assumes nothing.
 use borrow.Author.Rules.{rules}
-use Rattle.image.specs.Types.{type_at}
+use Rattle.image.specs.Types.{typeAt}
 use Rattle.image.proofs.Laws.Sure.{sure-at, name-sure}
 use Rattle.image.specs.Bodies.{newtypeAt}
 use Rattle.reader.proofs.Laws.Bodies.{named-stop, named-rest}
@@ -18,7 +18,7 @@ enum_told c = search rules
 
 returns : tie.Need-returns
 unfolding newtypeAt
-returns c = named-stop type_at _ _ _ c.enum_told.given.1 c.before.before.read_name.ensures
+returns c = named-stop typeAt _ _ _ c.enum_told.given.1 c.before.before.read_name.ensures
 
 read-type-at-requires : tie.Need-read-type-at-requires
 read-type-at-requires c κs =
@@ -27,7 +27,7 @@ read-type-at-requires c κs =
 returns-2 : tie.Need-returns-2
 unfolding newtypeAt
 returns-2 c =
-    named-rest type_at _ _ _ c.before.before.name.given.1 c.before.before.before.before.read_name.ensures
+    named-rest typeAt _ _ _ c.before.before.name.given.1 c.before.before.before.before.read_name.ensures
     c.read-type-at.ensures
 
 pub read-newtype-spec : {M : Type 1} → statement M

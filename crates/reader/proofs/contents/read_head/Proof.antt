@@ -1,4 +1,4 @@
--- `reader::contents::read_head` meets its contract: each test that is passed is one of `head_of`. Assumes nothing.
+-- `reader::contents::read_head` meets its contract: each test that is passed is one of `headOf`. Assumes nothing.
 use borrow.Author.Rules.{rules}
 use mathlib.Core.Path.{sym, ◌∙◌}
 use native.Mathlib.Omega.{arith}

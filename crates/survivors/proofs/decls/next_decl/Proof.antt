@@ -6,7 +6,7 @@ use native.Mathlib.Omega.{arith}
 use Rattle.maps.specs.Orders.{before}
 use Rattle.maps.specs.Walk.{following}
 use Rattle.parts.specs.Promise.{schemaOf, entryDecl, EntryHere}
-use Rattle.rules.specs.Survivors.{name_of}
+use Rattle.rules.specs.Survivors.{nameOf}
 use Rattle.rules.specs.Imports.{standingWith}
 use Rattle.survivors.specs.Answers.{named}
 use Rattle.survivors.proofs.Laws.Listed.{ahead, ahead-start, ahead-taken, ahead-left, ahead-end}
@@ -16,7 +16,7 @@ use Rattle.survivors.proofs.decls.next_decl.Tie as tie
 abbrev invariant-loop : tie.invariant-loop
 invariant-loop image reached after n best₀ i₀ best i =
     EntryHere image best
-    × (ahead image reached (named image after) (entryDecl image best) i ≡ following name_of before (named image after) (standingWith reached (schemaOf image)))
+    × (ahead image reached (named image after) (entryDecl image best) i ≡ following nameOf before (named image after) (standingWith reached (schemaOf image)))
 
 abbrev decreases-loop : tie.decreases-loop
 decreases-loop image reached after n best₀ i₀ best i = n - i

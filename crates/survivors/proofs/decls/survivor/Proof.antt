@@ -5,12 +5,12 @@ use mathlib.Core.Bool.{false}
 use Prim.Native.Nat.{◌≤◌, ◌-◌}
 use native.Mathlib.Omega.{arith}
 use lib.ListN.{length, drop}
-use Rattle.maps.specs.Orders.{same, order_of, before}
+use Rattle.maps.specs.Orders.{same, orderOf, before}
 use Rattle.maps.specs.Keyed.{lookup}
 use Rattle.maps.proofs.Names.{same-told, ends_same, finds-other, other_length}
 use Rattle.maps.proofs.Names.{goes_on as agrees}
 use Rattle.parts.specs.Promise.{schemaOf}
-use Rattle.rules.specs.Survivors.{name_of}
+use Rattle.rules.specs.Survivors.{nameOf}
 use Rattle.rules.specs.Imports.{standingWith}
 use Rattle.survivors.specs.Candidates.{candidates}
 use Rattle.survivors.proofs.Laws.Listed.{back, back_start, back_end, back-skips, back-other, back_found}
@@ -20,14 +20,14 @@ use Rattle.survivors.proofs.decls.survivor.Statement.{statement}
 use Rattle.survivors.proofs.decls.survivor.Tie as tie
 
 abbrev invariant-loop : tie.invariant-loop
-invariant-loop image reached name i at own j₀ j = (j ≤ length name) × (order_of name own ≡ order_of (drop j name) (drop j own))
+invariant-loop image reached name i at own j₀ j = (j ≤ length name) × (orderOf name own ≡ orderOf (drop j name) (drop j own))
 
 abbrev decreases-loop : tie.decreases-loop
 decreases-loop image reached name i at own j₀ j = length name - j
 
 abbrev invariant-search : tie.invariant-search
 invariant-search image reached name i₀ i =
-    (i ≤ length (candidates image reached)) × (back image reached name i ≡ lookup name_of before name (standingWith reached (schemaOf image)))
+    (i ≤ length (candidates image reached)) × (back image reached name i ≡ lookup nameOf before name (standingWith reached (schemaOf image)))
 
 abbrev decreases-search : tie.decreases-search
 decreases-search image reached name i₀ i = i

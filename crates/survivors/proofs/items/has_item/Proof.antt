@@ -3,7 +3,7 @@ use mathlib.Core.Path.{◌≡◌}
 use native.Mathlib.Omega.{arith}
 use lib.Dec.{ltb}
 use Rattle.maps.specs.Keyed.{lookup}
-use Rattle.maps.specs.Walk.{is_some}
+use Rattle.maps.specs.Walk.{isSome}
 use Rattle.parts.specs.Promise.{ItemsHere, ordinalIn}
 use Rattle.parts.proofs.Promise.{items-first, item-bare}
 use Rattle.survivors.specs.Answers.{placeMap}
@@ -15,7 +15,7 @@ abbrev invariant-loop : tie.invariant-loop
 invariant-loop image shape ordinal at₀ left₀ at left =
     ItemsHere shape image left at
     × (hasFrom shape image ordinal left at
-    ≡ is_some (lookup (ordinalIn image) ltb ordinal (placeMap shape image (record { start = at₀; count = left₀ }))))
+    ≡ isSome (lookup (ordinalIn image) ltb ordinal (placeMap shape image (record { start = at₀; count = left₀ }))))
 
 abbrev decreases-loop : tie.decreases-loop
 decreases-loop image shape ordinal at₀ left₀ at left = left

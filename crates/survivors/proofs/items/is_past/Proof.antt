@@ -1,6 +1,6 @@
 -- `survivors::items::is_past` meets its contract. Assumes nothing.
 use Rattle.maps.specs.Walk.{past}
-use Rattle.survivors.specs.Answers.{number_of}
+use Rattle.survivors.specs.Answers.{numberOf}
 use borrow.Author.Rules.{rules}
 use Rattle.survivors.proofs.items.is_past.Statement.{statement}
 use Rattle.survivors.proofs.items.is_past.Tie as tie
@@ -12,11 +12,11 @@ enum_told : tie.Need-enum-told
 enum_told c = search rules
 
 returns : tie.Need-returns
-unfolding past number_of
+unfolding past numberOf
 returns c = rw c.enum_told.given.1
 
 returns-2 : tie.Need-returns-2
-unfolding past number_of
+unfolding past numberOf
 returns-2 c = rw c.before.after.given.1
 
 pub is-past-spec : {M : Type 1} → statement M

@@ -6,7 +6,7 @@ use lib.Dec.{ltb}
 use Rattle.maps.specs.Walk.{following, better}
 use Rattle.parts.specs.Promise.{ItemsHere, ordinalIn}
 use Rattle.parts.proofs.Promise.{items-first, item-bare}
-use Rattle.survivors.specs.Answers.{number_of, placeMap, placeNext, NextHere}
+use Rattle.survivors.specs.Answers.{numberOf, placeMap, placeNext, NextHere}
 use Rattle.survivors.proofs.Laws.Passed.{onward, onward-turn, onward-end, items-next, next_start, item-taken, item-left}
 use Rattle.survivors.proofs.items.next_item.Statement.{statement}
 use Rattle.survivors.proofs.items.next_item.Tie as tie
@@ -15,8 +15,8 @@ abbrev invariant-loop : tie.invariant-loop
 invariant-loop image shape after best₀ at₀ left₀ best at left =
     ItemsHere shape image left at
     × NextHere shape image best
-    × (onward shape image (better (ordinalIn image) ltb (number_of after)) (placeNext best) left at
-    ≡ following (ordinalIn image) ltb (number_of after) (placeMap shape image (record { start = at₀; count = left₀ })))
+    × (onward shape image (better (ordinalIn image) ltb (numberOf after)) (placeNext best) left at
+    ≡ following (ordinalIn image) ltb (numberOf after) (placeMap shape image (record { start = at₀; count = left₀ })))
 
 abbrev decreases-loop : tie.decreases-loop
 decreases-loop image shape after best₀ at₀ left₀ best at left = left
@@ -31,7 +31,7 @@ start c = c.before.before.before.before.before
 -- where the arms meet: the best so far
 met : (c : tie.Joined1 invariant-loop decreases-loop)
     → (placeNext c.if1.best
-    ≡ better (ordinalIn (start c).args.image.now) ltb (number_of (start c).args.after) (placeNext (turn c).loop.best) (turn c).loop.at)
+    ≡ better (ordinalIn (start c).args.image.now) ltb (numberOf (start c).args.after) (placeNext (turn c).loop.best) (turn c).loop.at)
     × NextHere (start c).args.shape (start c).args.image.now c.if1.best
 met c =
     let l = (turn c).loop in

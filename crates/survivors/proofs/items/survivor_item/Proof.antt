@@ -8,7 +8,7 @@ use Rattle.maps.specs.Keyed.{lookup}
 use Rattle.maps.specs.Walk.{seen}
 use Rattle.parts.specs.Promise.{ItemsHere, ordinalIn}
 use Rattle.parts.proofs.Promise.{items-first, item-bare}
-use Rattle.survivors.specs.Answers.{place_of, FoundHere, placeMap}
+use Rattle.survivors.specs.Answers.{placeOf, FoundHere, placeMap}
 use Rattle.survivors.proofs.Laws.Passed.{onward, onward-turn, onward-end, items-next, survivor-start, item-same, item-other}
 use Rattle.survivors.proofs.items.survivor_item.Statement.{statement}
 use Rattle.survivors.proofs.items.survivor_item.Tie as tie
@@ -17,7 +17,7 @@ abbrev invariant-loop : tie.invariant-loop
 invariant-loop image shape ordinal found₀ at₀ left₀ found at left =
     ItemsHere shape image left at
     × FoundHere shape image found
-    × (onward shape image (seen (ordinalIn image) ltb ordinal) (place_of found) left at
+    × (onward shape image (seen (ordinalIn image) ltb ordinal) (placeOf found) left at
     ≡ lookup (ordinalIn image) ltb ordinal (placeMap shape image (record { start = at₀; count = left₀ })))
 
 abbrev decreases-loop : tie.decreases-loop
@@ -32,8 +32,8 @@ start c = (turn c).before.before
 
 -- where the arms meet: what was found so far
 met : (c : tie.Joined1 invariant-loop decreases-loop)
-    → (place_of c.if1.found
-    ≡ seen (ordinalIn (start c).args.image.now) ltb (start c).args.ordinal (place_of (turn c).loop.found) (turn c).loop.at)
+    → (placeOf c.if1.found
+    ≡ seen (ordinalIn (start c).args.image.now) ltb (start c).args.ordinal (placeOf (turn c).loop.found) (turn c).loop.at)
     × FoundHere (start c).args.shape (start c).args.image.now c.if1.found
 met c =
     let l = (turn c).loop in
@@ -45,7 +45,7 @@ met c =
     c.if1.branch
 
 loop-holds : tie.Need-loop-init invariant-loop decreases-loop
-unfolding place_of FoundHere
+unfolding placeOf FoundHere
 loop-holds c = (c.before.requires, tt, survivor-start _ _ _ _)
 
 ordinal-at-requires : tie.Need-ordinal-at-requires invariant-loop decreases-loop

@@ -3,7 +3,7 @@ use mathlib.Core.Path.{◌≡◌, refl, sym, ◌∙◌}
 use Rattle.image.specs.Schema.{Ty}
 use Rattle.rules.specs.Mended.{likeness, readAs, mendedType}
 use Rattle.rules.proofs.Mended.{three-answers}
-use Rattle.types.specs.Readings.{reading_of, readsAlike}
+use Rattle.types.specs.Readings.{readingOf, readsAlike}
 use Rattle.types.specs.declared.Reading.{Reading}
 use Rattle.types.specs.declared.Reading.TheVariants.{Plain, Mended}
 use borrow.Author.Rules.{rules}
@@ -11,8 +11,8 @@ use Rattle.types.proofs.equal.types_equal.Statement.{statement}
 use Rattle.types.proofs.equal.types_equal.Tie as tie
 
 -- document 01 reads the third answer as different, and the mended verdict as equal
-read : (reading : Reading) (t u : Ty) → readAs (readsAlike reading) (likeness t u) ≡ (reading_of reading).same t u
-unfolding readsAlike reading_of mendedType
+read : (reading : Reading) (t u : Ty) → readAs (readsAlike reading) (likeness t u) ≡ (readingOf reading).same t u
+unfolding readsAlike readingOf mendedType
 read Plain t u = sym (three-answers t u).plainly
 read Mended t u = refl
 
