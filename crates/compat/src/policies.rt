@@ -15,7 +15,7 @@ use text::Mode;
 use types::Reading;
 
 // Which verdict is given: that of document 01, that with imports, or the mended one.
-#[derive(Drop)]
+#[derive(Clone, Copy)]
 pub enum Policy {
     Plain,
     Imports,
@@ -23,7 +23,7 @@ pub enum Policy {
 }
 
 // What a check says: images pass, or the number and the side of the fault that it found.
-#[derive(Drop)]
+#[derive(Clone, Copy)]
 pub enum Judged {
     Passes,
     Fault(u8, u8),

@@ -17,7 +17,7 @@ use text::{Mode, put_text};
 
 // The declaration that a change is in: none, for the namespace; the body at a place of the old or of the new image; or a variant of a
 // union, by the places of the union's body and of the variant, both in the old image.
-#[derive(Drop)]
+#[derive(Clone, Copy)]
 pub enum Scope {
     Schema,
     Old(usize),
@@ -26,7 +26,7 @@ pub enum Scope {
 }
 
 // The field, variant or bit that a change is of, by its place in the old or in the new image.
-#[derive(Drop)]
+#[derive(Clone, Copy)]
 pub enum Item {
     Nothing,
     Old(usize),
@@ -34,7 +34,7 @@ pub enum Item {
 }
 
 // What an item is called in a detail.
-#[derive(Drop)]
+#[derive(Clone, Copy)]
 pub enum Word {
     Field,
     Variant,
@@ -42,7 +42,7 @@ pub enum Word {
 }
 
 // What a detail says something of. `OldDecl`, `OldItem`, `DeclName` and `Newtype` have places of the old image, the others of the new one.
-#[derive(Drop)]
+#[derive(Clone, Copy)]
 pub enum Subject {
     // namespace
     Namespace,
@@ -67,7 +67,7 @@ pub enum Subject {
 }
 
 // What happened to the subject.
-#[derive(Drop)]
+#[derive(Clone, Copy)]
 pub enum Verb {
     Removed,
     Added,
@@ -80,7 +80,7 @@ pub enum Verb {
 
 // What is shown of one of the two images: the name of an item, the kind or the mark of a declaration, a type, the encoding of a field, the
 // namespace.
-#[derive(Drop)]
+#[derive(Clone, Copy)]
 pub enum Value {
     Name(usize),
     Kind(usize),
@@ -91,14 +91,14 @@ pub enum Value {
 }
 
 // The values that changed, if a detail shows them.
-#[derive(Drop)]
+#[derive(Clone, Copy)]
 pub enum Values {
     Unsaid,
     FromTo(Value, Value),
 }
 
 // A detail in its parts.
-#[derive(Drop)]
+#[derive(Clone, Copy)]
 pub struct Detail {
     pub subject: Subject,
     pub verb: Verb,

@@ -26,7 +26,7 @@ use text::{Mode, put_byte, put_number, put_text};
 use types::nodes::inner_types;
 
 // The place in the buffer after a type's text, and the place in the image after the type.
-#[derive(Drop)]
+#[derive(Clone, Copy)]
 struct Shown {
     text: usize,
     next: usize,

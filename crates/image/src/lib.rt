@@ -12,7 +12,7 @@ pub mod tags;
 pub mod types;
 
 // What a read answers.
-#[derive(Drop)]
+#[derive(Clone, Copy)]
 pub enum Read {
     // The position after what was read.
     At(usize),

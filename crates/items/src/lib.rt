@@ -12,13 +12,13 @@ use text::Mode;
 use types::Reading;
 
 // How a walk goes: whether its lines are written or only measured, and how types are read.
-#[derive(Drop)]
+#[derive(Clone, Copy)]
 pub struct Walk {
     pub mode: Mode,
     pub reading: Reading,
 }
 
-#[derive(Drop)]
+#[derive(Clone, Copy)]
 pub enum Side {
     Old,
     New,
@@ -26,7 +26,7 @@ pub enum Side {
 
 // Whose items are compared: the fields of what a scope names; the variants of an enum, by its places in the old and in the new image; the
 // bits of flags and the variants of a union, by the place in the old image.
-#[derive(Drop)]
+#[derive(Clone, Copy)]
 pub enum Owner {
     Fields(Scope),
     Enum(usize, usize),
@@ -34,7 +34,7 @@ pub enum Owner {
     Union(usize),
 }
 
-#[derive(Drop)]
+#[derive(Clone, Copy)]
 pub struct Items {
     pub of: Owner,
     pub old: Run,

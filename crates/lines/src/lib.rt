@@ -8,7 +8,7 @@ use details::{Detail, Item, Scope};
 use tally::Bump;
 
 // A change: its kind, numbered in the order of `ChangeKind`, and where all that its line shows is found.
-#[derive(Drop)]
+#[derive(Clone, Copy)]
 pub struct Site {
     pub kind: usize,
     pub bump: Bump,

@@ -11,7 +11,7 @@ use parts::decls::{decl_kind, decl_name};
 use text::Mode;
 
 // A body, and where its declaration stands in it.
-#[derive(Drop)]
+#[derive(Clone, Copy)]
 pub struct Reader<'a> {
     pub src: &'a [u8],
     pub at: usize,

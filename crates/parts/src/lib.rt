@@ -12,14 +12,14 @@ pub mod types;
 pub use image::{kinds, refusals, sides, tags};
 
 // What an id stands for: a declaration whose body starts at a place, or nothing.
-#[derive(Drop)]
+#[derive(Clone, Copy)]
 pub enum Entry {
     Body(usize),
     Unresolvable,
 }
 
 // The shape of an item: a field; a variant of an enum or a bit of flags; a variant of a union. Each starts with its ordinal and its name.
-#[derive(Drop)]
+#[derive(Clone, Copy)]
 pub enum Shape {
     Field,
     Bare,
@@ -27,21 +27,21 @@ pub enum Shape {
 }
 
 // So many items, or names, one after the other.
-#[derive(Drop)]
+#[derive(Clone, Copy)]
 pub struct Run {
     pub start: usize,
     pub count: usize,
 }
 
 // Deltas around a code: 0 default, 1 varint, 2 zigzag.
-#[derive(Drop)]
+#[derive(Clone, Copy)]
 pub struct Encoding {
     pub deltas: usize,
     pub base: u8,
 }
 
 // The most that a field may have, if it has a limit.
-#[derive(Drop)]
+#[derive(Clone, Copy)]
 pub enum Limit {
     Most(u64),
     Unlimited,

@@ -11,7 +11,7 @@ mod standing;
 pub const MOST: usize = 512;
 
 // A mark for each of the first `count` ids, set if it is reached.
-#[derive(Drop)]
+#[derive(Clone, Copy)]
 pub struct Reached {
     pub marks: [bool; MOST],
     pub count: usize,

@@ -11,7 +11,7 @@ ghost use Rattle.reader.specs.Answer.{Answers};
 use image::Read;
 
 // Whether an image is accepted.
-#[derive(Drop)]
+#[derive(Clone, Copy)]
 pub enum Acceptance {
     Accepted,
     // The number of the refusal.

@@ -7,21 +7,21 @@ pub mod decls;
 pub mod items;
 
 // The place of an item.
-#[derive(Drop)]
+#[derive(Clone, Copy)]
 pub enum Found {
     At(usize),
     Nothing,
 }
 
 // The ordinal of an item.
-#[derive(Drop)]
+#[derive(Clone, Copy)]
 pub enum Ordinal {
     Is(u32),
     Nothing,
 }
 
 // An item that comes next: its ordinal and its place.
-#[derive(Drop)]
+#[derive(Clone, Copy)]
 pub enum Next {
     Is(u32, usize),
     Nothing,

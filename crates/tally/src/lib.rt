@@ -9,7 +9,7 @@ ghost use Rattle.tally.specs.Tallies.{Countable, noChange, withChange};
 pub const KINDS: usize = 18;
 
 // The weight of a change.
-#[derive(Drop)]
+#[derive(Clone, Copy)]
 pub struct Bump {
     pub level: u8,
 }
@@ -44,7 +44,7 @@ impl Bump {
 }
 
 // What is known of the changes so far.
-#[derive(Drop)]
+#[derive(Clone, Copy)]
 pub struct Tally {
     pub counts: [u64; KINDS],
     pub bump: Bump,

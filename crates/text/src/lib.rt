@@ -6,14 +6,14 @@ ghost use Rattle.text.specs.Decimal.{decimal, Spelled};
 ghost use Rattle.text.specs.Text.{put, Space, Puts, startIn};
 
 // Whether text is only measured, or written too.
-#[derive(Drop)]
+#[derive(Clone, Copy)]
 pub enum Mode {
     Measure,
     Write,
 }
 
 // The digits of a number, from a place to the end.
-#[derive(Drop)]
+#[derive(Clone, Copy)]
 struct Digits {
     bytes: [u8; 20],
     from: usize,

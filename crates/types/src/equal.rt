@@ -20,7 +20,7 @@ use parts::tags::{BITS, FIXED_ARRAY, NAMED, PRIMITIVE, SEMANTIC, SUB_BYTE};
 use parts::types::{bit_names, label_end, type_bits, type_code, type_id, type_size, type_tag};
 
 // How alike two types are, and the places after them; if they are different, the places say nothing.
-#[derive(Drop)]
+#[derive(Clone, Copy)]
 struct Compared {
     likeness: Likeness,
     old_end: usize,

@@ -8,7 +8,7 @@ pub mod namespaces;
 pub mod nodes;
 
 // How the types of two images are read: as document 01 says, or mended.
-#[derive(Drop)]
+#[derive(Clone, Copy)]
 pub enum Reading {
     Plain,
     Mended,

@@ -6,7 +6,7 @@ ghost use Rattle.types.specs.Likeness.{likenessOf, joint};
 
 use parts::tags::{MAT4, VEC2};
 
-#[derive(Drop)]
+#[derive(Clone, Copy)]
 pub enum Likeness {
     Equal,
     // Equal but for containing vectors, quaternions or matrices.

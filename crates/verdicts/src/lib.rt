@@ -7,7 +7,7 @@ ghost use Rattle.verdicts.specs.Verdicts.{refusedBy, ofTally, selectIn};
 use tally::{Bump, KINDS, Tally};
 
 // What a call is asked for: the number and the side of a refusal, 0 if there is none; bump, result, the length of the text, counts.
-#[derive(Drop)]
+#[derive(Clone, Copy)]
 pub struct Verdict {
     pub number: u8,
     pub side: u8,
