@@ -94,7 +94,7 @@ module _ {K E : Type 0} {lt : K → K → Bool} (key : E → K) (S : Strict K lt
             not_left (rw (a, own f n) at (h (key f)))
         go false false p q ih =
             let k : key e ≡ key f = S.total (key e) (key f) p q in
-            let b : lookup key lt (key e) (f ∷ n) ≡ some f = rw k (own f n) in
+            let b : lookup key lt (key e) (f ∷ n) ≡ some f = ap (λ x. lookup key lt x (f ∷ n)) k ∙ own f n in
             Forall₂.cons (held (rw (own e m, b) at (h (key e)))) (ih (λ j. tail k j (same lt j (key e)) refl))
 
     -- Each entry of a list, and each other under its key, became by R one of another list, and all of those were some.

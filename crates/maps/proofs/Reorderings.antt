@@ -15,7 +15,7 @@ In a l = Memᴰ a l
 
 -- ---- elements that are listed
 
-pub all_in : {A : Type 0} (P : A → Type 0) {l : List A} {a : A} → All P l → In a l → P a
+pub all_in : {A : Type 0} (P : A → Type 0) {a : A} {l : List A} → All P l → In a l → P a
 unfolding All
 all_in P h (Memᴰ.head e) = subst P (sym e) h.0
 all_in P h (Memᴰ.tail m) = all_in P h.1 m
@@ -26,7 +26,7 @@ all_listed [] = tt
 all_listed (a ∷ l) = (Memᴰ.head refl, all_map (λ b m. Memᴰ.tail m) l (all_listed l))
 
 -- two that are listed are one, or P holds of them, if it holds both ways round
-pub each_two : {A : Type 0} (P : A → A → Type 0) → ((a b : A) → P a b → P b a) → {l : List A} {a b : A} → EachTwo P l → In a l → In b l → (a ≡ b) ⊎ P a b
+pub each_two : {A : Type 0} (P : A → A → Type 0) → ((a b : A) → P a b → P b a) → {a b : A} {l : List A} → EachTwo P l → In a l → In b l → (a ≡ b) ⊎ P a b
 unfolding EachTwo
 each_two P turn h (Memᴰ.head p) (Memᴰ.head q) = inl (p ∙ sym q)
 each_two P turn {b = b} h (Memᴰ.head p) (Memᴰ.tail n) = inr (subst (λ x. P x b) (sym p) (all_in (P _) h.0 n))
@@ -90,7 +90,7 @@ module _ {A : Type 0} where
   put_first : {a b : A} {k l m : List A} → Put a k l → Put b l m → (n : List A) × Put b k n × Put a n m
   put_first {b = b} {k = k} p here = (b ∷ k, here, later p)
   put_first here (later {m = m} q) = (m, q, here)
-  put_first (later {b = c} p) (later q) = let w = put_first p q in (c ∷ w.0, later w.1, later w.2)
+  put_first (later {b = c} {l = l} p) (later q) = let w = put_first {k = l} p q in (c ∷ w.0, later w.1, later w.2)
 
   put-perm : {a : A} {l m : List A} → Put a l m → Permᴰ (a ∷ l) m
   put-perm {a = a} {l = l} here = Permᴰ.refl (a ∷ l)
@@ -120,7 +120,7 @@ module _ {A B : Type 0} {R : A → B → Type 0} where
   -- the way back
   put_back : {a : A} {b : B} {l : List A} {m n : List B} → R a b → Put b m n → Reordered (λ y x. R x y) m l → Reordered (λ y x. R x y) n (a ∷ l)
   put_back r here w = each r w here
-  put_back r (later p) (each q w i) = each q (put_back r p w) (later i)
+  put_back r (later p) (each {m = m'} q w i) = each q (put_back {l = m'} r p w) (later i)
 
   pub reordered-back : {l : List A} {m : List B} → Reordered R l m → Reordered (λ b a. R a b) m l
   reordered-back nothing = nothing
