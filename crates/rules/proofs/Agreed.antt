@@ -20,6 +20,7 @@ use Rattle.rules.specs.Clauses.{clausesBy, Context, context, compareTypes, compa
 
 in-flatMap : {A B : Type 0} (f : A → List B) {a : A} {b : B} {l : List A} → In a l → In b (f a) → In b (flat_map f l)
 unfolding flat_map
+in-flatMap {A = A} {B = B} f {a = a} {b = b} {l = []} x5 m = elim x5 [ ]
 in-flatMap f {b = b} {l = c ∷ l} (Memᴰ.head e) m = Memᴰ.append_left (flat_map f l) (subst (λ x. In b (f x)) e m)
 in-flatMap f {l = c ∷ l} (Memᴰ.tail n) m = Memᴰ.append_right (f c) (in-flatMap f n m)
 

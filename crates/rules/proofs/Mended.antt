@@ -4,7 +4,7 @@ use mathlib.Core.Path.{◌≡◌, refl, sym, ap, ◌∙◌, subst}
 use mathlib.Core.Bool.{Bool, true, false, not, ◌&&◌, ◌||◌, and-false, false≢true}
 use mathlib.Core.Logic.{◌↔◌}
 use mathlib.Core.List.Memᴰ
-use mathlib.Core.List.{List, ◌∷◌}
+use mathlib.Core.List.{List, [], ◌∷◌}
 use Prim.Native.Nat.{ℕ}
 use Rattle.image.specs.Schema.{Ty, Schema}
 use Rattle.image.specs.Parse.{Parsed, ok, no}
@@ -120,6 +120,7 @@ without t u e = mended-trees t u ∙ (go (equalTrees t u) refl ∙ sym (split t 
 
 none_in : {A : Type 0} (p : A → Bool) {a : A} {l : List A} → any p l ≡ false → In a l → p a ≡ false
 unfolding any
+none_in {A = A} p {a = a} {l = []} e x5 = elim x5 [ ]
 none_in p {l = b ∷ l} e (Memᴰ.head q) = rw q (either-false (p b) e).0
 none_in p {l = b ∷ l} e (Memᴰ.tail m) = none_in p (either-false (p b) e).1 m
 

@@ -8,7 +8,7 @@ use mathlib.Core.List.{List, [], ◌∷◌, ◌++◌}
 use Prim.Native.Nat.{ℕ, zero, suc, ◌+◌, ◌<◌}
 use native.Mathlib.Omega.{arith}
 use borrow.Author.Tests.{eq-eqb, ne_eqb, lt-ltb, ltb-true}
-use lib.Dec.{ltb}
+use lib.Dec.{eqb, ltb}
 use Rattle.maps.specs.Lists.{All}
 use Rattle.maps.specs.Keyed.{lookup}
 use Rattle.maps.specs.Orders.{same, before}
@@ -112,7 +112,8 @@ ids-from zero from (true ∷ m) = rw (eq-eqb (from + 0) from (omega arith))
 ids-from zero from (false ∷ m) = not-before (from + 0) (markedIds (suc from) m) (ids-after (from + 0) (suc from) m (omega arith))
 ids-from (suc k) from (true ∷ m) =
     let n : from + suc k ≡ suc from + k = omega arith in
-    rw (ne_eqb (from + suc k) from (λ e. omega arith), n) (ids-from k (suc from) m)
+    let d = ne_eqb (from + suc k) from (λ e. omega arith) in
+    simp d (subst (λ j. any (eqb j) (markedIds (suc from) m) ≡ has m k) (sym n) (ids-from k (suc from) m))
 ids-from (suc k) from (false ∷ m) = let n : from + suc k ≡ suc from + k = omega arith in rw n (ids-from k (suc from) m)
 
 pub ids-has : (id : ℕ) (m : IdSet) → member id (markedIds 0 m) ≡ has m id
