@@ -1,0 +1,7 @@
+-- `reader::contents::entry_length` meets its contract. Assumes nothing.
+use Rattle.image.specs.Image.{u16At, entryLength}
+use Rattle.reader.proofs.contents.entry_length.Goals as goal
+
+pub returns : goal.returns
+unfolding u16At entryLength
+returns c = c.u16_at.ensures
