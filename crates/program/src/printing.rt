@@ -1,10 +1,14 @@
 // What the program prints: the report, the listing or the refusal on standard output, all else on standard error.
-use libc::{STDERR_FILENO, STDOUT_FILENO};
+use std::io::{self, Write};
+
+// How the program is called, and that its status is no answer.
+const USAGE: &str =
+    "usage: vexil_compat [OLD NEW | --list IMAGE | --help | --version]   (without arguments: old.img and new.img of the current folder)\nThe exit status is always 0 and means nothing: only what is printed is the answer. The status of the loading tool tells whether to load.\n";
 
 // An answer that nobody gets is none.
-fn warn_unless(is_written: bool) {
-    if !is_written {
-        os::fail(b"vexil_compat: standard output");
+fn warn_unless(rt: &impl Eprint, written: io::Result<()>) {
+    if let Err(error) = written {
+        let _told = eprintln!(rt; "vexil_compat: standard output: {error}");
     }
 }
 
@@ -17,44 +21,33 @@ fn first(buffer: &[u8], n: usize) -> &[u8] {
 }
 
 // A report or a listing: so many bytes at the start of a buffer.
-pub fn print_text(buffer: &[u8], length: usize) {
-    warn_unless(io::write_all(STDOUT_FILENO, first(buffer, length)));
-}
-
-// Old 1, new 2, both 3.
-fn write_side(side: u64) -> bool {
-    match side {
-        1 => io::write_all(STDOUT_FILENO, b" old\n"),
-        2 => io::write_all(STDOUT_FILENO, b" new\n"),
-        _ => io::write_all(STDOUT_FILENO, b" both\n"),
-    }
+pub fn print_text(rt: &(impl Print + Eprint), buffer: &[u8], length: usize) {
+    let written = io::writer(rt).write_all(first(buffer, length));
+    warn_unless(rt, written);
 }
 
 // As `refused 9 old`.
-pub fn print_refusal(number: u64, side: u64) {
-    let is_written = io::write_all(STDOUT_FILENO, b"refused ")
-        && io::print_decimal(STDOUT_FILENO, number)
-        && write_side(side);
-    warn_unless(is_written);
+pub fn print_refusal(rt: &(impl Print + Eprint), number: u8, side: u8) {
+    let word = match side {
+        1 => "old",
+        2 => "new",
+        _ => "both",
+    };
+    let written = println!(rt; "refused {number} {word}");
+    warn_unless(rt, written);
 }
 
-// How the program is called, and that its status is no answer.
-fn write_usage(fd: i32) -> bool {
-    io::write_all(
-        fd,
-        b"usage: vexil_compat [OLD NEW | --list IMAGE | --help | --version]   (without arguments: old.img and new.img of the current folder)\nThe exit status is always 0 and means nothing: only what is printed is the answer. The status of the loading tool tells whether to load.\n",
-    )
+pub fn print_usage(rt: &impl Eprint) {
+    let _told = eprint!(rt; "{USAGE}");
 }
 
-pub fn print_usage() {
-    write_usage(STDERR_FILENO);
-}
-
-pub fn print_help() {
-    warn_unless(write_usage(STDOUT_FILENO));
+pub fn print_help(rt: &(impl Print + Eprint)) {
+    let written = print!(rt; "{USAGE}");
+    warn_unless(rt, written);
 }
 
 // The version is that of the header for C.
-pub fn print_version() {
-    warn_unless(io::write_all(STDOUT_FILENO, b"vexil_compat 1.1\n"));
+pub fn print_version(rt: &(impl Print + Eprint)) {
+    let written = println!(rt; "vexil_compat 1.1");
+    warn_unless(rt, written);
 }

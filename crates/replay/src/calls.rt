@@ -1,6 +1,6 @@
 // The calls on two images, by the verdict that they are of: that of 01, the one with imports, or the mended one.
 
-#[derive(Drop)]
+#[derive(Clone, Copy)]
 pub enum Verdict {
     Plain,
     Imports,

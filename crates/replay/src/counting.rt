@@ -3,7 +3,7 @@
 // Of so many pairs false answers are compared too, each of which must be counted as a difference.
 const FALSIFIED: u64 = 8;
 
-#[derive(Drop)]
+#[derive(Clone, Copy)]
 pub struct Tally {
     pub pairs: u64,
     pub differences: u64,
@@ -11,7 +11,7 @@ pub struct Tally {
     pub caught: u64,
 }
 
-#[derive(Drop)]
+#[derive(Clone, Copy)]
 pub enum Step {
     Next(Tally),
     // The file is not as it should be.
@@ -20,7 +20,7 @@ pub enum Step {
 
 // One more.
 pub fn more(x: u64) -> u64 {
-    std::num::wrapping_add_u64(x, 1)
+    x.wrapping_add(1)
 }
 
 // Whether false answers are compared with this pair's.

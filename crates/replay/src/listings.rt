@@ -3,6 +3,7 @@ use crate::counting::{Step, Tally, compared};
 use crate::file::Number;
 use crate::texts::Call;
 use crate::{file, texts};
+use std::io::Read;
 
 // One selector of the listing's verdict.
 fn replay_value(image: &[u8], room: u64, selector: u64, wanted: u64, t: Tally) -> Tally {
@@ -39,13 +40,13 @@ fn replay_full(image: &[u8], length: usize, t: Tally) -> Tally {
 }
 
 // The listing of an image to which the reader gives a number.
-pub fn replay_listing(fd: i32, image: &[u8], number: usize, t: Tally) -> Step {
-    let size = file::read_u32(fd);
+pub fn replay_listing(file: &mut impl Read, image: &[u8], number: usize, t: Tally) -> Step {
+    let size = file::read_u32(file);
     let Number::Is(length) = size else {
         return Step::Broken;
     };
     let mut bytes = texts::blank();
-    if !file::fill(fd, &mut bytes, length) {
+    if !file::fill(file, &mut bytes, length) {
         return Step::Broken;
     }
     if number != 0 {

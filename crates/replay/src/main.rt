@@ -13,8 +13,9 @@ mod values;
 use calls::Verdict;
 use counting::{Step, Tally, compared, more};
 use file::Number;
-use libc::STDOUT_FILENO;
 use reader::Acceptance;
+use std::fs;
+use std::io::{self, BufReader, Read, Write};
 use values::ROOM;
 
 // The largest image that the file may hold.
@@ -32,8 +33,8 @@ fn number_of(bytes: &[u8]) -> usize {
 }
 
 // The reader's number of an image beside the recorded one.
-fn replay_image(fd: i32, bytes: &[u8], t: Tally) -> Step {
-    let byte = file::read_u8(fd);
+fn replay_image(file: &mut impl Read, bytes: &[u8], t: Tally) -> Step {
+    let byte = file::read_u8(file);
     let Number::Is(recorded) = byte else {
         return Step::Broken;
     };
@@ -41,17 +42,17 @@ fn replay_image(fd: i32, bytes: &[u8], t: Tally) -> Step {
 }
 
 // A recorded answer: number, side, bump, result, length, counts and report; false where the file ends before.
-fn read_answer(fd: i32, counts: usize, recorded: &mut [u64], bytes: &mut [u8]) -> bool {
-    if !selectors::read_bytes(fd, recorded) {
+fn read_answer(file: &mut impl Read, counts: usize, recorded: &mut [u64], bytes: &mut [u8]) -> bool {
+    if !selectors::read_bytes(file, recorded) {
         return false;
     }
-    if !selectors::read_numbers(fd, counts, recorded) {
+    if !selectors::read_numbers(file, counts, recorded) {
         return false;
     }
     if values::kept(recorded, 0) != 0 {
         return true;
     }
-    file::fill(fd, bytes, values::kept(recorded, 4) as usize)
+    file::fill(file, bytes, values::kept(recorded, 4) as usize)
 }
 
 // What is answered by a verdict beside what is recorded of it: all selectors, the values and the report.
@@ -64,7 +65,7 @@ fn replay_answer(
     bytes: &mut [u8],
     t: Tally,
 ) -> Tally {
-    let all = std::num::wrapping_add_usize(5, counts);
+    let all = counts.wrapping_add(5);
     let next = selectors::replay_selectors(of, old, new, &recorded, all, t);
     let next = values::replay_values(of, old, new, recorded, all, next);
     let call = texts::report_of(of);
@@ -75,10 +76,10 @@ fn replay_answer(
 }
 
 // The answer of a further verdict, where it follows that of 01.
-fn replay_other(of: Verdict, fd: i32, counts: usize, old: &[u8], new: &[u8], t: Tally) -> Step {
+fn replay_other(of: Verdict, file: &mut impl Read, counts: usize, old: &[u8], new: &[u8], t: Tally) -> Step {
     let mut recorded = values::none();
     let mut bytes = texts::blank();
-    if !read_answer(fd, counts, &mut recorded, &mut bytes) {
+    if !read_answer(file, counts, &mut recorded, &mut bytes) {
         return Step::Broken;
     }
     Step::Next(replay_answer(of, old, new, recorded, counts, &mut bytes, t))
@@ -87,7 +88,7 @@ fn replay_other(of: Verdict, fd: i32, counts: usize, old: &[u8], new: &[u8], t: 
 // The answer of a further verdict: that of 01, which is given, or another, which follows.
 fn replay_further(
     of: Verdict,
-    fd: i32,
+    file: &mut impl Read,
     counts: usize,
     old: &[u8],
     new: &[u8],
@@ -95,27 +96,27 @@ fn replay_further(
     bytes: &mut [u8],
     t: Tally,
 ) -> Step {
-    let mark = file::read_u8(fd);
+    let mark = file::read_u8(file);
     let Number::Is(follows) = mark else {
         return Step::Broken;
     };
     if follows != 0 {
-        return replay_other(of, fd, counts, old, new, t);
+        return replay_other(of, file, counts, old, new, t);
     }
     Step::Next(replay_answer(of, old, new, recorded, counts, bytes, t))
 }
 
 // The answer of 01, and then that with imports and the mended one.
-fn replay_answers(fd: i32, counts: usize, old: &[u8], new: &[u8], t: Tally) -> Step {
+fn replay_answers(file: &mut impl Read, counts: usize, old: &[u8], new: &[u8], t: Tally) -> Step {
     let mut recorded = values::none();
     let mut bytes = texts::blank();
-    if !read_answer(fd, counts, &mut recorded, &mut bytes) {
+    if !read_answer(file, counts, &mut recorded, &mut bytes) {
         return Step::Broken;
     }
     let next = replay_answer(Verdict::Plain, old, new, recorded, counts, &mut bytes, t);
     let step = replay_further(
         Verdict::Imports,
-        fd,
+        file,
         counts,
         old,
         new,
@@ -128,7 +129,7 @@ fn replay_answers(fd: i32, counts: usize, old: &[u8], new: &[u8], t: Tally) -> S
     };
     replay_further(
         Verdict::Mended,
-        fd,
+        file,
         counts,
         old,
         new,
@@ -139,76 +140,82 @@ fn replay_answers(fd: i32, counts: usize, old: &[u8], new: &[u8], t: Tally) -> S
 }
 
 // Both images of a pair: the reader's numbers, and then the listings.
-fn replay_each(fd: i32, old: &[u8], new: &[u8], t: Tally) -> Step {
-    let step = replay_image(fd, old, t);
+fn replay_each(file: &mut impl Read, old: &[u8], new: &[u8], t: Tally) -> Step {
+    let step = replay_image(file, old, t);
     let Step::Next(after) = step else {
         return step;
     };
-    let step = replay_image(fd, new, after);
+    let step = replay_image(file, new, after);
     let Step::Next(after) = step else {
         return step;
     };
-    let step = listings::replay_listing(fd, old, number_of(old), after);
+    let step = listings::replay_listing(file, old, number_of(old), after);
     let Step::Next(after) = step else {
         return step;
     };
-    listings::replay_listing(fd, new, number_of(new), after)
+    listings::replay_listing(file, new, number_of(new), after)
 }
 
 // Each image of a pair beside what is recorded of it, and then their answers.
-fn replay_images(fd: i32, counts: usize, old: &[u8], new: &[u8], t: Tally) -> Step {
-    let step = replay_each(fd, old, new, t);
+fn replay_images(file: &mut impl Read, counts: usize, old: &[u8], new: &[u8], t: Tally) -> Step {
+    let step = replay_each(file, old, new, t);
     let Step::Next(after) = step else {
         return step;
     };
-    replay_answers(fd, counts, old, new, after)
+    replay_answers(file, counts, old, new, after)
 }
 
 // An image of the file: so many bytes at the start of a buffer.
-fn read_image_bytes(fd: i32, buf: &mut [u8]) -> Number {
-    let size = file::read_u32(fd);
+fn read_image_bytes(file: &mut impl Read, buf: &mut [u8]) -> Number {
+    let size = file::read_u32(file);
     let Number::Is(n) = size else {
         return size;
     };
-    if !file::fill(fd, buf, n) {
+    if !file::fill(file, buf, n) {
         return Number::Ended;
     }
     Number::Is(n)
 }
 
 // Two images, and what is recorded of them.
-fn replay_recorded(fd: i32, counts: usize, t: Tally) -> Step {
+fn replay_recorded(file: &mut impl Read, counts: usize, t: Tally) -> Step {
     let mut old = [0u8; IMAGE_ROOM];
-    let first = read_image_bytes(fd, &mut old);
+    let first = read_image_bytes(file, &mut old);
     let Number::Is(m) = first else {
         return Step::Broken;
     };
     let mut new = [0u8; IMAGE_ROOM];
-    let second = read_image_bytes(fd, &mut new);
+    let second = read_image_bytes(file, &mut new);
     let Number::Is(n) = second else {
         return Step::Broken;
     };
-    replay_images(fd, counts, file::first(&old, m), file::first(&new, n), t)
+    replay_images(file, counts, file::first(&old, m), file::first(&new, n), t)
+}
+
+// The name of a pair that differs.
+fn tell(rt: &impl Print, name: &[u8]) -> io::Result<()> {
+    let mut out = io::writer(rt);
+    out.write_all(b"differs: ")?;
+    out.write_all(name)?;
+    out.write_all(b"\n")
 }
 
 // One pair: its name, its images, its answers.
-fn replay_pair(fd: i32, counts: usize, t: Tally) -> Step {
-    let size = file::read_u8(fd);
+fn replay_pair(rt: &impl Print, file: &mut impl Read, counts: usize, t: Tally) -> Step {
+    let size = file::read_u8(file);
     let Number::Is(n) = size else {
         return Step::Broken;
     };
     let mut name = [0u8; 255];
-    if !file::fill(fd, &mut name, n) {
+    if !file::fill(file, &mut name, n) {
         return Step::Broken;
     }
-    let step = replay_recorded(fd, counts, t);
+    let step = replay_recorded(file, counts, t);
     let Step::Next(after) = step else {
         return step;
     };
     if t.differences != after.differences {
-        io::write_all(STDOUT_FILENO, b"differs: ");
-        io::write_all(STDOUT_FILENO, file::first(&name, n));
-        io::write_all(STDOUT_FILENO, b"\n");
+        let _told = tell(rt, file::first(&name, n));
     }
     let mut next = after;
     next.pairs = more(after.pairs);
@@ -216,76 +223,62 @@ fn replay_pair(fd: i32, counts: usize, t: Tally) -> Step {
 }
 
 // All pairs, and then the end of the file.
-fn replay(fd: i32, pairs: usize, counts: usize) -> Step {
+fn replay(rt: &impl Print, file: &mut impl Read, pairs: usize, counts: usize) -> Step {
     let mut t = Tally {
         pairs: 0,
         differences: 0,
         falsified: 0,
         caught: 0,
     };
-    let mut left = pairs;
-    while 0 < left {
-        let step = replay_pair(fd, counts, t);
+    for _ in 0..pairs {
+        let step = replay_pair(rt, file, counts, t);
         let Step::Next(after) = step else {
             return step;
         };
         t = after;
-        left -= 1;
     }
-    let end = file::read_u8(fd);
+    let end = file::read_u8(file);
     let Number::Ended = end else {
         return Step::Broken;
     };
     Step::Next(t)
 }
 
-fn print(text: &[u8], n: u64) {
-    io::write_all(STDOUT_FILENO, text);
-    io::print_decimal(STDOUT_FILENO, n);
-    io::write_all(STDOUT_FILENO, b"\n");
-}
-
 // The header: eight bytes that say what the file is, the number of pairs and of counts, and four largest lengths.
-fn replay_file(fd: i32) -> Step {
+fn replay_file(rt: &impl Print, file: &mut impl Read) -> Step {
     let mut magic = [0u8; 8];
-    if !file::fill(fd, &mut magic, 8) {
+    if !file::fill(file, &mut magic, 8) {
         return Step::Broken;
     }
-    if !check::same(&magic, b"VEXANSW4") {
+    if magic != *b"VEXANSW4" {
         return Step::Broken;
     }
-    let first = file::read_u32(fd);
+    let first = file::read_u32(file);
     let Number::Is(pairs) = first else {
         return Step::Broken;
     };
-    let second = file::read_u32(fd);
+    let second = file::read_u32(file);
     let Number::Is(counts) = second else {
         return Step::Broken;
     };
     if COUNTS < counts {
         return Step::Broken;
     }
-    if !file::pass(fd, 16) {
+    if !file::pass(file, 16) {
         return Step::Broken;
     }
-    replay(fd, pairs, counts)
+    replay(rt, file, pairs, counts)
 }
 
-fn main() {
-    let path = b"answers.bin";
-    let fd = os::open_read(path);
-    if fd < 0 {
-        os::fail(path);
-        return;
-    }
-    let run = replay_file(fd);
-    libc::close(fd);
+fn main(rt: HostRuntime) -> io::Result<()> {
+    let file = fs::open(&rt, "answers.bin")?;
+    let mut reader = BufReader::new(rt.alloc(), file)?;
+    let run = replay_file(&rt, &mut reader);
     let Step::Next(t) = run else {
-        io::write_all(STDOUT_FILENO, b"the file is not as it should be\n");
-        return;
+        return println!(rt; "the file is not as it should be");
     };
-    print(b"pairs: ", t.pairs);
-    print(b"differences: ", t.differences);
-    print(b"falsified answers: ", t.falsified);
-    print(b"counted as differences: ", t.caught);
+    println!(rt; "pairs: {}", t.pairs)?;
+    println!(rt; "differences: {}", t.differences)?;
+    println!(rt; "falsified answers: {}", t.falsified)?;
+    println!(rt; "counted as differences: {}", t.caught)
 }

@@ -4,33 +4,30 @@ use crate::counting::{Tally, compared, more};
 use crate::file::Number;
 use crate::values::{keep, kept};
 use crate::{calls, file};
+use std::io::Read;
 
 // The number, the side, the bump and the result, of a byte each; false where the file ends before.
-pub fn read_bytes(fd: i32, values: &mut [u64]) -> bool {
-    let mut selector: u64 = 0;
-    while selector < 4 {
-        let byte = file::read_u8(fd);
+pub fn read_bytes(file: &mut impl Read, values: &mut [u64]) -> bool {
+    for selector in 0..4 {
+        let byte = file::read_u8(file);
         let Number::Is(recorded) = byte else {
             return false;
         };
         keep(values, selector, recorded);
-        selector += 1;
     }
     true
 }
 
 // The length and the counts; false where the file ends before.
-pub fn read_numbers(fd: i32, counts: usize, values: &mut [u64]) -> bool {
+pub fn read_numbers(file: &mut impl Read, counts: usize, values: &mut [u64]) -> bool {
     let mut selector: u64 = 4;
-    let mut left = std::num::wrapping_add_usize(counts, 1);
-    while 0 < left {
-        let count = file::read_u32(fd);
+    for _ in 0..counts.wrapping_add(1) {
+        let count = file::read_u32(file);
         let Number::Is(recorded) = count else {
             return false;
         };
         keep(values, selector, recorded);
         selector = more(selector);
-        left -= 1;
     }
     true
 }
@@ -58,11 +55,9 @@ pub fn replay_selectors(
 ) -> Tally {
     let mut next = t;
     let mut selector: u64 = 0;
-    let mut left = all;
-    while 0 < left {
+    for _ in 0..all {
         next = replay_value(of, old, new, selector, kept(recorded, selector), next);
         selector = more(selector);
-        left -= 1;
     }
     let next = replay_value(of, old, new, selector, 0, next);
     let next = replay_value(of, old, new, more(selector), 0, next);

@@ -17,7 +17,7 @@ pub fn blank() -> [u8; ROOM] {
 }
 
 // What is asked for: a report of two images, or the contents listing of the old one.
-#[derive(Drop)]
+#[derive(Clone, Copy)]
 pub enum Call {
     Report,
     ImportsReport,
@@ -57,7 +57,7 @@ fn differs(call: Call, old: &[u8], new: &[u8], room: usize, length: usize, bytes
     if asked(call, old, new, &mut out, room) != length as u64 {
         return true;
     }
-    !check::same(&out, bytes)
+    out.as_slice() != bytes
 }
 
 fn set(bytes: &mut [u8], at: usize, byte: u8) {
@@ -82,8 +82,8 @@ fn replay_false(
     bytes: &mut [u8],
     t: Tally,
 ) -> Tally {
-    let room = std::num::wrapping_add_usize(length, SPARE);
-    let longer = std::num::wrapping_add_usize(length, 1);
+    let room = length.wrapping_add(SPARE);
+    let longer = length.wrapping_add(1);
     let next = falsified(t, differs(call, old, new, room, longer, bytes));
     set(bytes, length, 1);
     let next = falsified(next, differs(call, old, new, room, length, bytes));
@@ -125,7 +125,7 @@ pub fn replay_text(
     bytes: &mut [u8],
     t: Tally,
 ) -> Tally {
-    let larger = std::num::wrapping_add_usize(length, SPARE);
+    let larger = length.wrapping_add(SPARE);
     let next = told(t, differs(call, old, new, larger, length, bytes));
     let next = told(next, differs(call, old, new, length, length, bytes));
     let next = replay_full(call, old, new, length, next);

@@ -41,13 +41,11 @@ fn asked(of: Verdict, old: &[u8], new: &[u8], out: &mut [u64], places: usize) ->
 
 // Whether so many places hold the recorded values, and the others what they held before.
 fn holds(out: [u64; ROOM], recorded: [u64; ROOM], places: usize) -> bool {
-    let mut i: usize = 0;
-    while i < ROOM {
+    for i in 0..ROOM {
         let wanted = if i < places { recorded[i] } else { BLANK };
         if out[i] != wanted {
             return false;
         }
-        i += 1;
     }
     true
 }
@@ -76,7 +74,7 @@ fn replay_false(
     all: usize,
     t: Tally,
 ) -> Tally {
-    let more = std::num::wrapping_add_usize(all, 1);
+    let more = all.wrapping_add(1);
     let mut wrong = recorded;
     wrong[0] = if recorded[0] == 0 { 1 } else { 0 };
     let next = falsified(t, differs(of, old, new, wrong, more, more));
@@ -95,7 +93,7 @@ pub fn replay_values(
     all: usize,
     t: Tally,
 ) -> Tally {
-    let more = std::num::wrapping_add_usize(all, 1);
+    let more = all.wrapping_add(1);
     let next = told(t, differs(of, old, new, recorded, 0, 0));
     let next = told(next, differs(of, old, new, recorded, 1, 1));
     let next = told(next, differs(of, old, new, recorded, 5, 5));
