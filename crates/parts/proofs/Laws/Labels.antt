@@ -138,7 +138,7 @@ module _ (s : List ℕ) (at : ℕ) (g : LabelHere s at) where
 
 -- what a tag has is within its values, and what it has not is 0 or empty
 only-first : (t first : ℕ) → t ≤ 16 → (t ≡ 1 → ⊥) → (t ≡ 0 → first ≤ 13) → (t ≡ 2 → first ≤ 5) → (3 < t → (t ≡ 6 → ⊥) → first ≡ 0) → Regular (label t first 0 [])
-only-first t first l u p q f = record {
+only-first t _ l u p q f = record {
   most = l;
   primitive = p;
   sign = λ z. absurd (u z);
