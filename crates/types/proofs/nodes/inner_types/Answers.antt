@@ -1,20 +1,14 @@
--- `types::nodes::inner_types` meets its contract: the inner types of a node stand one after the other, and the last one ends it.
--- Assumes nothing.
-use borrow.Author.Rules.{rules}
+-- The inner types of a node stand one after the other, and the last one ends it.
 use mathlib.Core.Path.{sym, ◌∙◌}
 use native.Mathlib.Omega.{arith}
 use Rattle.parts.proofs.Promise.{type-first, type-second, node-leaf, node-one, node-two, end-leaf, end-one, end-two}
 use Rattle.types.specs.Nodes.{Inner}
-use Rattle.types.proofs.nodes.inner_types.Statement.{statement}
-use Rattle.types.proofs.nodes.inner_types.Tie as tie
+use Rattle.types.proofs.nodes.inner_types.Goals as goal
 
-inner-types-requires : tie.Need-inner-types-requires
-inner-types-requires c κs = search rules
-
-returns : tie.Need-returns
+pub returns : goal.returns
 unfolding Inner
 returns c = λ left s at h t.
-    let k = (rw (← t) at c.inner-types.ensures) in
+    let k = (rw (← t) at c.inner_types.ensures) in
     record {
       none = λ e. record { tree = node-leaf s at left h (sym k ∙ e); end = end-leaf s at left h (sym k ∙ e) };
       first = λ f. type-first s at left h (λ z. f (k ∙ z));
@@ -30,6 +24,3 @@ returns c = λ left s at h t.
             end = end-two s at left h (λ z. f (k ∙ z)) (λ z. g (k ∙ z));
           };
     }
-
-pub inner-types-spec : {M : Type 1} → statement M
-inner-types-spec = tie.close (tie.spec inner-types-requires returns)

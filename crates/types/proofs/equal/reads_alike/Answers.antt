@@ -1,0 +1,10 @@
+use Rattle.types.specs.Readings.{readsAlike}
+use Rattle.types.proofs.equal.reads_alike.Goals as goal
+
+pub returns-in-Plain : goal.returns-in-Plain
+unfolding readsAlike
+returns-in-Plain c = rw c.in-Plain.is
+
+pub returns-in-Mended : goal.returns-in-Mended
+unfolding readsAlike
+returns-in-Mended c = rw c.in-Mended.is
