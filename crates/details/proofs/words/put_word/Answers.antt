@@ -1,0 +1,42 @@
+-- `details::words::put_word` meets its contract: the table is cut as its starts say, which antt computes. Assumes nothing.
+use Rattle.std.proofs.Common.{List, ◌∷◌, [], ℕ, ◌+◌, ◌<◌, slice_index, refl}
+use Rattle.image.specs.Words.{bytes}
+use Rattle.rules.specs.Equal.{sameList, sameName}
+use Rattle.details.specs.Words.{wordAt}
+use Rattle.details.specs.Words.{names as words}
+use Rattle.details.proofs.Table.{isCut, Cut, cut_at}
+use Rattle.details.proofs.Writers.{space-as, puts-as}
+use Rattle.details.proofs.words.put_word.Goals as goal
+
+-- the code's text and starts
+names : List ℕ
+names = bytes "FieldAddedFieldRemovedFieldTypeChangedFieldOrdinalChangedFieldRenamedFieldDeprecatedFieldEncodingChangedVariantAddedVariantRemovedVariantOrdinalChangedDeclarationAddedDeclarationRemovedDeclarationKindChangedNamespaceChangedNonExhaustiveChangedFlagsBitAddedFlagsBitRemovedFlagsBitOrdinalChangedPatchMinorMajorCompatibleBreakingmessageenumflagsunionnewtypeconfiggeneric_aliastraitimpl"
+
+starts : List ℕ
+starts =
+    0 ∷ 10 ∷ 22 ∷ 38 ∷ 57 ∷ 69 ∷ 84 ∷ 104 ∷ 116 ∷ 130 ∷ 151 ∷ 167 ∷ 185 ∷ 207 ∷ 223 ∷ 243 ∷ 256 ∷ 271
+    ∷ 293 ∷ 298 ∷ 303 ∷ 308 ∷ 318 ∷ 326 ∷ 333 ∷ 337 ∷ 342 ∷ 347 ∷ 354 ∷ 360 ∷ 373 ∷ 378 ∷ 382 ∷ []
+
+cut : (word : ℕ) → word < 32 → Cut names (wordAt word) (slice_index starts word) (slice_index starts (word + 1))
+unfolding names starts bytes isCut sameName sameList words
+cut word h = cut_at names starts refl word h
+
+pub slice_bounds-put_text-count : goal.slice_bounds-put_text-count
+unfolding starts
+slice_bounds-put_text-count c = (cut _ c.requires.0).forward
+
+pub slice_bounds-put_text-start : goal.slice_bounds-put_text-start
+unfolding starts
+slice_bounds-put_text-start c = (cut _ c.requires.0).forward
+
+pub slice_bounds-put_text-end : goal.slice_bounds-put_text-end
+unfolding starts names bytes
+slice_bounds-put_text-end c = (cut _ c.requires.0).within
+
+pub put_text-requires : goal.put_text-requires
+unfolding names bytes starts
+put_text-requires c = space-as (cut _ c.requires.0).is c.requires.1
+
+pub returns : goal.returns
+unfolding names bytes starts
+returns c = puts-as (cut _ c.requires.0).is c.put_text.ensures
