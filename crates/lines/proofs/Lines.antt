@@ -8,7 +8,9 @@ use lib.Dec.{eqb}
 use Rattle.rules.specs.Changes.{level, Change}
 use Rattle.rules.specs.Verdict.{resultAt}
 use Rattle.rules.specs.Report.{changeWord, bumpWord, fieldPart, changeLine, lastLine}
-use Rattle.text.proofs.Pieces.{together}
+use Rattle.text.specs.Text.{Puts}
+use Rattle.text.specs.declared.Mode.{Mode}
+use Rattle.text.proofs.Pieces.{together, Owes, owes-next}
 use Rattle.tally.specs.Tallies.{TallyOf}
 use Rattle.tally.specs.declared.Tally.{Tally}
 use Rattle.tally.proofs.Lines.{linePieces, line-pieces}
@@ -47,3 +49,12 @@ result-most l = go (eqb l 2)
 pub last_line : (cs : List Change) (t : Tally) → TallyOf cs t → lastLineOf t ≡ lastLine cs
 unfolding lastLineOf lastLine
 last_line cs t o = rw (o.bump, o.changes)
+
+-- a part of a line and what stands after it are written
+pub owes-part :
+    {m : Mode} {d d' e f : List ℕ} {at r q u : ℕ} {all x y : List ℕ} {ps : List (List ℕ)}
+    → Owes m d at all r d' (x ∷ y ∷ ps)
+    → Puts m d' r x q e
+    → Puts m e q y u f
+    → Owes m d at all u f ps
+owes-part o v w = owes-next (owes-next o v) w
