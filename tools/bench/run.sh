@@ -16,13 +16,13 @@ reader() (
     trap 'rm -rf "$work"' EXIT
     mkdir -p "$work/crates/exports/src"
     cp -r "$repo/crates/image" "$repo/crates/reader" "$work/crates/"
-    printf 'image:\nreader: image\nexports: image reader\n' > "$work/crates.txt"
+    printf 'image:\nreader: image\nexports staticlib: image reader\n' > "$work/crates.txt"
     cat > "$work/crates/exports/src/lib.rt" <<'RATTLE'
 // The reader of images for a caller in another language.
 use reader::Acceptance;
 
 // 0 for an image that is accepted, else its refusal.
-#[no_mangle]
+#[unsafe(no_mangle)]
 pub extern "C" fn read_image_number(bytes: &[u8]) -> u8 {
     let answer = reader::read_image(bytes);
     match answer {
@@ -31,9 +31,9 @@ pub extern "C" fn read_image_number(bytes: &[u8]) -> u8 {
     }
 }
 RATTLE
-    (cd "$work" && rt staticlib exports > "$work/log" 2>&1) || { tail -20 "$work/log"; exit 1; }
+    (cd "$work/crates/exports" && rt lib > "$work/log" 2>&1) || { tail -20 "$work/log"; exit 1; }
     rustc --edition 2021 -O -D warnings -A dead_code -o "$work/bench" "$here/reader.rs" \
-        -L "native=$work/target/staticlib" -l static=exports
+        -L "native=$work/crates/exports/out" -l static=exports
     "$work/bench" "$answers"
 )
 

@@ -23,6 +23,7 @@ fi
 
 folder=$repo/target/staticlib
 log=$repo/target/staticlib.log
+copy=${XDG_CACHE_HOME:-${HOME:-/tmp}/.cache}/vexil_compat/$(printf %s "$repo" | sha256sum | cut -c1-16)
 pinned=$(cat "$repo/KIT-ID")
 progress=
 
@@ -30,7 +31,7 @@ progress=
 listed() {
     awk -v name="$name" '
         { line = $0; sub(/#.*/, "") }
-        /:/ { crate = $0; sub(/:.*/, "", crate); gsub(/[ \t]/, "", crate); sub(/^[^:]*:/, ""); below[crate] = $0; lines[crate] = line }
+        /:/ { crate = $0; sub(/:.*/, "", crate); gsub(/[ \t]/, "", crate); sub(/^[^:]*:/, ""); below[crate] = $0; lines[crate] = line; order[NR] = crate }
         END {
             todo[left = 1] = name
             while (left > 0) {
@@ -39,8 +40,8 @@ listed() {
                 seen[crate] = 1
                 for (i = split(below[crate], deps, " "); i > 0; i--) todo[++left] = deps[i]
             }
-            for (crate in seen) print lines[crate]
-        }' "$repo/crates.txt" | LC_ALL=C sort
+            for (i = 1; i <= NR; i++) if (order[i] in seen) print lines[order[i]]
+        }' "$repo/crates.txt"
 }
 
 lines=$(listed)
@@ -61,8 +62,8 @@ hash_of() {
 made_of() { # FOLDER
     cd "$1/crates"
     {
-        echo "$lines"
-        find -L "${crates[@]}" -name must-fail -prune -o -type f -print0 | LC_ALL=C sort -z | xargs -0 sha256sum
+        LC_ALL=C sort <<< "$lines"
+        find -L "${crates[@]}" \( -name must-fail -o -name out \) -prune -o -type f -print0 | LC_ALL=C sort -z | xargs -0 sha256sum
     } | hash_of
 }
 
@@ -92,21 +93,21 @@ check_kit() {
     fi
 }
 
-# How many crates are proved in this run, which are in hand, and the time gone, every second for as long as this script runs.
+# How many crates are proved, which is in hand, and the time gone, every second for as long as this script runs.
 show_progress() {
     local crate proved now began=$SECONDS gone
     echo "vexil-compat: the library is proved first, ${#crates[@]} crates; this takes about seven minutes, once" >&2
     while kill -0 $$ 2> /dev/null; do
         proved=0 now=
         for crate in "${crates[@]}"; do
-            [ "$repo/target/log/$crate.res" -nt "$log.start" ] || continue
-            case $(cat "$repo/target/log/$crate.res") in
-            proved) proved=$((proved + 1)) ;;
-            *) now+=" $crate" ;;
-            esac
+            if [ -e "$copy/crates/$crate/out/rlib/$crate.rlib" ]; then
+                proved=$((proved + 1))
+            elif [ -z "$now" ]; then
+                now=$crate
+            fi
         done
         gone=$((SECONDS - began))
-        printf '\r\033[K  %d of %d crates proved%s (%d:%02d)' "$proved" "${#crates[@]}" "${now:+, now$now}" $((gone / 60)) $((gone % 60)) >&2
+        printf '\r\033[K  %d of %d crates proved%s (%d:%02d)' "$proved" "${#crates[@]}" "${now:+, now $now}" $((gone / 60)) $((gone % 60)) >&2
         sleep 1
     done
 }
@@ -119,45 +120,51 @@ stop_progress() {
     progress=
 }
 
-# A copy of the crates is proved, so that the hash is that of what was proved, whatever is edited meanwhile. The copy's target/ is the
-# repository's: what is proved there is not proved again.
-copy_crates() { # FOLDER
+# A copy of the crates is proved, so that the hash is that of what was proved, whatever is edited meanwhile. Here the library is one for C.
+copy_crates() {
     local crate
-    rm -rf "$1"
-    mkdir -p "$1/crates"
-    for crate in "${crates[@]}"; do
-        cp -rL "$repo/crates/$crate" "$1/crates/"
+    mkdir -p "$copy/crates"
+    for crate in "$copy/crates"/*; do
+        case " ${crates[*]} " in
+        *" ${crate##*/} "*) find "$crate" -mindepth 1 -maxdepth 1 ! -name out -exec rm -rf {} + ;;
+        *) rm -rf "$crate" ;;
+        esac
     done
-    echo "$lines" > "$1/crates.txt"
-    ln -s "$repo/target" "$1/target"
+    for crate in "${crates[@]}"; do
+        mkdir -p "$copy/crates/$crate"
+        find -L "$repo/crates/$crate" -mindepth 1 -maxdepth 1 ! -name out ! -name must-fail -exec cp -rL -t "$copy/crates/$crate" {} +
+    done
+    sed "s/^\($name\)[ \t]*:/\1 staticlib:/" <<< "$lines" > "$copy/crates.txt"
 }
 
-prove() { # FOLDER
-    : > "$log.start"
+prove() {
+    local made=$copy/crates/$name/out/lib$name.a
+    rm -f "$made"
     if [ -t 2 ]; then
         show_progress 9<&- &
         progress=$!
         trap stop_progress EXIT
     fi
-    if ! (cd "$1" && rt staticlib "$name" > "$log" 2>&1) || [ ! -f "$folder/lib$name.a" ]; then
+    if ! (cd "$copy/crates/$name" && rt lib > "$log" 2>&1) || [ ! -f "$made" ]; then
         stop_progress
         tail -20 "$log" >&2
         echo "library.sh: the library is not proved; the whole log is $log" >&2
         exit 1
     fi
     stop_progress
+    mkdir -p "$folder"
+    cp "$made" "$folder/"
 }
 
 build() {
-    local copy=$repo/target/proved sources archive
+    local sources archive
     check_kit
     rm -f "$folder/made-of" "$folder/lib$name.a"
-    copy_crates "$copy"
+    copy_crates
     sources=$(made_of "$copy")
-    prove "$copy"
+    prove
     archive=$(hash_of < "$folder/lib$name.a")
     printf 'crates %s\nlibrary %s\nkit %s\n' "$sources" "$archive" "$kit" > "$folder/made-of"
-    rm -rf "$copy"
     if ! is_current; then
         echo 'library.sh: the crates were changed while they were proved; the next call proves them anew' >&2
         exit 1

@@ -25,18 +25,19 @@ RT = """#!/usr/bin/env bash
 set -eu
 case $1 in
 version) echo "${OTHER_KIT:-@KIT@}" ;;
-staticlib)
-    mkdir -p target/log target/staticlib
-    if ! mkdir target/busy 2> /dev/null; then echo overlap >> "$CALLS"; fi
-    echo staticlib >> "$CALLS"
-    for crate in below vexil_compat; do
-        echo failed > "target/log/$crate.res"
+lib)
+    cd ../..
+    if ! mkdir busy 2> /dev/null; then echo overlap >> "$CALLS"; fi
+    echo lib >> "$CALLS"
+    rm -rf crates/*/out
+    for crate in below beside vexil_compat; do
         sleep "${SECONDS_EACH:-0}"
-        if grep -q unprovable "crates/$crate/src/lib.rt"; then rmdir target/busy; echo "rt: $crate NOT PROVED"; exit 1; fi
-        echo proved > "target/log/$crate.res"
+        if grep -q unprovable "crates/$crate/src/lib.rt"; then rmdir busy; echo "rt: $crate NOT PROVED"; exit 1; fi
+        mkdir -p "crates/$crate/out/rlib"
+        touch "crates/$crate/out/rlib/$crate.rlib"
     done
-    cp "$LIBRARIES/$(cat crates/below/src/lib.rt).a" target/staticlib/libvexil_compat.a
-    rmdir target/busy
+    cp "$LIBRARIES/$(cat crates/below/src/lib.rt).a" crates/vexil_compat/out/libvexil_compat.a
+    rmdir busy
     ;;
 esac
 """
@@ -70,7 +71,7 @@ class Copy:
     """A repository that is built in no time."""
 
     def __init__(self, folder: Path):
-        self.root, self.bin, self.libraries, self.calls = (folder / name for name in ("copy", "bin", "libraries", "calls"))
+        self.root, self.bin, self.libraries, self.calls, self.cache = (folder / name for name in ("copy", "bin", "libraries", "calls", "cache"))
         for name in ("include", "samples", "tools/loader"):
             shutil.copytree(ROOT / name, self.root / name)
         for name in ("vexil-compat", "KIT-ID"):
@@ -103,7 +104,7 @@ class Copy:
         """With the stand-in on the path, or without any `rt`."""
         path = f"{self.bin}:/usr/bin:/bin" if rt else "/usr/bin:/bin"
         kept = {name: value for name, value in os.environ.items() if not name.startswith("VEXIL_COMPAT")}
-        return {**kept, "PATH": path, "CALLS": str(self.calls), "LIBRARIES": str(self.libraries), **more}
+        return {**kept, "PATH": path, "CALLS": str(self.calls), "LIBRARIES": str(self.libraries), "XDG_CACHE_HOME": str(self.cache), **more}
 
     def asked(self, *words, **environment) -> tuple[int, str, str]:
         return told(self.root / "vexil-compat", *words, env=self.environment(**environment))
@@ -118,47 +119,47 @@ class Copy:
 def stale(suite: Suite, copy: Copy):
     """By content, and not by date: the answer is always that of the files that are there."""
     first, second = (0, "first\n", ""), (0, "second\n", "")
-    suite.equal("the first call builds", (copy.asked(), copy.builds()), (first, ["staticlib"]))
+    suite.equal("the first call builds", (copy.asked(), copy.builds()), (first, ["lib"]))
     suite.equal("the second does not", (copy.asked(), copy.builds()), (first, []))
     copy.write("crates/below/src/lib.rt", "second", LONG_AGO)
-    suite.equal("a file of another content with an older date", (copy.asked(), copy.builds()), (second, ["staticlib"]))
+    suite.equal("a file of another content with an older date", (copy.asked(), copy.builds()), (second, ["lib"]))
     copy.write("crates/below/src/lib.rt", "second")
     suite.equal("a file of the same content with a newer date", (copy.asked(), copy.builds()), (second, []))
     copy.write("crates/below/src/lib.rt", "first", LONG_AGO)
-    suite.equal("back again", (copy.asked(), copy.builds()), (first, ["staticlib"]))
+    suite.equal("back again", (copy.asked(), copy.builds()), (first, ["lib"]))
     for path in ("crates/vexil_compat/specs/New.antt", "crates/below/proofs/New.antt", "crates/below/src/lib.rt"):
         copy.write(path, "first", LONG_AGO)
         copy.asked()
-        again = [] if path.endswith("lib.rt") else ["staticlib"]
+        again = [] if path.endswith("lib.rt") else ["lib"]
         suite.equal(f"with {path}", copy.builds(), again)
     (copy.root / "crates/below/proofs/New.antt").rename(copy.root / "crates/below/proofs/Other.antt")
-    suite.equal("a file of another name", (copy.asked(), copy.builds()), (first, ["staticlib"]))
+    suite.equal("a file of another name", (copy.asked(), copy.builds()), (first, ["lib"]))
     copy.write("crates.txt", "below:\nbeside:\nvexil_compat: below beside\n", LONG_AGO)
-    suite.equal("the library rests on one crate more", (copy.asked(), copy.builds()), (first, ["staticlib"]))
+    suite.equal("the library rests on one crate more", (copy.asked(), copy.builds()), (first, ["lib"]))
     copy.write("crates.txt", "below: beside\nbeside:\nvexil_compat: below beside\n", LONG_AGO)
-    suite.equal("a crate rests on another", (copy.asked(), copy.builds()), (first, ["staticlib"]))
+    suite.equal("a crate rests on another", (copy.asked(), copy.builds()), (first, ["lib"]))
     copy.write("crates.txt", "below : beside # and not\nbeside:\nvexil_compat: below\n", LONG_AGO)
-    suite.equal("and the library on that one alone", (copy.asked(), copy.builds()), (first, ["staticlib"]))
+    suite.equal("and the library on that one alone", (copy.asked(), copy.builds()), (first, ["lib"]))
     copy.write("crates/beside/src/lib.rt", "other", LONG_AGO)
-    suite.equal("a crate below the crate below", (copy.asked(), copy.builds()), (first, ["staticlib"]))
+    suite.equal("a crate below the crate below", (copy.asked(), copy.builds()), (first, ["lib"]))
     copy.write("elsewhere", "linked")
     (copy.root / "crates/below/specs").mkdir()
     (copy.root / "crates/below/specs/Linked.antt").symlink_to(copy.root / "elsewhere")
-    suite.equal("a file by a link", (copy.asked(), copy.builds()), (first, ["staticlib"]))
+    suite.equal("a file by a link", (copy.asked(), copy.builds()), (first, ["lib"]))
     copy.write("elsewhere", "linked to another")
-    suite.equal("that has changed", (copy.asked(), copy.builds()), (first, ["staticlib"]))
+    suite.equal("that has changed", (copy.asked(), copy.builds()), (first, ["lib"]))
     copy.write("crates.txt", "below:\nbeside:\n")
     status, printed, said = copy.asked()
     suite.equal("no line of the library", (status, printed, "no line of vexil_compat" in said), (2, "", True))
     copy.write("crates.txt", "below:\nbeside:\nvexil_compat: below beside\n", LONG_AGO)
-    suite.equal("three crates again", (copy.asked(), copy.builds()), (first, ["staticlib"]))
+    suite.equal("three crates again", (copy.asked(), copy.builds()), (first, ["lib"]))
     for path in ("crates/below/must-fail/1.edit", "docs/NEW.md", "crates/other/src/lib.rt"):
         copy.write(path, "new")
         suite.equal(f"what the library is not made of: {path}", (copy.asked(), copy.builds()), (first, []))
     shutil.copy(copy.libraries / "second.a", copy.root / "target/staticlib/libvexil_compat.a")
-    suite.equal("another library in its place", (copy.asked(), copy.builds()), (first, ["staticlib"]))
+    suite.equal("another library in its place", (copy.asked(), copy.builds()), (first, ["lib"]))
     os.remove(copy.root / "target/staticlib/libvexil_compat.a")
-    suite.equal("no library in its place", (copy.asked(), copy.builds()), (first, ["staticlib"]))
+    suite.equal("no library in its place", (copy.asked(), copy.builds()), (first, ["lib"]))
     loader = copy.root / "tools/loader/loader.c"
     copy.write("tools/loader/loader.c", loader.read_text().replace("fwrite(out, 1, length", 'puts("mended"), fwrite(out, 1, length'), LONG_AGO)
     suite.equal("the loading tool's own source", (copy.asked(), copy.builds()), ((0, "mended\nfirst\n", ""), []))
@@ -202,7 +203,7 @@ def edited(suite: Suite, copy: Copy):
         suite.equal(f"and {later} afterwards", copy.asked(), (0, f"{later}\n", ""))
         copy.builds()
     copy.write("crates/below/src/lib.rt", "first")
-    suite.equal("first again", (copy.asked(), copy.builds()), ((0, "first\n", ""), ["staticlib"]))
+    suite.equal("first again", (copy.asked(), copy.builds()), ((0, "first\n", ""), ["lib"]))
 
 
 def at_once(suite: Suite, copy: Copy):
@@ -212,7 +213,7 @@ def at_once(suite: Suite, copy: Copy):
     calls = [subprocess.Popen([copy.root / "vexil-compat"], **words) for _ in range(4)]
     answers = [(*call.communicate(), call.returncode) for call in calls]
     suite.equal("four at once answer", answers, [("second\n", "", 0)] * 4)
-    suite.equal("and build once", copy.builds(), ["staticlib"])
+    suite.equal("and build once", copy.builds(), ["lib"])
     copy.write("crates/below/src/lib.rt", "first")
     words = {**words, "env": copy.environment(SECONDS_EACH="20"), "start_new_session": True}
     # As from a terminal, also if whoever runs the tests ignores the signal.
@@ -223,9 +224,10 @@ def at_once(suite: Suite, copy: Copy):
     suite.equal("who asks for help does not wait", (copy.asked("--help")[0], time.monotonic() - start < 10), (0, True))
     os.killpg(call.pid, signal.SIGINT)
     suite.equal("a call that is broken off answers nothing", (call.communicate()[0], call.returncode == 0), ("", False))
-    shutil.rmtree(copy.root / "target/busy", ignore_errors=True)
+    for busy in copy.cache.glob("vexil_compat/*/busy"):
+        busy.rmdir()
     copy.builds()
-    suite.equal("the next one builds", (copy.asked(), copy.builds()), ((0, "first\n", ""), ["staticlib"]))
+    suite.equal("the next one builds", (copy.asked(), copy.builds()), ((0, "first\n", ""), ["lib"]))
 
 
 def on_terminal(copy: Copy, **environment) -> str:
@@ -253,7 +255,8 @@ def progress(suite: Suite, copy: Copy):
     said = on_terminal(copy, SECONDS_EACH="1.3")
     suite.equal("what it does", "vexil-compat: the library is proved first, 3 crates" in said, True)
     suite.equal("the first crate", bool(re.search(r"0 of 3 crates proved, now below \(0:0\d\)", said)), True)
-    suite.equal("the next", bool(re.search(r"1 of 3 crates proved, now vexil_compat \(0:0\d\)", said)), True)
+    suite.equal("the next", bool(re.search(r"1 of 3 crates proved, now beside \(0:0\d\)", said)), True)
+    suite.equal("the last", bool(re.search(r"2 of 3 crates proved, now vexil_compat \(0:0\d\)", said)), True)
     suite.equal("a current build says nothing", on_terminal(copy), "")
     copy.write("crates/below/src/lib.rt", "first")
     suite.equal("no terminal, no word", copy.asked(SECONDS_EACH="0.2"), (0, "first\n", ""))
@@ -278,7 +281,7 @@ def no_build(suite: Suite, copy: Copy):
     suite.equal("another toolchain", (status, printed, "here    rattle-kit-9\n" in said, f"KIT-ID  {KIT}\n" in said), (2, "", True, True))
     suite.equal("another toolchain, on demand", copy.asked(OTHER_KIT="rattle-kit-9", VEXIL_COMPAT_ANY_KIT="1"), current)
     copy.builds()
-    suite.equal("what another proved is not taken without demand", (copy.asked(), copy.builds()), (current, ["staticlib"]))
+    suite.equal("what another proved is not taken without demand", (copy.asked(), copy.builds()), (current, ["lib"]))
     broken = copy.root / "tools/loader/refusals.c"
     copy.write("tools/loader/refusals.c", "broken")
     suite.equal("a loading tool that does not build", copy.asked()[:2], (2, ""))
