@@ -1,5 +1,4 @@
 -- `reader::bodies::read_body` meets its contract. Assumes nothing.
-use Rattle.std.proofs.Common.{arith}
 use Rattle.image.specs.Bodies.{bodyOf}
 use Rattle.image.proofs.Laws.Answers.{stop}
 use Rattle.image.proofs.Laws.Numbers.{byte-there}

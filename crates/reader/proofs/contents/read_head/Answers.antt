@@ -1,6 +1,6 @@
 -- `reader::contents::read_head` meets its contract: each test that is passed is one of `headOf`. Assumes nothing.
 use Rattle.std.proofs.Common.{arith, ◌≡◌, ◌≤◌, ℕ, List, length, sym, ◌∙◌}
-use Rattle.image.specs.Image.{u16At, format, entryCount, idCount}
+use Rattle.image.specs.Image.{u16At, format}
 use Rattle.reader.proofs.Laws.Contents.{Formatted, head-long, head-short, head-format, crowded-entries, crowded-ids, crowded-segments, head-good}
 use Rattle.reader.proofs.contents.read_head.Goals as goal
 
