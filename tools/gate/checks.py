@@ -3,15 +3,16 @@
 import re
 from pathlib import Path
 
-# What every verdict carries: the kit's logic and libraries come built. Any other `=trusted` is a result of the quick loop.
-BUILT = {"logic-built", "libraries-built"}
+# What a verdict may carry: the kit's logic and libraries come built, and one run may check a crate in batches. Any other `=trusted` is a
+# result of the quick loop.
+BUILT = {"logic-built", "libraries-built", "statements", "batches"}
 # Libraries of the kit whose contracts lean on assumed ones. The verdict of a library above them does not say so.
 ASSUMED = {"libc", "io", "os"}
 # What the crates above `parts` may not name: the modules of `image`, and of the crates between it and `parts`, but for the values and the
 # words; and the laws that the promise of `parts` rests on. `members` reads parts of an accepted image, as `parts` does, and rests on both;
 # `claims` has no code and gathers the theorems of all crates.
 BEHIND = re.compile(
-    r"Rattle·(?:(?:image|refusals|written|reader)\.(?!specs\.Schema\b|specs\.Words\b|specs\.declared\b)\w+|parts\.proofs\.Laws\b)(?:\.\w+)*"
+    r"Rattle\.(?:(?:image|refusals|written|reader)\.(?!specs\.Schema\b|specs\.Words\b|specs\.declared\b)\w+|parts\.proofs\.Laws\b)(?:\.\w+)*"
 )
 INSIDE = {"members", "claims"}
 # What their code may not call: what `image` and `reader` read by, but for reading an image; how many inner types a tag has asks for no image.
@@ -104,12 +105,30 @@ def unfolded(root: Path) -> list[str]:
     ]
 
 
-def verdicts(root: Path) -> tuple[int, list[str]]:
-    """How many crates have a verdict that counts, and the faults of the others."""
+def logs(lines: list[str]) -> dict[str, str]:
+    """What `rt ci` says of each crate that it proves, from `== NAME` on."""
+    found: dict[str, str] = {}
+    name = ""
+    for line in lines:
+        if match := re.fullmatch(r"== (\w+)", line):
+            name = match[1]
+            found[name] = ""
+        elif name:
+            found[name] += line + "\n"
+            if line.startswith(f"rt: {name} "):
+                name = ""
+    return found
+
+
+def verdicts(root: Path, lines: list[str]) -> tuple[int, list[str]]:
+    """How many crates have a verdict that counts, and the faults of the others, in what `rt ci` says. What it proved in an earlier run, of the
+    same files over the same libraries, it keeps."""
     passed, faults = 0, []
+    found = logs(lines)
+    kept = {match[1] for line in lines if (match := re.match(r"rt: (\w+) is kept: ", line))}
     for name in listed_crates(root):
-        log = root / "target" / "log" / f"{name}.out"
-        found = verdict_faults(name, is_library(root, name), log.read_text()) if log.exists() else [f"{name}: no log of its check"]
-        passed += not found
-        faults += found
+        log = found.get(name)
+        fault = verdict_faults(name, is_library(root, name), log) if log else [] if name in kept else [f"{name}: no log of its check"]
+        passed += not fault
+        faults += fault
     return passed, faults

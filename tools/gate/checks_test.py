@@ -51,10 +51,6 @@ class Folders(unittest.TestCase):
         (self.root / "crates" / "maps" / "src" / "lib.rt").touch()
         (self.root / "crates.txt").write_text("# a comment\nmaps: bytes check # another\n")
 
-    def log(self, text):
-        (self.root / "target" / "log").mkdir(parents=True)
-        (self.root / "target" / "log" / "maps.out").write_text(text)
-
     def test_crates_txt_is_read(self):
         self.assertEqual(checks.listed_crates(self.root), {"maps": ["bytes", "check"]})
         self.assertEqual(checks.unlisted(self.root), [])
@@ -76,13 +72,13 @@ class Folders(unittest.TestCase):
         (self.root / "crates.txt").write_text("reader: image\nparts: image reader\nmaps: parts\n")
         file = self.root / "crates" / "maps" / "src" / "lib.rt"
         for module in ("image.specs.Schema", "image.specs.declared.Read", "reader.specs.declared.Acceptance", "parts.proofs.Promise"):
-            file.write_text(f"ghost use Rattle·{module}.{{Ty}};\n")
+            file.write_text(f"ghost use Rattle.{module}.{{Ty}};\n")
             self.assertEqual(checks.unfolded(self.root), [])
         for module in ("image.specs.Types", "reader.specs.Answer", "refusals.proofs.Refusals", "written.specs.Limits", "parts.proofs.Laws.Fields"):
-            file.write_text(f"ghost use Rattle·{module}.{{typeOf}};\n")
+            file.write_text(f"ghost use Rattle.{module}.{{typeOf}};\n")
             self.assertEqual(
                 checks.unfolded(self.root),
-                [f"crates/maps/src/lib.rt: names Rattle·{module}, which is behind the promise of parts"],
+                [f"crates/maps/src/lib.rt: names Rattle.{module}, which is behind the promise of parts"],
             )
         (self.root / "crates" / "maps").rename(self.root / "crates" / "members")
         (self.root / "crates.txt").write_text("reader: image\nparts: image reader\nmembers: parts\n")
@@ -112,17 +108,21 @@ class Folders(unittest.TestCase):
         for folder in ("src", "specs", "proofs"):
             (crate / folder).mkdir(parents=True)
         (crate / "src" / "lib.rt").write_text("")
-        (crate / "specs" / "Listing.antt").write_text("use Rattle·image.specs.Image.{readImage}\n")
+        (crate / "specs" / "Listing.antt").write_text("use Rattle.image.specs.Image.{readImage}\n")
         self.assertEqual(checks.unfolded(self.root), [])
-        (crate / "proofs" / "Laws.antt").write_text("use Rattle·image.specs.Image.{readImage}\n")
+        (crate / "proofs" / "Laws.antt").write_text("use Rattle.image.specs.Image.{readImage}\n")
         self.assertEqual(len(checks.unfolded(self.root)), 1)
 
     def test_a_crate_without_a_log_fails(self):
-        self.assertEqual(checks.verdicts(self.root), (0, ["maps: no log of its check"]))
+        self.assertEqual(checks.verdicts(self.root, []), (0, ["maps: no log of its check"]))
 
     def test_a_log_is_read(self):
-        self.log(PROVED)
-        self.assertEqual(checks.verdicts(self.root), (1, []))
+        lines = ["== image", "logic=failed", "rt: image NOT PROVED", "== maps", *PROVED.splitlines(), "rt: maps proved", "logic=failed"]
+        self.assertEqual(checks.verdicts(self.root, lines), (1, []))
+        self.assertEqual(checks.verdicts(self.root, lines[:1] + lines[3:4] + lines[1:3]), (0, ["maps: logic=failed"]))
+
+    def test_what_an_earlier_run_proved_is_kept(self):
+        self.assertEqual(checks.verdicts(self.root, ["rt: maps is kept: an earlier run on this machine proved the same files"]), (1, []))
 
 
 if __name__ == "__main__":

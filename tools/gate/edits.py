@@ -1,15 +1,22 @@
 """What the gate asks of the must-fail edits beyond `rt ci`, which refuses a file of them as a whole.
 
 Each comment line of an edit file starts one wrong answer. Those of one file stand in different functions and are tried in one check of the
-crate: the facts of a function's proof rest on the contracts of what it calls, not on their proofs, so each is refused by itself."""
+crate: the facts of a function's proof rest on the contracts of what it calls, not on their proofs, so each is refused by itself. What the
+prover says of an edit is kept by keeping/sitecustomize.py."""
 
+import os
 import re
+import sys
 from collections import Counter
 from pathlib import Path
 from typing import NamedTuple
 
+KEEPING = Path(__file__).resolve().parent / "keeping"
+sys.path.append(str(KEEPING))
+import sitecustomize as keeping  # noqa: E402
+
 # A refusal that says nothing about a fact: the proof no longer fits the code's shape, or rests on what was refused elsewhere.
-UNFIT = re.compile(r"has no `Need-|\.Lts\.[^`]*` has no field|expected type `tie\.Need-|not in scope|expected `[^`]*`, found|was not admitted|error: `Inv-")
+UNFIT = re.compile(r"has no `|has no field|not in scope|expected `[^`]*`, found|was not admitted|which was rejected|was not checked")
 FUNCTION = re.compile(r'^(\s*)(?:pub(?:\(crate\))? )?(?:extern "C" )?fn (\w+)')
 IMPL = re.compile(r"^impl (\w+)")
 CLAUSE = re.compile(r"\b(?:requires|ensures) \{")
@@ -83,12 +90,27 @@ def answers(crate: Path, edit: Path) -> list[Answer]:
     return found
 
 
+def errors_of(log: str) -> list[str]:
+    """The errors of a log, each with the lines that it goes on over."""
+    found: list[str] = []
+    for line in log.splitlines():
+        if ": error: " in line:
+            found.append(line)
+        elif found and line.startswith("  "):
+            found[-1] += line
+        else:
+            found.append("")
+    return [error for error in found if error]
+
+
 def refusals(function: Function | None, log: str) -> list[str]:
-    """What the log says against a function; against anything, for None."""
-    if function and not function.folder:
-        return [line for line in log.splitlines() if line.startswith(f"fn {function.path}: no proof") and "does not close" in line]
-    errors = [line.partition(": error: ") for line in log.splitlines()]
-    return ["".join(error) for error in errors if error[1] and (not function or f"/{function.folder}/" in error[0])]
+    """What the log says against a function; against anything, for None. Where the search finds a function's proof, that it does not."""
+    searched = [line for line in log.splitlines() if re.match(r"fn \S+: no proof: .*`search` did not prove", line)]
+    if not function:
+        return errors_of(log) + searched
+    own = f"/{function.folder}/"
+    answered = [error for error in errors_of(log) if function.folder and own in error.partition(": error: ")[0]]
+    return answered + [line for line in searched if line.startswith(f"fn {function.path}: ")]
 
 
 def faults_of(answer: Answer, alone: bool, log: str) -> list[str]:
@@ -111,23 +133,53 @@ def shared(found: list[Answer]) -> list[str]:
     return [f"{proof} has two wrong answers in one file" for proof in sorted(set(proofs)) if proofs.count(proof) > 1]
 
 
-def edit_faults(crate: Path, edit: Path, log: Path) -> tuple[int, list[str]]:
+def edited(crate: Path, edit: Path) -> dict[str, bytes]:
+    """The files of a crate with an edit."""
+    files, path, old = keeping.files_of(crate), "", b""
+    for line in edit.read_bytes().splitlines():
+        word, _, text = line.partition(b": ")
+        if word == b"file":
+            path = text.decode()
+        elif word == b"old":
+            old = text
+        elif line.startswith(b"new:"):
+            files[path] = files[path].replace(old, line.removeprefix(b"new:").removeprefix(b" "))
+    return files
+
+
+def edit_faults(crate: Path, edit: Path) -> tuple[int, list[str]]:
     """How many wrong answers of a file were refused for a fact, and the faults of the others."""
-    if not log.exists():
+    log = keeping.kept(edited(crate, edit))
+    if log is None:
         return 0, ["it was not tried"]
     found = answers(crate, edit)
     if not found or not found[0].label:
         return 0, ["it has a wrong answer without a comment line"]
-    faults = [faults_of(answer, len(found) == 1, log.read_text()) for answer in found]
+    faults = [faults_of(answer, len(found) == 1, log) for answer in found]
     return sum(not fault for fault in faults), shared(found) + [text for fault in faults for text in fault]
+
+
+def in_order(root: Path) -> list[Path]:
+    return sorted((root / "crates").glob("*/must-fail/*.edit"))
+
+
+def untried(root: Path) -> list[str]:
+    """The crates with an edit of which nothing is kept: `rt` has tried it before, elsewhere."""
+    return sorted({edit.parent.parent.name for edit in in_order(root) if keeping.kept(edited(edit.parent.parent, edit)) is None})
+
+
+def environment() -> dict[str, str]:
+    """Where what is said of edits is kept."""
+    paths = [str(KEEPING), *filter(None, [os.environ.get("PYTHONPATH")])]
+    return {**os.environ, "PYTHONPATH": os.pathsep.join(paths), "VEXIL_COMPAT_KEEP_EDITS": "1"}
 
 
 def edits(root: Path) -> tuple[int, list[str]]:
     """How many wrong answers were refused for a fact, and the faults of the others."""
     passed, faults = 0, []
-    for edit in sorted((root / "crates").glob("*/must-fail/*.edit")):
+    for edit in in_order(root):
         crate = edit.parent.parent
-        refused, found = edit_faults(crate, edit, root / "target" / "must-fail" / crate.name / edit.stem / ".log")
+        refused, found = edit_faults(crate, edit)
         passed += refused
         faults += [f"must-fail {crate.name}/{edit.stem}: {text}" for text in found]
     return passed, faults

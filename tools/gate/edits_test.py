@@ -1,10 +1,15 @@
 """What the gate asks of must-fail edits is tried on files and logs that it must refuse."""
 
+import os
+import subprocess
+import sys
 import tempfile
 import unittest
 from pathlib import Path
+from unittest import mock
 
 import edits
+from edits import keeping
 
 SOURCE = """// Two functions, a method and a constant.
 const SIDE: u8 = 1;
@@ -45,13 +50,21 @@ class Edits(unittest.TestCase):
             (self.crate / path).mkdir(parents=True)
         self.source.write_text(SOURCE)
 
+        cache = mock.patch.dict(os.environ, {"XDG_CACHE_HOME": str(self.root / "cache")})
+        cache.start()
+        self.addCleanup(cache.stop)
+
+    def said(self, edit: str, log: str) -> tuple[int, list[str]]:
+        """What is found of the edit, of which this is said."""
+        file = self.crate / "must-fail" / "1.edit"
+        file.write_text(edit)
+        keeping.folder().mkdir(parents=True, exist_ok=True)
+        (keeping.folder() / keeping.sum_of(edits.edited(self.crate, file))).write_text(log)
+        return edits.edits(self.root)
+
     def found(self, edit: str, *errors: tuple[str, str]) -> tuple[int, list[str]]:
         """What is found of the edit, with errors at files of the crate."""
-        (self.crate / "must-fail" / "1.edit").write_text(edit)
-        where = self.root / "target" / "must-fail" / "maps" / "1"
-        where.mkdir(parents=True, exist_ok=True)
-        (where / ".log").write_text("".join(f"{where}/{file}:1:2: error: {text}\n" for file, text in errors) + "logic=not-proved\n")
-        return edits.edits(self.root)
+        return self.said(edit, "".join(f"./{file}:1:2: error: {text}\n" for file, text in errors) + "logic=not-proved\n")
 
     def test_the_function_of_a_text_is_found(self):
         for text, path, folder in (
@@ -70,40 +83,40 @@ class Edits(unittest.TestCase):
         self.assertEqual(edits.function_at(self.crate, "src/lib.rt", "self.b"), ("maps::Pair::second", None))
 
     def test_wrong_answers_that_each_break_a_fact_pass(self):
-        errors = [("proofs/pairs/first/Proof.antt", FACT), ("proofs/pairs/Pair/second/Proof.antt", FACT)]
+        errors = [("proofs/pairs/first/Answers.antt", FACT), ("proofs/pairs/Pair/second/Answers.antt", FACT)]
         self.assertEqual(self.found(FIRST + SECOND, *errors), (2, []))
 
     def test_a_wrong_answer_that_only_another_refuses_fails(self):
-        self.assertEqual(self.found(FIRST + SECOND, ("proofs/pairs/first/Proof.antt", FACT)), (1, ["must-fail maps/1: two: no error in its log"]))
+        self.assertEqual(self.found(FIRST + SECOND, ("proofs/pairs/first/Answers.antt", FACT)), (1, ["must-fail maps/1: two: no error in its log"]))
 
     def test_a_wrong_answer_refused_for_a_callee_fails(self):
-        errors = [("proofs/pairs/first/Proof.antt", FACT), ("proofs/pairs/Pair/second/Proof.antt", "`second-spec`: `close` was not admitted")]
+        errors = [("proofs/pairs/first/Answers.antt", FACT), ("proofs/pairs/Pair/second/Answers.antt", "`second-spec`: `close` was not admitted")]
         passed, faults = self.found(FIRST + SECOND, *errors)
         self.assertEqual((passed, len(faults)), (1, 1))
 
     def test_a_wrong_answer_that_breaks_the_shape_fails(self):
         for text in (
-            "`lts` has no `Need-returns-2` that can be named from here",
-            "`loop-again`: record `Rattle·maps·proofs.proofs.compared.Lts.Else1` has no field `loop`",
-            "`main-spec`: expected type `tie.Need-bump-requires`, but this has type `tie.Need-returns`",
+            "`returns-2`: `goal.returns-2`: module `Rattle.maps.proofs.compared.Goals` has no `returns-2` that can be named from here",
+            "`loop-i-preserved`: record `Rattle.maps.proofs.compared.Lts.Else-a` has no field `loop-i`",
+            "`loop-i-preserved`: record `Rattle.maps.proofs.compared.Lts.Else-a`\n  has no field `loop-i`",
         ):
-            passed, faults = self.found(FIRST, ("proofs/pairs/first/Proof.antt", text))
+            passed, faults = self.found(FIRST, ("proofs/pairs/first/Answers.antt", text))
             self.assertEqual((passed, len(faults)), (0, 1))
         self.assertEqual(self.found(FIRST), (0, ["must-fail maps/1: one: no error in its log"]))
 
-    def test_a_function_without_a_proof_of_its_own_is_refused_by_the_search(self):
+    def test_a_fact_that_the_search_does_not_prove_is_refused(self):
         edit = "# found\nfile: src/pairs.rt\nold:     d\nnew:     0\n"
-        self.assertEqual(self.found(edit, ("proofs/pairs/first/Proof.antt", FACT))[0], 0)
-        log = self.root / "target" / "must-fail" / "maps" / "1" / ".log"
-        log.write_text("fn maps::pairs::searched: no proof: expected `searched-spec`; `search` does not close `returns`\n")
-        self.assertEqual(edits.edits(self.root), (1, []))
+        self.assertEqual(self.found(edit, ("proofs/pairs/first/Answers.antt", FACT))[0], 0)
+        for name, wrong in (("searched", edit), ("first", FIRST)):
+            log = f"fn maps::pairs::{name}: no proof: expected answers in ./proofs/pairs/{name}/Answers.antt; `search` did not prove `returns`\n"
+            self.assertEqual(self.said(wrong, log), (1, []))
 
     def test_a_wrong_answer_with_one_operation_more_fails(self):
         for text in ("a + 0", "a % 2", "a == a", "a < 1"):
-            passed, faults = self.found(FIRST.replace("new:     0", f"new:     {text}"), ("proofs/pairs/first/Proof.antt", FACT))
+            passed, faults = self.found(FIRST.replace("new:     0", f"new:     {text}"), ("proofs/pairs/first/Answers.antt", FACT))
             self.assertEqual((passed, len(faults)), (0, 1))
         third = "# three\nfile: src/pairs.rt\nold: c + SIDE\nnew: c - SIDE\n"
-        self.assertEqual(self.found(third, ("proofs/pairs/+third/Proof.antt", FACT)), (1, []))
+        self.assertEqual(self.found(third, ("proofs/pairs/+third/Answers.antt", FACT)), (1, []))
 
     def test_operations_are_counted_outside_of_texts(self):
         for text, found in (
@@ -115,22 +128,37 @@ class Edits(unittest.TestCase):
         self.assertNotEqual(edits.operations("a != b"), edits.operations("a < b"))
 
     def test_two_wrong_answers_in_one_function_fail(self):
-        passed, faults = self.found(FIRST + FIRST.replace("one", "same"), ("proofs/pairs/first/Proof.antt", FACT))
+        passed, faults = self.found(FIRST + FIRST.replace("one", "same"), ("proofs/pairs/first/Answers.antt", FACT))
         self.assertEqual(faults, ["must-fail maps/1: proofs/pairs/first has two wrong answers in one file"])
 
     def test_a_change_outside_of_functions_is_tried_alone(self):
         constant = "# side\nfile: src/pairs.rt\nold: const SIDE: u8 = 1;\nnew: const SIDE: u8 = 2;\n"
         self.assertEqual(self.found(constant, ("proofs/Laws.antt", FACT)), (1, []))
-        passed, faults = self.found(FIRST + constant, ("proofs/pairs/first/Proof.antt", FACT))
+        passed, faults = self.found(FIRST + constant, ("proofs/pairs/first/Answers.antt", FACT))
         self.assertEqual((passed, len(faults)), (1, 1))
 
     def test_an_edit_that_names_no_wrong_answer_fails(self):
         for text in ("", FIRST.partition("\n")[2], FIRST.partition("\n")[2] + SECOND):
-            self.assertEqual(self.found(text, ("proofs/pairs/first/Proof.antt", FACT)), (0, ["must-fail maps/1: it has a wrong answer without a comment line"]))
+            self.assertEqual(self.found(text, ("proofs/pairs/first/Answers.antt", FACT)), (0, ["must-fail maps/1: it has a wrong answer without a comment line"]))
 
     def test_an_edit_that_was_not_tried_fails(self):
         (self.crate / "must-fail" / "x.edit").write_text(FIRST)
         self.assertEqual(edits.edits(self.root), (0, ["must-fail maps/x: it was not tried"]))
+        self.assertEqual(edits.untried(self.root), ["maps"])
+        self.found(FIRST)
+        self.assertEqual(edits.untried(self.root), [])
+
+    def test_what_is_said_in_a_folder_of_rt_is_kept(self):
+        (self.crate / "must-fail" / "1.edit").write_text(FIRST)
+        room = self.root / "rt-edit-1-x"
+        for path, text in edits.edited(self.crate, self.crate / "must-fail" / "1.edit").items():
+            (room / path).parent.mkdir(parents=True, exist_ok=True)
+            (room / path).write_bytes(text)
+        call = "import subprocess, sys; subprocess.run(['echo', 'said'], cwd=sys.argv[1], stdout=subprocess.PIPE, text=True)"
+        for where in (self.root, room):
+            self.assertEqual(edits.untried(self.root), ["maps"])
+            subprocess.run([sys.executable, "-c", call, where], check=True, env=edits.environment())
+        self.assertEqual(keeping.kept(edits.edited(self.crate, self.crate / "must-fail" / "1.edit")), "said\n")
 
 
 if __name__ == "__main__":

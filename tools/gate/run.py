@@ -2,7 +2,6 @@
 """All tests of the repository: proofs, must-fail edits, programs and tools. They take about 25 minutes on two cores, on a slow machine
 40. The last line is `N passed, M failed`, the sum of what ran; what could not run is named and not counted."""
 
-import fcntl
 import os
 import re
 import shutil
@@ -49,18 +48,19 @@ class Gate:
         self.count(status == 0, [] if status == 0 else [f"{name}: exit status {status}"])
         return lines
 
-    def suite(self, name: str, *words):
+    def suite(self, name: str, *words, environment: dict[str, str] | None = None) -> list[str]:
         """Counts a command by its last line, `N passed, M failed`."""
-        status, lines = run(*words)
+        status, lines = run(*words, environment=environment)
         summary = SUMMARY.match(lines[-1]) if lines else None
         if not summary:
             self.faults.append(f"{name}: its last line is no summary")
-            return
+            return lines
         passed, failed = int(summary[1]), int(summary[2])
         self.count(passed, [f"{name}: failed"] * failed)
         if (status != 0) != (failed > 0) or passed == 0:
             self.faults.append(f"{name}: exit status {status} with '{lines[-1]}'")
         self.left_out += [f"{name}: {line.removeprefix('left out: ')}" for line in lines if line.startswith(("left out: ", "the time is over"))]
+        return lines
 
     def finish(self) -> int:
         for reason in self.left_out:
@@ -73,9 +73,11 @@ class Gate:
         return 1 if self.faults or self.passed == 0 else 0
 
 
-def run(*words) -> tuple[int, list[str]]:
+def run(*words, environment: dict[str, str] | None = None) -> tuple[int, list[str]]:
     """The exit status and the lines of a command, which are printed too."""
-    process = subprocess.Popen([str(word) for word in words], cwd=ROOT, stdout=subprocess.PIPE, stderr=subprocess.STDOUT, text=True)
+    process = subprocess.Popen(
+        [str(word) for word in words], cwd=ROOT, env=environment, stdout=subprocess.PIPE, stderr=subprocess.STDOUT, text=True
+    )
     lines = []
     for line in process.stdout:
         print(line, end="", flush=True)
@@ -96,21 +98,15 @@ def toolchain(gate: Gate) -> bool:
 
 
 def crates(gate: Gate):
-    """`rt ci` removes target/, so that no library may be built meanwhile: tools/loader/library.sh takes the same lock."""
-    folder = os.open(ROOT, os.O_RDONLY)
-    fcntl.flock(folder, fcntl.LOCK_EX)
-    try:
-        prove(gate)
-    finally:
-        os.close(folder)
-
-
-def prove(gate: Gate):
     for faults in (checks.unlisted(ROOT), checks.assumptions(ROOT), checks.unfolded(ROOT)):
         gate.count(not faults, faults)
     gate.command("rt fmt --check", "rt", "fmt", "--check")
-    gate.suite("rt ci", "rt", "ci")
-    gate.count(*checks.verdicts(ROOT))
+    proved = gate.suite("rt ci", "rt", "ci", environment=edits.environment())
+    gate.count(*checks.verdicts(ROOT, proved))
+    # What `rt ci` takes from an earlier run it does not try again.
+    untried = edits.untried(ROOT)
+    if untried:
+        gate.command("rt must-fail", "rt", "must-fail", "--anew", *untried, environment=edits.environment())
     gate.count(*edits.edits(ROOT))
 
 
