@@ -1,6 +1,4 @@
-// A reader over the body of an entry. The borrow checker covers no function over a struct that holds a reference, so each is proved by
-// hand, and is thin: it leaves the work to a covered function on the slice and the position. Whoever calls `put_entry`, whose parameters
-// are plain, is covered.
+// A reader over the body of an entry: a struct that holds the lent slice, and the position of the declaration in it.
 ghost use Rattle.std.specs.Prelude.{◌≡◌, length};
 ghost use Rattle.parts.specs.Promise.{DeclHere, declIn};
 ghost use Rattle.text.specs.Text.{Space, Puts};
