@@ -16,7 +16,7 @@ BEHIND = re.compile(
 )
 INSIDE = {"members", "claims"}
 # What their code may not call: what `image` and `reader` read by, but for reading an image; how many inner types a tag has asks for no image.
-CALLED = re.compile(r"\b(?:image::(?!types::inner_types\b)|reader::(?!(?:Acceptance|read_image)\b)|use (?:image|reader)\b(?!::))[\w:]*")
+CALLED = re.compile(r"\b(?:image::(?!types::inner_types\b)|reader::(?!(?:Acceptance|read_image)\b|\{(?:(?:Acceptance|read_image)(?:, )?)+\})|use (?:image|reader)\b(?!::))[\w:]*")
 # Crates above `parts` whose definitions start from what reading an image gives; their proofs rest on the promise.
 DEFINE = {"listing"}
 

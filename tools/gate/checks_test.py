@@ -87,7 +87,7 @@ class Folders(unittest.TestCase):
     def test_code_that_calls_the_reader_fails(self):
         (self.root / "crates.txt").write_text("reader: image\nparts: image reader\nmaps: parts\n")
         file = self.root / "crates" / "maps" / "src" / "lib.rt"
-        for path in ("reader::read_image", "reader::Acceptance", "image::types::inner_types", "parts::entries::body"):
+        for path in ("reader::read_image", "reader::Acceptance", "reader::{Acceptance, read_image}", "image::types::inner_types", "parts::entries::body"):
             file.write_text(f"use {path};\n")
             self.assertEqual(checks.unfolded(self.root), [])
         for path in ("reader::contents::entry_length", "reader::bodies::read_body", "image::numbers::number", "image::types::read_type_at"):
@@ -97,8 +97,9 @@ class Folders(unittest.TestCase):
                     checks.unfolded(self.root),
                     [f"crates/maps/src/lib.rt: names {path}, which is behind the promise of parts"],
                 )
-        file.write_text("use reader as r;\n")
-        self.assertEqual(len(checks.unfolded(self.root)), 1)
+        for line in ("use reader as r;\n", "use reader::{Acceptance, contents};\n"):
+            file.write_text(line)
+            self.assertEqual(len(checks.unfolded(self.root)), 1)
         (self.root / "crates.txt").write_text("maps: image reader\n")
         self.assertEqual(checks.unfolded(self.root), [])
 

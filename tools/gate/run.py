@@ -100,7 +100,6 @@ def toolchain(gate: Gate) -> bool:
 def crates(gate: Gate):
     for faults in (checks.unlisted(ROOT), checks.assumptions(ROOT), checks.unfolded(ROOT)):
         gate.count(not faults, faults)
-    gate.command("rt fmt --check", "rt", "fmt", "--check")
     proved = gate.suite("rt ci", "rt", "ci", environment=edits.environment())
     gate.count(*checks.verdicts(ROOT, proved))
     # What `rt ci` takes from an earlier run it does not try again.
