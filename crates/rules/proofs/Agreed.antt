@@ -10,7 +10,7 @@ use Rattle.maps.specs.Compare.{Rules, compare}
 use Rattle.maps.specs.Orders.{before}
 use Rattle.maps.proofs.Alike.{compare_alike}
 use Rattle.maps.proofs.Reorderings.{In, all_listed}
-use Rattle.image.specs.Schema.{Name, Ty, Field, Variant, Decl}
+use Rattle.image.specs.Schema.{Name, Ty, Field, Decl}
 use Rattle.image.specs.Kinds.{Kind, kindOf, message, enum, flags, union, newtype, config, alias, trait, impl, other}
 use Rattle.rules.specs.Survivors.{Registry, nameOf, ordinalOf, fieldMap, variantOrdinal, variantMap, View}
 use Rattle.rules.specs.Types.{resolve}

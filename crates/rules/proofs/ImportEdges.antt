@@ -14,7 +14,7 @@ use Rattle.image.specs.Schema.{Schema}
 use Rattle.image.specs.Kinds.{kindOf}
 use Rattle.rules.specs.Survivors.{standsFor, resolved, listed, declarations, viewOf}
 use Rattle.rules.specs.Clauses.{typesOf, comparedTypes}
-use Rattle.rules.specs.Reached.{namedLabel, namedIn, namedOf, namedFrom, member, resolvable, Reached, by-survivor, by-reached, has, reachedSet, ReachedIs}
+use Rattle.rules.specs.Reached.{namedLabel, namedIn, namedOf, namedFrom, member, resolvable, Reached, by-survivor, by-reached, has, reachedSet}
 use Rattle.rules.specs.Imports.{OnlyListed}
 use Rattle.rules.specs.Edges.{u8}
 use Rattle.rules.specs.ImportEdges.{told, entry, naming, listing, under, link, links, chain, ImportEdges}
