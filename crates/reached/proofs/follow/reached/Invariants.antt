@@ -1,0 +1,10 @@
+-- All marks are of reached ids, what the survivors name is marked, and what is named by a followed entry. The measure is how many ids are not
+-- yet followed.
+use Rattle.reached.proofs.Followed.{unfollowed, Following}
+use Rattle.reached.proofs.follow.reached.Given as goal
+
+abbrev pub invariant-loop-followed : goal.invariant-loop-followed
+invariant-loop-followed l = Following l.image l.marks l.followed
+
+abbrev pub decreases-loop-followed : goal.decreases-loop-followed
+decreases-loop-followed l = unfollowed l.followed
