@@ -63,9 +63,3 @@ unmatched-reports reading {s = s} {at = at} p k a e = rw (unmatched-alone p.item
 pub enum-new-here : (old new : List ℕ) {o : Owner} {i j : ℕ} → o ≡ owner.Enum i j → OwnerHere old new o → DeclHere new j
 unfolding OwnerHere
 enum-new-here old new e h = (rw e at h).1
-
-pub gone-as : (at : ℕ) {o : Owner} (u : Owner) → o ≡ u → {r : Site} → r ≡ goneSite u at → r ≡ goneSite o at
-gone-as at u e q = rw e q
-
-pub came-as : (new : List ℕ) (at : ℕ) {o : Owner} (u : Owner) → o ≡ u → {r : Site} → r ≡ cameSite new u at → r ≡ cameSite new o at
-came-as new at u e q = rw e q
