@@ -45,7 +45,7 @@ extern "C" {
 #define VEXIL_COMPAT_VERSION "1.1"
 
 /* The toolchain that the library is proved with, as `rt version` names it. */
-#define VEXIL_COMPAT_KIT "rattle-kit-5b-plain logic 097e4c862dff5811"
+#define VEXIL_COMPAT_KIT "rattle-kit-13f logic dac8208d650f15bf"
 
 /* The longest image that is not refused by VEXIL_COMPAT_REFUSAL_LONG. */
 #define VEXIL_COMPAT_IMAGE_BYTES 32768
