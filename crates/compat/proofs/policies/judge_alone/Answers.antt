@@ -1,0 +1,24 @@
+-- `compat::policies::judge_alone` meets its contract, policy by policy. Assumes nothing.
+use Rattle.std.proofs.Common.{◌≡◌, refl, ℕ}
+use Rattle.image.specs.Schema.{Schema}
+use Rattle.rules.specs.Answer.{onSide}
+use Rattle.compat.specs.Policies.{policyOf, faultOf}
+use Rattle.compat.specs.declared.policies.Policy.{Policy}
+use Rattle.compat.specs.declared.policies.Policy.TheVariants as policy
+use Rattle.compat.specs.declared.policies.Judged.TheVariants as judging
+use Rattle.compat.proofs.policies.judge_alone.Goals as goal
+
+plainly : (p : Policy) (side : ℕ) (x : Schema) → faultOf judging.Passes ≡ onSide side ((policyOf p).alone x)
+unfolding faultOf policyOf onSide
+plainly policy.Plain side x = refl
+plainly policy.Imports side x = refl
+plainly policy.Mended side x = refl
+
+pub returns-in-Plain : goal.returns-in-Plain
+returns-in-Plain c = plainly c.args.policy c.args.side _
+
+pub returns-in-Imports : goal.returns-in-Imports
+returns-in-Imports c = plainly c.args.policy c.args.side _
+
+pub returns-in-Mended : goal.returns-in-Mended
+returns-in-Mended c = plainly c.args.policy c.args.side _
