@@ -21,16 +21,15 @@ CRATES = ("maps", "image", "refusals", "text", "rules")
 IMAGES, REPORT = 1200, 4000  # the most bytes of both images, and of a report
 PER_FILE = 20
 # `reports` unfolds all that a report is computed by.
-USES = """use mathlib.Core.Path.{_≡_, refl}
-use mathlib.Core.List.{[], _∷_}
-use Rattle·rules.specs.Outcome.{selected}
-use Rattle·rules.specs.Answer.{outcome, checked}
-use Rattle·rules.specs.Imports.{imports}
-use Rattle·rules.specs.Mended.{mended}
-use Rattle·rules.specs.Pinned.{hex, told}
-use Rattle·rules.specs.PinnedImports.{importsTold}
-use Rattle·rules.specs.PinnedMended.{mendedTold}
-use Rattle·rules.proofs.Computed.{reports}
+USES = """use Rattle.std.proofs.Common.{◌≡◌, refl, [], ◌∷◌}
+use Rattle.rules.specs.Outcome.{selected}
+use Rattle.rules.specs.Answer.{outcome, checked}
+use Rattle.rules.specs.Imports.{imports}
+use Rattle.rules.specs.Mended.{mended}
+use Rattle.rules.specs.Pinned.{hex, told}
+use Rattle.rules.specs.PinnedImports.{importsTold}
+use Rattle.rules.specs.PinnedMended.{mendedTold}
+use Rattle.rules.proofs.Computed.{reports}
 """
 # Of each verdict the outcome and the report in the definitions, and what is unfolded for them besides.
 NAMES = {PLAIN: ("checked", "told", ""), IMPORTS: ("outcome imports", "importsTold", " importsTold"), MENDED: ("outcome mended", "mendedTold", " mendedTold")}
@@ -51,11 +50,11 @@ def theorem(place, pair, verdict):
 def write(folder, pairs, verdict):
     """A repository with the definitions and a crate of theorems."""
     for crate in CRATES:
-        shutil.copytree(ROOT / "crates" / crate, folder / "crates" / crate)
+        shutil.copytree(ROOT / "crates" / crate, folder / "crates" / crate, ignore=shutil.ignore_patterns("out"))
     proofs = folder / "crates" / "evaluated" / "proofs"
     proofs.mkdir(parents=True)
     (folder / "crates" / "evaluated" / "src").mkdir()
-    (folder / "crates" / "evaluated" / "src" / "lib.rt").write_text("// Theorems only: see proofs/.\n")
+    (folder / "crates" / "evaluated" / "src" / "lib.rt").write_text("// Theorems only: see proofs/.\n#![tactic(auto)]\n")
     listed = [line for line in (ROOT / "crates.txt").read_text().splitlines() if line.partition(":")[0] in CRATES]
     (folder / "crates.txt").write_text("\n".join(listed) + f"\nevaluated: {' '.join(CRATES)}\n")
     files = range(0, len(pairs), PER_FILE)
@@ -76,7 +75,7 @@ def main():
     pairs = small[first : first + count]
     with tempfile.TemporaryDirectory() as folder:
         write(Path(folder), pairs, verdict)
-        run = subprocess.run(["rt", "check", "evaluated"], cwd=folder, stdout=subprocess.PIPE, stderr=subprocess.STDOUT, text=True)
+        run = subprocess.run(["rt", "check"], cwd=Path(folder) / "crates" / "evaluated", stdout=subprocess.PIPE, stderr=subprocess.STDOUT, text=True)
     errors = [line for line in run.stdout.splitlines() if ": error:" in line]
     print("\n".join(errors))
     print(f"{len(pairs)} of {len(small)} pairs, from {first} on: {'all as recorded' if run.returncode == 0 else 'NOT all as recorded'}")

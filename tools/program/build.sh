@@ -5,7 +5,8 @@ repo=$(cd "$(dirname "${BASH_SOURCE[0]}")/../.." && pwd)
 bin=$repo/target/bin
 
 # A build that fails leaves no older program behind.
-rm -f "$bin/vexil_compat"
-(cd "$repo" && rt check program)
-cp "$bin/program" "$bin/vexil_compat"
+rm -f "$bin/vexil_compat" "$repo/crates/program/out/program"
+(cd "$repo/crates/program" && rt run -- --version)
+mkdir -p "$bin"
+cp "$repo/crates/program/out/program" "$bin/vexil_compat"
 echo "built $bin/vexil_compat"
