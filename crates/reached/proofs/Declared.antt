@@ -1,13 +1,12 @@
 -- Declarations marked: one by its kind, the entry of an id, the survivors by rising name. Assumes nothing.
 use mathlib.Core.Path.{◌≡◌, refl, sym, ap, ◌∙◌}
-use mathlib.Core.Bool.{Bool, true, false}
+use mathlib.Core.Bool.{Bool, true}
 use mathlib.Core.List.{List, [], flat_map, append-nil}
 use mathlib.Core.Option.{some}
 use Prim.Native.Nat.{ℕ, zero, suc, ◌<◌}
 use borrow.Author.Tests.{eqb-true}
 use lib.Dec.{eqb}
 use Rattle.maps.specs.Compare.{between}
-use Rattle.maps.proofs.Tests.{no_both}
 use Rattle.image.specs.Schema.{Name, Decl}
 use Rattle.parts.specs.Codes.{number, messageKind, unionKind, newtypeKind}
 use Rattle.parts.specs.Kinds.{kindOf}
@@ -118,9 +117,6 @@ next-listed s h = rw (← standing-none (schemaOf s)) h
 
 -- found over them under the name of the declaration at a place
 module _ (s : List ℕ) (at : ℕ) {x : Name} (q : x ≡ (declIn s at).name) {r : Entry} (h : Survives (standingWith [] (schemaOf s)) s x r) where
-  pub not_there : StandsAt s at false
-  not_there = record { stands = λ t. no_both t refl }
-
   pub stands-there : {p : ℕ} → r ≡ Entry.Body p → StandsAt s at (eqb p at)
   stands-there {p} e = record {
     stands = λ t.
