@@ -11,7 +11,7 @@ use lib.ListN.{length, get_or, set, replicate, length-append, length-set, get_or
 use lib.Seq.{get_or-set_same, get_or-set_other, ext_get_or}
 use Rattle.maps.specs.Lists.{pass, largest, total, count}
 use Rattle.maps.proofs.Lists.{pass-append, flatMap-append}
-use Rattle.rules.specs.Changes.{level, kindCount, Change}
+use Rattle.rules.specs.Changes.{kindCount, Change}
 use Rattle.rules.specs.Report.{changeLine}
 use Rattle.rules.specs.Verdict.{bumpOf, countOf}
 use Rattle.rules.specs.Answer.{counts}
