@@ -42,7 +42,12 @@ fn replay_image(file: &mut impl Read, bytes: &[u8], t: Tally) -> Step {
 }
 
 // A recorded answer: number, side, bump, result, length, counts and report; false where the file ends before.
-fn read_answer(file: &mut impl Read, counts: usize, recorded: &mut [u64], bytes: &mut [u8]) -> bool {
+fn read_answer(
+    file: &mut impl Read,
+    counts: usize,
+    recorded: &mut [u64],
+    bytes: &mut [u8],
+) -> bool {
     if !selectors::read_bytes(file, recorded) {
         return false;
     }
@@ -76,7 +81,14 @@ fn replay_answer(
 }
 
 // The answer of a further verdict, where it follows that of 01.
-fn replay_other(of: Verdict, file: &mut impl Read, counts: usize, old: &[u8], new: &[u8], t: Tally) -> Step {
+fn replay_other(
+    of: Verdict,
+    file: &mut impl Read,
+    counts: usize,
+    old: &[u8],
+    new: &[u8],
+    t: Tally,
+) -> Step {
     let mut recorded = values::none();
     let mut bytes = texts::blank();
     if !read_answer(file, counts, &mut recorded, &mut bytes) {
