@@ -1,7 +1,7 @@
 -- `items::unmatched::unmatched_item` meets its contract: where the other side has none, the change of a site is reported. Assumes nothing.
 use Rattle.std.proofs.Common.{refl}
 use Rattle.tally.proofs.Running.{ran-none}
-use Rattle.lines.proofs.Clauses.{Reports, emit-asks, emit-ran}
+use Rattle.lines.proofs.Clauses.{emit-asks, emit-ran}
 use Rattle.items.specs.declared.Side.TheVariants as side
 use Rattle.items.proofs.Standing.{unmatched-other}
 use Rattle.items.proofs.Reported.{site-as, unmatched-reports}

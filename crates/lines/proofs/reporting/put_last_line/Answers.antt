@@ -1,6 +1,6 @@
 -- `lines::reporting::put_last_line` meets its contract: the line is written into the part of the buffer after the lines before it.
 -- Assumes nothing.
-use Rattle.text.proofs.Lending.{Lent, lent}
+use Rattle.text.proofs.Lending.{lent}
 use Rattle.lines.specs.Last.{lastLineOf}
 use Rattle.lines.proofs.reporting.put_last_line.Goals as goal
 
