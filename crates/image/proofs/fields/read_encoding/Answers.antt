@@ -1,4 +1,4 @@
-use Rattle.std.proofs.Common.{refl, ◌∙◌}
+use Rattle.std.proofs.Common.{arith, refl, ◌∙◌}
 use Rattle.image.specs.Fields.{encodingAt}
 use Rattle.image.proofs.Laws.Numbers.{there-got, code-there}
 use Rattle.image.proofs.Laws.Sure.{code_in}
@@ -22,19 +22,19 @@ overflow_cast-inner_at c =
 pub bounds-s-next : goal.bounds-s-next
 bounds-s-next c = (code-there 0 3 _ _ c.in-At.is c.read_code-step.ensures).inside
 
-pub returns-then-s-next-ne3 : goal.returns-then-s-next-ne3
-returns-then-s-next-ne3 c =
-    encoding-plain _ _ _ (code-there 0 3 _ _ c.in-At.is c.read_code-step.ensures) c.if-s-next-ne3.true ∙ c.loop-after.invariant
-
 pub returns-then-deltas-eq0 : goal.returns-then-deltas-eq0
 returns-then-deltas-eq0 c =
-    encoding-ninth _ _ _ (code-there 0 3 _ _ c.in-At.is c.read_code-step.ensures) c.if-deltas-eq0.true c.if-s-next-ne3.false
+    encoding-ninth _ _ _ (code-there 0 3 _ _ c.in-At.is c.read_code-step.ensures) c.if-deltas-eq0.true (omega arith)
     ∙ c.loop-after.invariant
 
 pub loop-after-preserved : goal.loop-after-preserved
 loop-after-preserved c =
-    encoding-more _ _ _ (code-there 0 3 _ _ c.in-At.is c.read_code-step.ensures) c.if-deltas-eq0.false c.if-s-next-ne3.false
+    encoding-more _ _ _ (code-there 0 3 _ _ c.in-At.is c.read_code-step.ensures) c.if-deltas-eq0.false (omega arith)
     ∙ c.loop-after.invariant
+
+pub returns-then-s-next-ne3 : goal.returns-then-s-next-ne3
+returns-then-s-next-ne3 c =
+    encoding-plain _ _ _ (code-there 0 3 _ _ c.in-At.is c.read_code-step.ensures) c.if-s-next-ne3.true ∙ c.loop-after.invariant
 
 -- wide
 pub loop-after-2-init : goal.loop-after-2-init
@@ -48,17 +48,17 @@ returns-in_default-step c =
 pub bounds-s-next-in-loop-after-2 : goal.bounds-s-next-in-loop-after-2
 bounds-s-next-in-loop-after-2 c = (code-there 0 3 _ _ c.in-At-step.is c.read_code-step-in-loop-after-2.ensures).inside
 
-pub returns-then-s-next-ne3-2 : goal.returns-then-s-next-ne3-2
-returns-then-s-next-ne3-2 c =
-    encoding-plain _ _ _ (code-there 0 3 _ _ c.in-At-step.is c.read_code-step-in-loop-after-2.ensures) c.if-s-next-ne3-2.true
-    ∙ c.loop-after-2.invariant
-
 pub returns-then-left-eq0 : goal.returns-then-left-eq0
 returns-then-left-eq0 c =
     encoding-ninth _ _ _ (code-there 0 3 _ _ c.in-At-step.is c.read_code-step-in-loop-after-2.ensures) c.if-left-eq0.true
-    c.if-s-next-ne3-2.false ∙ c.loop-after-2.invariant
+    (omega arith) ∙ c.loop-after-2.invariant
 
 pub loop-after-2-preserved : goal.loop-after-2-preserved
 loop-after-2-preserved c =
     encoding-more _ _ _ (code-there 0 3 _ _ c.in-At-step.is c.read_code-step-in-loop-after-2.ensures) c.if-left-eq0.false
-    c.if-s-next-ne3-2.false ∙ c.loop-after-2.invariant
+    (omega arith) ∙ c.loop-after-2.invariant
+
+pub returns-then-s-next-ne3-2 : goal.returns-then-s-next-ne3-2
+returns-then-s-next-ne3-2 c =
+    encoding-plain _ _ _ (code-there 0 3 _ _ c.in-At-step.is c.read_code-step-in-loop-after-2.ensures) c.if-s-next-ne3-2.true
+    ∙ c.loop-after-2.invariant

@@ -5,9 +5,6 @@ use Rattle.image.proofs.names.read_name.Goals as goal
 pub returns-then-s-at : goal.returns-then-s-at
 returns-then-s-at c = name-past _ _ _ c.if-s-at.true
 
-pub returns-then-s-from : goal.returns-then-s-from
-returns-then-s-from c = name-long _ _ _ (omega arith) (omega arith)
-
 pub loop-i-init : goal.loop-i-init
 loop-i-init c = (omega arith, bytes-first _ _ _)
 
@@ -22,3 +19,6 @@ loop-i-preserved c =
 
 pub returns : goal.returns
 returns c = name-good _ _ _ (omega arith) (omega arith) (c.loop-i.invariant.1 ∙ bytes-done _ _ _ (omega arith))
+
+pub returns-then-s-from : goal.returns-then-s-from
+returns-then-s-from c = name-long _ _ _ (omega arith) (omega arith)

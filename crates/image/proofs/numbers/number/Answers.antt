@@ -1,4 +1,4 @@
-use Rattle.std.proofs.Common.{arith, ◌+◌, ◌-◌, ◌<◌, ◌∙◌}
+use Rattle.std.proofs.Common.{arith, ◌+◌, ◌-◌, ◌∙◌}
 use Rattle.image.proofs.Laws.Numbers.{number-none, number_more, number-all, below_none, below_more, below_all, below-seven}
 use Rattle.image.proofs.numbers.number.Goals as goal
 
@@ -9,9 +9,6 @@ pub overflow_mul-value : goal.overflow_mul-value
 overflow_mul-value c =
     let h = below-seven (c.args.at + c.args.w - c.loop-i.i) c.loop-i.value (omega arith) c.loop-i.invariant.3 in
     omega arith
-
-pub bounds-s-i : goal.bounds-s-i
-bounds-s-i c = omega arith
 
 pub overflow_add-value : goal.overflow_add-value
 overflow_add-value c =
@@ -31,3 +28,6 @@ pub returns : goal.returns
 returns c =
     let v = c.loop-i.invariant in
     (v.2 ∙ number-all _ c.args.at c.args.w c.loop-i.i (omega arith), below_all c.args.at c.args.w c.loop-i.i _ (omega arith) v.3)
+
+pub bounds-s-i : goal.bounds-s-i
+bounds-s-i c = omega arith

@@ -3,6 +3,9 @@ use Rattle.image.specs.Types.{innerTypes}
 use Rattle.image.proofs.Laws.Types.{inner_below, inner-above, inner-single}
 use Rattle.image.proofs.types.inner_types.Goals as goal
 
+pub returns : goal.returns
+returns c = inner-single _ (omega arith) (omega arith) (omega arith) (omega arith)
+
 pub returns-then-tag-lt-OPTIONAL : goal.returns-then-tag-lt-OPTIONAL
 returns-then-tag-lt-OPTIONAL c = inner_below _ (omega arith)
 
@@ -16,6 +19,3 @@ returns-then-tag-eq-MAP c = simp c.if-tag-eq-MAP.true
 pub returns-then-tag-eq-RESULT : goal.returns-then-tag-eq-RESULT
 unfolding innerTypes
 returns-then-tag-eq-RESULT c = simp c.if-tag-eq-RESULT.true
-
-pub returns : goal.returns
-returns c = inner-single _ (omega arith) (omega arith) c.if-tag-eq-MAP.false c.if-tag-eq-RESULT.false
