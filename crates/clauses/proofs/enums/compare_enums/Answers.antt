@@ -4,7 +4,7 @@ use mathlib.Core.Bool.{beq}
 use Rattle.text.specs.declared.Mode.{Mode}
 use Rattle.parts.specs.Promise.{declIn, itemsIn}
 use Rattle.parts.specs.declared.Run.{Run}
-use Rattle.rules.specs.Changes.{Change, only}
+use Rattle.rules.specs.Changes.{only}
 use Rattle.types.specs.declared.Reading.{Reading}
 use Rattle.tally.specs.Reporting.{Ready, Ran}
 use Rattle.tally.specs.declared.Tally.{Tally}
