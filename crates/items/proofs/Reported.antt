@@ -44,9 +44,6 @@ abbrev pub siteOn : Side → List ℕ → Owner → ℕ → Site
 siteOn side.Old new o at = goneSite o at
 siteOn side.New new o at = cameSite new o at
 
-pub site-as : (new : List ℕ) (o : Owner) (at : ℕ) {s : Side} (t : Side) → s ≡ t → {r : Site} → r ≡ siteOn t new o at → r ≡ siteOn s new o at
-site-as new o at t e q = rw e q
-
 module _ (reading : Reading) {old new : List ℕ} {x : Items} (p : ItemsIn old new x) where
   lone-reports : (s : Side) (at : ℕ) → ItemHere (shape old new x) (on s old new) at
       → Reports old new (siteOn s new x.of at) true (lone reading old new x s (itemIn (shape old new x) (on s old new) at))

@@ -1,23 +1,22 @@
 -- `items::unmatched::unmatched_item` meets its contract: where the other side has none, the change of a site is reported. Assumes nothing.
-use Rattle.std.proofs.Common.{refl}
+use Rattle.std.proofs.Common.{refl, rules}
 use Rattle.tally.proofs.Running.{ran-none}
 use Rattle.lines.proofs.Clauses.{emit-asks, emit-ran}
-use Rattle.items.specs.declared.Side.TheVariants as side
 use Rattle.items.proofs.Standing.{unmatched-other}
-use Rattle.items.proofs.Reported.{site-as, unmatched-reports}
+use Rattle.items.proofs.Reported.{unmatched-reports}
 use Rattle.items.proofs.unmatched.unmatched_item.Goals as goal
+
+pub emit-requires : goal.emit-requires
+emit-requires c = emit-asks (unmatched-reports _ c.requires.0 _ c.has_off.ensures (search rules)) refl (search rules) c.requires.1
+
+pub emit-requires-in-New : goal.emit-requires-in-New
+emit-requires-in-New c = emit-asks (unmatched-reports _ c.requires.0 _ c.has_off.ensures (search rules)) refl (search rules) c.requires.1
+
+pub returns-in-Old : goal.returns-in-Old
+returns-in-Old c = emit-ran (unmatched-reports _ c.requires.0 _ c.has_off.ensures (search rules)) refl (search rules) c.emit.ensures
+
+pub returns-in-New : goal.returns-in-New
+returns-in-New c = emit-ran (unmatched-reports _ c.requires.0 _ c.has_off.ensures (search rules)) refl (search rules) c.emit-in-New.ensures
 
 pub returns-then-has_off : goal.returns-then-has_off
 returns-then-has_off c = ran-none (unmatched-other c.requires.0.items _ _ _ _ c.has_off.ensures c.if-has_off.true) c.requires.1
-
-pub emit-requires : goal.emit-requires
-emit-requires c = emit-asks (unmatched-reports _ c.requires.0 _ c.has_off.ensures c.if-has_off.false) refl (site-as c.args.new.now c.args.items.of c.args.at side.Old c.in-Old.is c.gone_site.ensures) c.requires.1
-
-pub emit-requires-in-New : goal.emit-requires-in-New
-emit-requires-in-New c = emit-asks (unmatched-reports _ c.requires.0 _ c.has_off.ensures c.if-has_off.false) refl (site-as c.args.new.now c.args.items.of c.args.at side.New c.in-New.is c.came_site.ensures) c.requires.1
-
-pub returns-in-Old : goal.returns-in-Old
-returns-in-Old c = emit-ran (unmatched-reports _ c.requires.0 _ c.has_off.ensures c.if-has_off.false) refl (site-as c.args.new.now c.args.items.of c.args.at side.Old c.in-Old.is c.gone_site.ensures) c.emit.ensures
-
-pub returns-in-New : goal.returns-in-New
-returns-in-New c = emit-ran (unmatched-reports _ c.requires.0 _ c.has_off.ensures c.if-has_off.false) refl (site-as c.args.new.now c.args.items.of c.args.at side.New c.in-New.is c.came_site.ensures) c.emit-in-New.ensures
