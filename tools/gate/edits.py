@@ -34,7 +34,8 @@ class Function(NamedTuple):
 
 class Answer(NamedTuple):
     """A wrong answer, and the functions that it changes; None for a change of anything else, also of a contract, which others rest on. With
-    its lines of code that have other operations than before."""
+    its lines of code that have other operations than before. Goals are named after the code, so that an answer may carry their new names into
+    a file of proofs/."""
 
     label: str
     functions: set[Function | None]
@@ -84,7 +85,8 @@ def answers(crate: Path, edit: Path) -> list[Answer]:
         elif line.startswith("old: "):
             found = found or [Answer("", set(), [])]
             old = line.removeprefix("old: ")
-            found[-1].functions.add(function_at(crate, file, old))
+            if not file.startswith("proofs/"):
+                found[-1].functions.add(function_at(crate, file, old))
         elif line.startswith("new:") and found and file.startswith("src/") and operations(line[4:]) != operations(old):
             found[-1].reshaped.append(line)
     return found

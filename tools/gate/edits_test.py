@@ -118,6 +118,13 @@ class Edits(unittest.TestCase):
         third = "# three\nfile: src/pairs.rt\nold: c + SIDE\nnew: c - SIDE\n"
         self.assertEqual(self.found(third, ("proofs/pairs/+third/Answers.antt", FACT)), (1, []))
 
+    def test_a_wrong_answer_may_carry_new_names_of_goals(self):
+        names = "file: proofs/pairs/first/Answers.antt\nold: a\nnew: b\n"
+        (self.crate / "proofs/pairs/first/Answers.antt").write_text("a\n")
+        self.assertEqual(self.found(FIRST + names, ("proofs/pairs/first/Answers.antt", FACT)), (1, []))
+        errors = [(f"proofs/pairs/{path}/Answers.antt", FACT) for path in ("first", "Pair/second")]
+        self.assertEqual(self.found(FIRST + names + SECOND, *errors), (2, []))
+
     def test_operations_are_counted_outside_of_texts(self):
         for text, found in (
             ('b"a + b" => b\'-\',', {}),
