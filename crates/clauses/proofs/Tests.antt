@@ -53,12 +53,8 @@ names-differ e f g = cc
 
 -- ---- a mark that is gained
 
-module _ {was : Bool} (is : Bool) where
-  pub was-marked : was ≡ true → (not was && is) ≡ false
-  was-marked e = rw e
-
-  pub was-unmarked : was ≡ false → is ≡ (not was && is)
-  was-unmarked e = rw e
+pub was-marked : {was : Bool} (is : Bool) → was ≡ true → (not was && is) ≡ false
+was-marked is e = rw e
 
 pub same-marks : {a b c d : Bool} → a ≡ b → c ≡ d → (not a && c) ≡ (not b && d)
 same-marks e f = cc
