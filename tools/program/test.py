@@ -113,6 +113,8 @@ def usage(suite: Suite):
     }
     for name, words in calls.items():
         suite.on_standard_error(name, "usage: vexil_compat ", 2, *words)
+    for name, words in (("old", [b"\xff", new]), ("new", [old, b"a\xff"]), ("alone", [b"\xff"])):
+        suite.on_standard_error(f"an argument that is not UTF-8, {name}", "vexil_compat: arguments: ", 1, *words)
 
 
 def asked_for_help(suite: Suite):

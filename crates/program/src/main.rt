@@ -83,6 +83,9 @@ fn answer<R: Print + Eprint + Files + Env + AllocGlobal>(rt: &R) -> io::Result<(
     Ok(())
 }
 
-fn main(rt: HostRuntime) -> io::Result<()> {
-    answer(&rt)
+// Arguments that can't be had, as one that is not UTF-8, are told, and nothing is answered.
+fn main(rt: HostRuntime) {
+    if let Err(error) = answer(&rt) {
+        let _told = eprintln!(rt; "vexil_compat: arguments: {error}");
+    }
 }
