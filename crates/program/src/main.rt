@@ -7,9 +7,8 @@ mod contents;
 mod files;
 mod printing;
 
-use std::env;
-use std::io;
 use std::rt::{Env, Files};
+use std::{env, io};
 
 // The report of two images, in a buffer of 65,536 bytes; a longer one is refused by the library.
 fn compare(rt: &(impl Print + Eprint), old: &[u8], new: &[u8]) {
