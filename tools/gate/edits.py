@@ -16,7 +16,7 @@ sys.path.append(str(KEEPING))
 import sitecustomize as keeping  # noqa: E402
 
 # A refusal that says nothing about a fact: the proof no longer fits the code's shape, or rests on what was refused elsewhere.
-UNFIT = re.compile(r"has no `|has no field|not in scope|expected `[^`]*`, found|was not admitted|which was rejected|was not checked")
+UNFIT = re.compile(r"has no `|has no field|not in scope(?! here, so what is shown)|expected `[^`]*`, found|was not admitted|which was rejected|was not checked")
 FUNCTION = re.compile(r'^(\s*)(?:pub(?:\(crate\))? )?(?:extern "C" )?fn (\w+)')
 IMPL = re.compile(r"^impl (\w+)")
 CLAUSE = re.compile(r"\b(?:requires|ensures) \{")

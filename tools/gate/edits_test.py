@@ -82,6 +82,10 @@ class Edits(unittest.TestCase):
         (self.crate / "src" / "lib.rt").write_text(SOURCE)
         self.assertEqual(edits.function_at(self.crate, "src/lib.rt", "self.b"), ("maps::Pair::second", None))
 
+    def test_what_the_prover_says_of_its_own_hint_is_no_fault(self):
+        hint = FACT + "\n  `k` is not in scope here, so what is shown does not paste back as it stands"
+        self.assertEqual(self.found(FIRST, ("proofs/pairs/first/Answers.antt", hint)), (1, []))
+
     def test_wrong_answers_that_each_break_a_fact_pass(self):
         errors = [("proofs/pairs/first/Answers.antt", FACT), ("proofs/pairs/Pair/second/Answers.antt", FACT)]
         self.assertEqual(self.found(FIRST + SECOND, *errors), (2, []))
