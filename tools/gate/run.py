@@ -42,9 +42,9 @@ class Gate:
             self.faults.append(f"{name}: {error}")
         print(f"== {name}: {time.monotonic() - start:.0f} s", flush=True)
 
-    def command(self, name: str, *words) -> list[str]:
+    def command(self, name: str, *words, environment: dict[str, str] | None = None) -> list[str]:
         """Counts a command as one check: it passes with exit status 0."""
-        status, lines = run(*words)
+        status, lines = run(*words, environment=environment)
         self.count(status == 0, [] if status == 0 else [f"{name}: exit status {status}"])
         return lines
 

@@ -52,5 +52,15 @@ class Toolchain(unittest.TestCase):
         self.assertIn(run.PINNED, gate.faults[0])
 
 
+class Commands(unittest.TestCase):
+    def test_a_command_has_its_environment(self):
+        gate = run.Gate()
+        with contextlib.redirect_stdout(io.StringIO()):
+            for work in (gate.command, gate.suite):
+                lines = work("said", "sh", "-c", 'echo "$WORD passed, 0 failed"', environment={**os.environ, "WORD": "3"})
+                self.assertEqual(lines, ["3 passed, 0 failed"])
+        self.assertEqual((gate.passed, gate.faults), (4, []))
+
+
 if __name__ == "__main__":
     unittest.main()
