@@ -176,6 +176,11 @@ def environment() -> dict[str, str]:
     return {**os.environ, "PYTHONPATH": os.pathsep.join(paths), "VEXIL_COMPAT_KEEP_EDITS": "1"}
 
 
+def bad(lines: list[str]) -> list[str]:
+    """The edits that `rt` could not try, which fail nothing there."""
+    return [line.removeprefix("rt: ")[:200] for line in lines if re.match(r"rt: (must-fail )?\S+: (BAD EDIT|NOT TRIED)", line)]
+
+
 def edits(root: Path) -> tuple[int, list[str]]:
     """How many wrong answers were refused for a fact, and the faults of the others."""
     passed, faults = 0, []

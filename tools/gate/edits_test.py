@@ -148,6 +148,10 @@ class Edits(unittest.TestCase):
         passed, faults = self.found(FIRST + constant, ("proofs/pairs/first/Answers.antt", FACT))
         self.assertEqual((passed, len(faults)), (1, 1))
 
+    def test_an_edit_that_cannot_be_tried_fails(self):
+        said = "must-fail maps/1.edit: BAD EDIT: an 'old:' text is in src/lib.rt 0 times, and not once"
+        self.assertEqual(edits.bad([f"rt: {said}", "rt: must-fail maps/2.edit: refused, as it must be", "rt: maps proved"]), [said])
+
     def test_an_edit_that_names_no_wrong_answer_fails(self):
         for text in ("", FIRST.partition("\n")[2], FIRST.partition("\n")[2] + SECOND):
             self.assertEqual(self.found(text, ("proofs/pairs/first/Answers.antt", FACT)), (0, ["must-fail maps/1: it has a wrong answer without a comment line"]))

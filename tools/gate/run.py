@@ -102,6 +102,7 @@ def crates(gate: Gate):
         gate.count(not faults, faults)
     proved = gate.suite("rt ci", "rt", "ci", environment=edits.environment())
     gate.count(*checks.verdicts(ROOT, proved))
+    gate.faults += edits.bad(proved)
     # What `rt ci` takes from an earlier run it does not try again.
     untried = edits.untried(ROOT)
     if untried:
