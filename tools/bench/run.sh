@@ -16,6 +16,7 @@ reader() (
     trap 'rm -rf "$work"' EXIT
     mkdir -p "$work/crates/exports/src"
     cp -r "$repo/crates/image" "$repo/crates/reader" "$work/crates/"
+    rm -rf "$work"/crates/*/out
     printf 'image:\nreader: image\nexports staticlib: image reader\n' > "$work/crates.txt"
     cat > "$work/crates/exports/src/lib.rt" <<'RATTLE'
 // The reader of images for a caller in another language.

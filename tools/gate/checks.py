@@ -8,6 +8,8 @@ from pathlib import Path
 BUILT = {"logic-built", "libraries-built", "statements", "batches"}
 # Libraries of the kit whose contracts lean on assumed ones. The verdict of a library above them does not say so.
 ASSUMED = {"libc", "io", "os"}
+# What assumes: an axiom, and a block of functions of C.
+ASSUMES = re.compile(r'^\s*(?:pub )?(?:axiom|postulate)\b.*|^\s*(?:unsafe )?extern "C" \{', re.M)
 # What the crates above `parts` may not name: the modules of `image`, and of the crates between it and `parts`, but for the values and the
 # words; and the laws that the promise of `parts` rests on. `members` reads parts of an accepted image, as `parts` does, and rests on both;
 # `claims` has no code and gathers the theorems of all crates.
@@ -82,6 +84,16 @@ def assumptions(root: Path) -> list[str]:
         for name in crates
         if is_library(root, name)
         for dep in sorted(reached(name, crates) & ASSUMED)
+    ]
+
+
+def assumed(root: Path) -> list[str]:
+    """Files that assume: an axiom, or a function of C. A verdict that is kept does not say so."""
+    return [
+        f"{path.relative_to(root)}: {found[0].strip()}"
+        for name in listed_crates(root)
+        for path in sorted((root / "crates" / name).rglob("*"))
+        if path.suffix in (".rt", ".antt") and "out" not in path.relative_to(root).parts and (found := ASSUMES.search(path.read_text()))
     ]
 
 

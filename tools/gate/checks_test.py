@@ -68,6 +68,17 @@ class Folders(unittest.TestCase):
         (self.root / "crates.txt").write_text("maps: image\nimage: io\n")
         self.assertEqual(checks.assumptions(self.root), ["maps: a library above io, whose contracts are assumed"])
 
+    def test_a_file_that_assumes_fails(self):
+        (self.root / "crates.txt").write_text("maps:\n")
+        file = self.root / "crates" / "maps" / "src" / "lib.rt"
+        file.write_text('#[unsafe(no_mangle)]\npub extern "C" fn f() {\n}\n// an axiom\n')
+        self.assertEqual(checks.assumed(self.root), [])
+        file.write_text('unsafe extern "C" {\n    safe fn never();\n}\n')
+        self.assertEqual(checks.assumed(self.root), ['crates/maps/src/lib.rt: unsafe extern "C" {'])
+        file.write_text("")
+        (self.root / "crates" / "maps" / "Laws.antt").write_text("pub axiom lem : A\n")
+        self.assertEqual(checks.assumed(self.root), ["crates/maps/Laws.antt: pub axiom lem : A"])
+
     def test_a_file_that_names_the_readers_definitions_fails(self):
         (self.root / "crates.txt").write_text("reader: image\nparts: image reader\nmaps: parts\n")
         file = self.root / "crates" / "maps" / "src" / "lib.rt"

@@ -4,16 +4,21 @@ Each comment line of an edit file starts one wrong answer. Those of one file sta
 crate: the facts of a function's proof rest on the contracts of what it calls, not on their proofs, so each is refused by itself. What the
 prover says of an edit is kept by keeping/sitecustomize.py."""
 
+import importlib.util
+import json
 import os
 import re
-import sys
 from collections import Counter
 from pathlib import Path
 from typing import NamedTuple
 
+import checks
+
 KEEPING = Path(__file__).resolve().parent / "keeping"
-sys.path.append(str(KEEPING))
-import sitecustomize as keeping  # noqa: E402
+# By its path: the system may have a sitecustomize of its own.
+MODULE = importlib.util.spec_from_file_location("keeping", KEEPING / "sitecustomize.py")
+keeping = importlib.util.module_from_spec(MODULE)
+MODULE.loader.exec_module(keeping)
 
 # A refusal that says nothing about a fact: the proof no longer fits the code's shape, or rests on what was refused elsewhere.
 UNFIT = re.compile(r"has no `|has no field|not in scope(?! here, so what is shown)|expected `[^`]*`, found|was not admitted|which was rejected|was not checked")
@@ -149,9 +154,23 @@ def edited(crate: Path, edit: Path) -> dict[str, bytes]:
     return files
 
 
-def edit_faults(crate: Path, edit: Path) -> tuple[int, list[str]]:
+def below(root: Path) -> dict[str, str]:
+    """Of each crate a sum of what a check of it stands on: the toolchain, and the crates below it."""
+    crates = checks.listed_crates(root)
+    kit = root / "KIT-ID"
+    sums = {name: keeping.sum_of(keeping.files_of(root / "crates" / name)) for name in crates}
+    own = {name: sorted(checks.reached(name, crates) & set(crates)) for name in crates}
+    return {name: " ".join([kit.read_text().strip() if kit.exists() else "", *(sums[dep] for dep in own[name])]) for name in crates}
+
+
+def log_of(edit: Path, stands_on: dict[str, str]) -> str | None:
+    """What the prover said of an edit, if that is kept."""
+    crate = edit.parent.parent
+    return keeping.kept(edited(crate, edit), stands_on[crate.name])
+
+
+def edit_faults(crate: Path, edit: Path, log: str | None) -> tuple[int, list[str]]:
     """How many wrong answers of a file were refused for a fact, and the faults of the others."""
-    log = keeping.kept(edited(crate, edit))
     if log is None:
         return 0, ["it was not tried"]
     found = answers(crate, edit)
@@ -167,13 +186,14 @@ def in_order(root: Path) -> list[Path]:
 
 def untried(root: Path) -> list[str]:
     """The crates with an edit of which nothing is kept: `rt` has tried it before, elsewhere."""
-    return sorted({edit.parent.parent.name for edit in in_order(root) if keeping.kept(edited(edit.parent.parent, edit)) is None})
+    stands_on = below(root)
+    return sorted({edit.parent.parent.name for edit in in_order(root) if log_of(edit, stands_on) is None})
 
 
-def environment() -> dict[str, str]:
-    """Where what is said of edits is kept."""
+def environment(root: Path) -> dict[str, str]:
+    """In which what is said of edits is kept."""
     paths = [str(KEEPING), *filter(None, [os.environ.get("PYTHONPATH")])]
-    return {**os.environ, "PYTHONPATH": os.pathsep.join(paths), "VEXIL_COMPAT_KEEP_EDITS": "1"}
+    return {**os.environ, "PYTHONPATH": os.pathsep.join(paths), "VEXIL_COMPAT_KEEP_EDITS": json.dumps(below(root))}
 
 
 def bad(lines: list[str]) -> list[str]:
@@ -184,9 +204,10 @@ def bad(lines: list[str]) -> list[str]:
 def edits(root: Path) -> tuple[int, list[str]]:
     """How many wrong answers were refused for a fact, and the faults of the others."""
     passed, faults = 0, []
+    stands_on = below(root)
     for edit in in_order(root):
         crate = edit.parent.parent
-        refused, found = edit_faults(crate, edit)
+        refused, found = edit_faults(crate, edit, log_of(edit, stands_on))
         passed += refused
         faults += [f"must-fail {crate.name}/{edit.stem}: {text}" for text in found]
     return passed, faults

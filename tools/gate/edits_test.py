@@ -50,6 +50,7 @@ class Edits(unittest.TestCase):
             (self.crate / path).mkdir(parents=True)
         self.source.write_text(SOURCE)
 
+        (self.root / "crates.txt").write_text("below:\nmaps: below\n")
         cache = mock.patch.dict(os.environ, {"XDG_CACHE_HOME": str(self.root / "cache")})
         cache.start()
         self.addCleanup(cache.stop)
@@ -59,7 +60,7 @@ class Edits(unittest.TestCase):
         file = self.crate / "must-fail" / "1.edit"
         file.write_text(edit)
         keeping.folder().mkdir(parents=True, exist_ok=True)
-        (keeping.folder() / keeping.sum_of(edits.edited(self.crate, file))).write_text(log)
+        (keeping.folder() / keeping.sum_of(edits.edited(self.crate, file), edits.below(self.root)["maps"])).write_text(log)
         return edits.edits(self.root)
 
     def found(self, edit: str, *errors: tuple[str, str]) -> tuple[int, list[str]]:
@@ -162,6 +163,9 @@ class Edits(unittest.TestCase):
         self.assertEqual(edits.untried(self.root), ["maps"])
         self.found(FIRST)
         self.assertEqual(edits.untried(self.root), [])
+        (self.root / "crates" / "below" / "src").mkdir(parents=True)
+        (self.root / "crates" / "below" / "src" / "lib.rt").write_text("another\n")
+        self.assertEqual(edits.untried(self.root), ["maps"])
 
     def test_what_is_said_in_a_folder_of_rt_is_kept(self):
         (self.crate / "must-fail" / "1.edit").write_text(FIRST)
@@ -169,11 +173,11 @@ class Edits(unittest.TestCase):
         for path, text in edits.edited(self.crate, self.crate / "must-fail" / "1.edit").items():
             (room / path).parent.mkdir(parents=True, exist_ok=True)
             (room / path).write_bytes(text)
-        call = "import subprocess, sys; subprocess.run(['echo', 'said'], cwd=sys.argv[1], stdout=subprocess.PIPE, text=True)"
+        call = "import subprocess, sys; subprocess.run(['echo', 'said', '--crate-name', 'maps'], cwd=sys.argv[1], stdout=subprocess.PIPE, text=True)"
         for where in (self.root, room):
             self.assertEqual(edits.untried(self.root), ["maps"])
-            subprocess.run([sys.executable, "-c", call, where], check=True, env=edits.environment())
-        self.assertEqual(keeping.kept(edits.edited(self.crate, self.crate / "must-fail" / "1.edit")), "said\n")
+            subprocess.run([sys.executable, "-c", call, where], check=True, env=edits.environment(self.root))
+        self.assertEqual(edits.log_of(self.crate / "must-fail" / "1.edit", edits.below(self.root)), "said --crate-name maps\n")
 
 
 if __name__ == "__main__":

@@ -98,15 +98,15 @@ def toolchain(gate: Gate) -> bool:
 
 
 def crates(gate: Gate):
-    for faults in (checks.unlisted(ROOT), checks.assumptions(ROOT), checks.unfolded(ROOT)):
+    for faults in (checks.unlisted(ROOT), checks.assumptions(ROOT), checks.assumed(ROOT), checks.unfolded(ROOT)):
         gate.count(not faults, faults)
-    proved = gate.suite("rt ci", "rt", "ci", environment=edits.environment())
+    proved = gate.suite("rt ci", "rt", "ci", environment=edits.environment(ROOT))
     gate.count(*checks.verdicts(ROOT, proved))
     gate.faults += edits.bad(proved)
     # What `rt ci` takes from an earlier run it does not try again.
     untried = edits.untried(ROOT)
     if untried:
-        gate.command("rt must-fail", "rt", "must-fail", "--anew", *untried, environment=edits.environment())
+        gate.command("rt must-fail", "rt", "must-fail", "--anew", *untried, environment=edits.environment(ROOT))
     gate.count(*edits.edits(ROOT))
 
 
@@ -151,7 +151,7 @@ def loader(gate: Gate):
 
 
 def program(gate: Gate):
-    """On the program that `rt ci` has linked."""
+    """On the program that tools/program/build.sh proves and links."""
     if not is_left_out(gate, "tools/program", "rustc"):
         gate.command("tools/program/build.sh", "bash", "tools/program/build.sh")
         gate.suite("tools/program/test.py", sys.executable, "tools/program/test.py")

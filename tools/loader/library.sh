@@ -60,10 +60,13 @@ hash_of() {
 
 # What a library is made of, in the repository or in a copy: what its crates rest on, and their files with their names.
 made_of() { # FOLDER
+    local crate
     cd "$1/crates"
     {
         LC_ALL=C sort <<< "$lines"
-        find -L "${crates[@]}" \( -name must-fail -o -name out \) -prune -o -type f -print0 | LC_ALL=C sort -z | xargs -0 sha256sum
+        for crate in "${crates[@]}"; do
+            find -L "$crate" -mindepth 1 -maxdepth 1 ! -name must-fail ! -name out -exec find -L {} -type f -print0 \;
+        done | LC_ALL=C sort -z | xargs -0 sha256sum
     } | hash_of
 }
 
@@ -120,21 +123,30 @@ stop_progress() {
     progress=
 }
 
+# The files of a crate, but for what checks keep there.
+files_of() { # FOLDER
+    [ ! -d "$1" ] || (cd "$1" && find -L . -path ./out -prune -o -path ./must-fail -prune -o -type f -print0 | LC_ALL=C sort -z | xargs -0 sha256sum)
+}
+
 # A copy of the crates is proved, so that the hash is that of what was proved, whatever is edited meanwhile. Here the library is one for C.
+# What is built of a crate that has changed goes, and what is built after it.
 copy_crates() {
-    local crate
+    local crate changed=
     mkdir -p "$copy/crates"
     for crate in "$copy/crates"/*; do
         case " ${crates[*]} " in
-        *" ${crate##*/} "*) find "$crate" -mindepth 1 -maxdepth 1 ! -name out -exec rm -rf {} + ;;
+        *" ${crate##*/} "*) ;;
         *) rm -rf "$crate" ;;
         esac
     done
     for crate in "${crates[@]}"; do
         mkdir -p "$copy/crates/$crate"
+        [ "$(files_of "$repo/crates/$crate")" = "$(files_of "$copy/crates/$crate")" ] || changed=1
+        find "$copy/crates/$crate" -mindepth 1 -maxdepth 1 ! -name out -exec rm -rf {} +
         find -L "$repo/crates/$crate" -mindepth 1 -maxdepth 1 ! -name out ! -name must-fail -exec cp -rL -t "$copy/crates/$crate" {} +
+        [ -z "$changed" ] || rm -rf "$copy/crates/$crate/out/rlib"
     done
-    sed "s/^\($name\)[ \t]*:/\1 staticlib:/" <<< "$lines" > "$copy/crates.txt"
+    sed "s/^[ \t]*$name[ \t]*:/$name staticlib:/" <<< "$lines" > "$copy/crates.txt"
 }
 
 prove() {
@@ -152,13 +164,13 @@ prove() {
         exit 1
     fi
     stop_progress
-    mkdir -p "$folder"
     cp "$made" "$folder/"
 }
 
 build() {
     local sources archive
     check_kit
+    mkdir -p "$folder"
     rm -f "$folder/made-of" "$folder/lib$name.a"
     copy_crates
     sources=$(made_of "$copy")

@@ -50,7 +50,7 @@ class Suite(pairs.Suite):
 
 
 def of_the_gate(suite: Suite):
-    """What the program is run on by `rt check` is the sample pair, and the old image is the one of 01."""
+    """What the program is run on by `rt ci` is the sample pair, and the old image is the one of 01."""
     suite.equal("the image of 01", SAMPLE[0].read_bytes(), RIDE)
     for path, side in zip(SAMPLE, ("old", "new"), strict=True):
         suite.equal(f"data/{side}.img", (CRATE / "data" / f"{side}.img").read_bytes(), path.read_bytes())

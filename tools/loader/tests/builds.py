@@ -29,12 +29,11 @@ lib)
     cd ../..
     if ! mkdir busy 2> /dev/null; then echo overlap >> "$CALLS"; fi
     echo lib >> "$CALLS"
-    rm -rf crates/*/out
     for crate in below beside vexil_compat; do
         sleep "${SECONDS_EACH:-0}"
         if grep -q unprovable "crates/$crate/src/lib.rt"; then rmdir busy; echo "rt: $crate NOT PROVED"; exit 1; fi
         mkdir -p "crates/$crate/out/rlib"
-        touch "crates/$crate/out/rlib/$crate.rlib"
+        [ $crate = vexil_compat ] || touch "crates/$crate/out/rlib/$crate.rlib"
     done
     cp "$LIBRARIES/$(cat crates/below/src/lib.rt).a" crates/vexil_compat/out/libvexil_compat.a
     rmdir busy
