@@ -1,7 +1,7 @@
 -- What the proofs of the reader's functions cite, and the crates above may.
 -- Answers: how one read follows another. Sure: what holds of every value that is read. Good: values that were
 -- read, part by part. Repeats: so many of a kind.
--- Numbers, Names, Types, Fields: each part of the format, case by case. Trees: well-formed labels and types.
+-- Numbers, Names, Types, Fields, Widths: each part of the format, case by case. Trees: well-formed labels and types.
 -- Narrow: positions that a u16 carries. Kinds: a number and the kind that it says; the words of kinds.
 pub mod Answers
 pub mod Sure
@@ -12,5 +12,6 @@ pub mod Names
 pub mod Types
 pub mod Trees
 pub mod Fields
+pub mod Widths
 pub mod Narrow
 pub mod Kinds

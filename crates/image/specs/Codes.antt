@@ -1,10 +1,10 @@
--- The numbers of document 01, by name: what a call is refused by and with which side ("Turned back"), and what an image stores (kinds of
--- declarations, tags of types). Assumes nothing.
+-- The numbers of documents 01 and 02, by name: what a call is refused by and with which side ("Turned back"), and what an image stores
+-- (kinds of declarations, tags of types). Assumes nothing.
 use Rattle.std.specs.Prelude.{ℕ}
 
 pub data Code : Type 0 where
   notRefused longRefusal shortHeadRefusal formatRefusal crowdedRefusal contentsRefusal kindRefusal nameRefusal bodyRefusal : Code
-  codeRefusal deepRefusal aliasPairRefusal fullRefusal : Code
+  codeRefusal deepRefusal aliasPairRefusal fullRefusal mixedRefusal : Code
   noSide oldSide newSide bothSides : Code
   messageKind enumKind flagsKind unionKind newtypeKind configKind aliasKind traitKind implKind : Code
   primitiveTag subByteTag semanticTag namedTag optionalTag arrayTag fixedArrayTag setTag mapTag resultTag vec2Tag vec3Tag vec4Tag : Code
@@ -24,6 +24,7 @@ number codeRefusal = 9
 number deepRefusal = 10
 number aliasPairRefusal = 11
 number fullRefusal = 12
+number mixedRefusal = 16
 number noSide = 0
 number oldSide = 1
 number newSide = 2

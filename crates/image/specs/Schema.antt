@@ -52,12 +52,13 @@ pub record Variant : Type 0 where
   pub fields : List Field
 
 -- A declaration; its kind is the number that the image has (Kinds).
--- A message has fields; an enum, flags and a union have variants; a newtype has an inner type. What a kind has not is `unmarked`, empty
--- or `noType`, and nothing reads it.
+-- A message has fields; an enum, flags and a union have variants; a newtype has an inner type. Enums and flags have a width in a format
+-- that stores it: wire bits or wire bytes. What a kind has not is `unmarked`, none, empty or `noType`, and nothing reads it.
 pub record Decl : Type 0 where
   pub kind : ℕ
   pub name : Name
   pub marks : Marks
+  pub width : Option ℕ
   pub fields : List Field
   pub variants : List Variant
   pub inner : Ty
@@ -65,12 +66,17 @@ pub record Decl : Type 0 where
 abbrev pub noType : Ty
 noType = leaf (label (number primitiveTag) 0 0 [])
 
-abbrev pub decl : ℕ → Name → Marks → List Field → List Variant → Ty → Decl
-decl kind name marks fields variants inner =
-    record { kind = kind; name = name; marks = marks; fields = fields; variants = variants; inner = inner }
+abbrev pub decl : ℕ → Name → Marks → Option ℕ → List Field → List Variant → Ty → Decl
+decl kind name marks width fields variants inner =
+    record { kind = kind; name = name; marks = marks; width = width; fields = fields; variants = variants; inner = inner }
 
--- entry i of the registry is the declaration with id i, or is empty
+-- the format is the number in the head; entry i of the registry is the declaration with id i, or is empty
 pub record Schema : Type 0 where
+  pub format : ℕ
   pub registry : List (Option Decl)
   pub ids : List ℕ
   pub namespace : List Name
+
+-- of bytes that hold none
+abbrev pub noSchema : Schema
+noSchema = record { format = 0; registry = []; ids = []; namespace = [] }

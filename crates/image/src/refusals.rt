@@ -1,4 +1,4 @@
-// The numbers of refusals: document 01, "Turned back".
+// The numbers of refusals: document 01, "Turned back", and R-6 of document 02.
 pub const LONG: u8 = 1;
 
 pub const SHORT_HEAD: u8 = 2;
@@ -22,3 +22,5 @@ pub const DEEP: u8 = 10;
 pub const ALIAS_PAIR: u8 = 11;
 
 pub const FULL: u8 = 12;
+
+pub const MIXED: u8 = 16;

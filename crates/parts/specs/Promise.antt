@@ -1,18 +1,19 @@
 -- What the crates above may say of an accepted image. Places are positions in the image. `XHere s at` says that an X is well formed at a
 -- place, `xIn s at` is its value, `xEnd s at` the place after it, `xPlace` the place of a part of it; of a place where none stands a
 -- value is a default and says nothing. proofs/Promise.antt ties all of them to `schemaOf`. Assumes nothing.
-use Rattle.std.specs.Prelude.{◌≡◌, cond, List, [], ◌∷◌, map, ℕ, zero, suc, ◌+◌, ◌-◌, ◌≤◌, ◌<◌, leb, length, get_or, take, drop}
+use Rattle.std.specs.Prelude.{◌≡◌, Bool, cond, ◌&&◌, ◌||◌, List, [], ◌∷◌, map, ℕ, zero, suc, ◌+◌, ◌-◌, ◌≤◌, ◌<◌, eqb, leb, length, get_or, take, drop}
 use Rattle.std.proofs.Math.Option.{Option, none, some}
-use Rattle.image.specs.Codes.{number, bodyRefusal, enumKind, implKind, primitiveTag, subByteTag, semanticTag, namedTag, fixedArrayTag, bitsTag}
+use Rattle.image.specs.Codes.{number, bodyRefusal, enumKind, flagsKind, implKind, primitiveTag, subByteTag, semanticTag, namedTag, fixedArrayTag, bitsTag}
 use Rattle.image.specs.Kinds.{kindOf}
-use Rattle.image.specs.Schema.{Name, unmarked, Label, label, Ty, noType, Field, Variant, Decl, decl, Schema}
+use Rattle.image.specs.Schema.{Name, unmarked, Label, label, Ty, noType, Field, Variant, Decl, decl, Schema, noSchema}
+use Rattle.image.specs.Formats.{hasWidths}
 use Rattle.image.specs.Schema.{Encoding as Coding}
 use Rattle.image.specs.Parse.{Parsed, bind, littleEndian, byteAt, many}
 use Rattle.image.specs.Names.{nameAt, namesAt}
 use Rattle.image.specs.Types.{labelOf, typeOf}
 use Rattle.image.specs.Fields.{plain, encodingAt, limitAt, fieldAt, bareAt, variantAt}
 use Rattle.image.specs.Bodies.{declAt}
-use Rattle.image.specs.Image.{segmentCount, segmentsAt, readImage}
+use Rattle.image.specs.Image.{format, segmentCount, segmentsAt, readImage}
 use Rattle.image.specs.WellFormed.{Good, valueOr, endOf}
 use Rattle.parts.specs.declared.Entry.{Entry}
 use Rattle.parts.specs.declared.Entry.TheVariants.{Body, Unresolvable}
@@ -22,13 +23,15 @@ use Rattle.parts.specs.declared.Run.{Run}
 use Rattle.parts.specs.declared.Encoding.{Encoding}
 use Rattle.parts.specs.declared.Limit.{Limit}
 use Rattle.parts.specs.declared.Limit.TheVariants.{Most, Unlimited}
+use Rattle.parts.specs.declared.Width.{Width}
+use Rattle.parts.specs.declared.Width.TheVariants.{Wire, Absent}
 
 -- the image is accepted, and holds this schema
 unfoldable pub Accepted : List ℕ → Type 0
 Accepted s = Good (readImage s)
 
 unfoldable pub schemaOf : List ℕ → Schema
-schemaOf s = valueOr (record { registry = []; ids = []; namespace = [] }) (readImage s)
+schemaOf s = valueOr noSchema (readImage s)
 
 -- of places where none stands
 abbrev pub noLabel : Label
@@ -41,7 +44,7 @@ abbrev pub noVariant : Variant
 noVariant = record { ordinal = 0; name = []; fields = [] }
 
 abbrev pub noDecl : Decl
-noDecl = decl (number implKind) [] unmarked [] [] noType
+noDecl = decl (number implKind) [] unmarked none [] [] noType
 
 -- Names.
 unfoldable pub NameHere : List ℕ → ℕ → Type 0
@@ -191,9 +194,13 @@ unfoldable pub limitOf : Limit → Option ℕ
 limitOf (Most n) = some n
 limitOf Unlimited = none
 
--- Declarations.
+unfoldable pub widthOf : Width → Option ℕ
+widthOf (Wire w) = some w
+widthOf Absent = none
+
+-- Declarations, in the image's format.
 unfoldable pub bodyAt : List ℕ → ℕ → Parsed Decl
-bodyAt s at = bind (byteAt (number bodyRefusal) s at) (λ kind n. declAt (kindOf kind) s n)
+bodyAt s at = bind (byteAt (number bodyRefusal) s at) (λ kind n. declAt (format s) (kindOf kind) s n)
 
 unfoldable pub DeclHere : List ℕ → ℕ → Type 0
 DeclHere s at = Good (bodyAt s at)
@@ -201,9 +208,23 @@ DeclHere s at = Good (bodyAt s at)
 unfoldable pub declIn : List ℕ → ℕ → Decl
 declIn s at = valueOr noDecl (bodyAt s at)
 
--- the items of a message, an enum, flags or a union: only the first two have marks before the count
+-- the marks of messages and enums are a byte after the name
+unfoldable pub marksSize : ℕ → ℕ
+marksSize kind = cond (leb kind (number enumKind)) 1 0
+
+-- and the width of enums and flags, in a format that stores it, is a byte after that
+unfoldable pub widthPlace : List ℕ → ℕ → ℕ
+widthPlace s at = nameEnd s (at + 1) + marksSize (declIn s at).kind
+
+unfoldable pub storesWidth : ℕ → ℕ → Bool
+storesWidth format kind = hasWidths format && (eqb kind (number enumKind) || eqb kind (number flagsKind))
+
+unfoldable pub widthSize : ℕ → ℕ → ℕ
+widthSize format kind = cond (storesWidth format kind) 1 0
+
+-- the items of a message, an enum, flags or a union
 unfoldable pub itemsIn : List ℕ → ℕ → Run
-itemsIn s at = itemsAt s (nameEnd s (at + 1) + cond (leb (declIn s at).kind (number enumKind)) 1 0)
+itemsIn s at = itemsAt s (widthPlace s at + widthSize (format s) (declIn s at).kind)
 
 -- the type of a newtype
 unfoldable pub innerPlace : List ℕ → ℕ → ℕ
@@ -222,6 +243,18 @@ pub record Resolved (s : List ℕ) (id : ℕ) (r : Entry) : Type 0 where
   pub value : entryDecl s r ≡ get_or (schemaOf s).registry id none
   pub here : EntryHere s r
 
+-- What starts a declaration in any format: its kind, and its name unless it is an impl. Of bytes that need not be a whole image.
+pub record StartHere (s : List ℕ) (at : ℕ) : Type 0 where
+  pub there : at < length s
+  pub kind : get_or s at 0 ≤ number implKind
+  pub name : ¬ (get_or s at 0 ≡ number implKind) → NameHere s (at + 1)
+
+unfoldable pub startKind : List ℕ → ℕ → ℕ
+startKind s at = get_or s at 0
+
+unfoldable pub startName : List ℕ → ℕ → Name
+startName s at = cond (eqb (startKind s at) (number implKind)) [] (nameIn s (at + 1))
+
 -- so many bytes from a place on, as a list of their own
 abbrev pub bytesIn : List ℕ → ℕ → ℕ → List ℕ
 bytesIn s from count = take (from + count - from) (drop from s)
@@ -229,8 +262,11 @@ bytesIn s from count = take (from + count - from) (drop from s)
 -- bytes of the image that hold the declaration of the entry of an id at their start
 pub record BodyIn (s : List ℕ) (id from count : ℕ) : Type 0 where
   pub inside : from + count ≤ length s
-  pub here : DeclHere (bytesIn s from count) 0
-  pub is : get_or (schemaOf s).registry id none ≡ some (declIn (bytesIn s from count) 0)
+  pub here : StartHere (bytesIn s from count) 0
+  pub decl : Decl
+  pub is : get_or (schemaOf s).registry id none ≡ some decl
+  pub kind : startKind (bytesIn s from count) 0 ≡ decl.kind
+  pub name : startName (bytesIn s from count) 0 ≡ decl.name
 
 -- where the body of the entry of an id lies; no bytes, if the entry is empty
 pub record BodyOf (s : List ℕ) (id : ℕ) (r : Run) : Type 0 where

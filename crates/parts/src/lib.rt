@@ -40,6 +40,13 @@ pub struct Encoding {
     pub base: u8,
 }
 
+// The width of an enum in wire bits or of flags in wire bytes; nothing else has one, nor do they in a format without widths.
+#[derive(Clone, Copy)]
+pub enum Width {
+    Wire(u8),
+    Absent,
+}
+
 // The most that a field may have, if it has a limit.
 #[derive(Clone, Copy)]
 pub enum Limit {

@@ -15,10 +15,15 @@ pub record Eight (s : List ℕ) : Type 0 where
   pub fits : length s ≤ 32768
   pub there : 8 ≤ length s
 
--- 3 format: "not 1"
+-- the formats: "Refusal 3 now means neither 1 nor 2."
+pub data Known (s : List ℕ) : Type 0 where
+  one : format s ≡ 1 → Known s
+  two : format s ≡ 2 → Known s
+
+-- 3 format: "neither 1 nor 2"
 pub record Format (s : List ℕ) : Type 0 where
   pub eight : Eight s
-  pub other : ¬ (format s ≡ 1)
+  pub other : ¬ Known s
 
 -- 4 crowded: "N or M over 512, S over 16"
 pub data Over (s : List ℕ) : Type 0 where
@@ -28,13 +33,13 @@ pub data Over (s : List ℕ) : Type 0 where
 
 pub record Crowded (s : List ℕ) : Type 0 where
   pub eight : Eight s
-  pub one : format s ≡ 1
+  pub known : Known s
   pub over : Over s
 
 -- the head is there and as it should be
 pub record Head (s : List ℕ) : Type 0 where
   pub eight : Eight s
-  pub one : format s ≡ 1
+  pub known : Known s
   pub entries : entryCount s ≤ 512
   pub ids : idCount s ≤ 512
   pub segments : segmentCount s ≤ 16

@@ -14,11 +14,11 @@ level patch = 0
 level minor = 1
 level major = 2
 
--- the kinds of change, in the order of `ChangeKind`
+-- the kinds of change, in the order of `ChangeKind`; after them that of R-6
 pub data ChangeKind : Type 0 where
   FieldAdded FieldRemoved FieldTypeChanged FieldOrdinalChanged FieldRenamed FieldDeprecated FieldEncodingChanged VariantAdded : ChangeKind
   VariantRemoved VariantOrdinalChanged DeclarationAdded DeclarationRemoved DeclarationKindChanged NamespaceChanged : ChangeKind
-  NonExhaustiveChanged FlagsBitAdded FlagsBitRemoved FlagsBitOrdinalChanged : ChangeKind
+  NonExhaustiveChanged FlagsBitAdded FlagsBitRemoved FlagsBitOrdinalChanged WidthChanged : ChangeKind
 
 -- by their places in it
 abbrev pub kindAt : ChangeKind → ℕ
@@ -40,10 +40,11 @@ kindAt NonExhaustiveChanged = 14
 kindAt FlagsBitAdded = 15
 kindAt FlagsBitRemoved = 16
 kindAt FlagsBitOrdinalChanged = 17
+kindAt WidthChanged = 18
 
 -- how many kinds are counted
 abbrev pub kindCount : ℕ
-kindCount = 18
+kindCount = 19
 
 -- each member as `check` fills it
 pub record Change : Type 0 where

@@ -6,7 +6,7 @@ use Rattle.image.specs.Parse.{Parsed, ok, no}
 use Rattle.image.specs.Image.{readImage}
 use Rattle.rules.specs.Survivors.{View}
 use Rattle.rules.specs.Types.{holdsVector}
-use Rattle.rules.specs.Changes.{kindAt, FieldAdded, FieldRemoved, FieldTypeChanged, FieldOrdinalChanged, FieldRenamed, FieldEncodingChanged, VariantAdded, VariantRemoved, VariantOrdinalChanged, DeclarationAdded, DeclarationRemoved, DeclarationKindChanged, NamespaceChanged, NonExhaustiveChanged, FlagsBitAdded, FlagsBitRemoved, FlagsBitOrdinalChanged}
+use Rattle.rules.specs.Changes.{kindAt, FieldAdded, FieldRemoved, FieldTypeChanged, FieldOrdinalChanged, FieldRenamed, FieldEncodingChanged, VariantAdded, VariantRemoved, VariantOrdinalChanged, DeclarationAdded, DeclarationRemoved, DeclarationKindChanged, NamespaceChanged, NonExhaustiveChanged, FlagsBitAdded, FlagsBitRemoved, FlagsBitOrdinalChanged, WidthChanged}
 use Rattle.rules.specs.Clauses.{comparedTypes}
 use Rattle.rules.specs.Verdict.{any}
 
@@ -32,7 +32,7 @@ last a (b ∷ rest) = last b rest
 abbrev pub otherKinds : List ℕ
 otherKinds =
     (kindAt FieldTypeChanged) ∷ kindAt FieldOrdinalChanged ∷ kindAt FieldRenamed ∷ kindAt FieldEncodingChanged ∷ kindAt VariantOrdinalChanged ∷ (kindAt DeclarationKindChanged)
-    ∷ kindAt NamespaceChanged ∷ kindAt NonExhaustiveChanged ∷ kindAt FlagsBitOrdinalChanged ∷ []
+    ∷ kindAt NamespaceChanged ∷ kindAt NonExhaustiveChanged ∷ kindAt FlagsBitOrdinalChanged ∷ kindAt WidthChanged ∷ []
 
 module _ (verdict : Image → Image → ℕ → ℕ) where
   -- "a verdict is an answer of the verdict call .. with number 0"

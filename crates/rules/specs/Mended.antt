@@ -1,11 +1,15 @@
--- R-5, "Three answers from the type comparison": what it says of two types, and the mended verdict, which reads the third answer as equal.
--- The clauses, the checks and the stages are those of document 01. Assumes nothing.
-use Rattle.std.specs.Prelude.{◌≡◌, Bool, true, false, cond, ◌&&◌, ◌↔◌, List, ℕ}
+-- R-5, "Three answers from the type comparison": what it says of two types, and the mended verdict, which reads the third answer as equal and
+-- reports widths (Widths). The clauses and the stages are those of document 01. Assumes nothing.
+use Rattle.std.specs.Prelude.{◌≡◌, Bool, true, false, cond, ◌&&◌, ◌↔◌, List, [], ◌∷◌, ℕ, ◌+◌}
+use Rattle.std.proofs.Math.Option.{none}
+use Rattle.image.specs.Codes.{number, mixedRefusal}
 use Rattle.image.specs.Schema.{Ty}
 use Rattle.rules.specs.Survivors.{viewOf}
 use Rattle.rules.specs.Types.{sameLabel, sameTree, sameType, holdsVector}
-use Rattle.rules.specs.Clauses.{Reading, clausesBy}
-use Rattle.rules.specs.Answer.{Policy, usual, outcome, checked}
+use Rattle.rules.specs.Changes.{kindAt, WidthChanged}
+use Rattle.rules.specs.Clauses.{Reading}
+use Rattle.rules.specs.Answer.{Policy, aliasCheck, outcome, checked, verdictBy}
+use Rattle.rules.specs.Widths.{compareWidths, mixedCheck}
 use Rattle.rules.specs.Distance.{holdsVectors}
 
 -- ---- the answer
@@ -51,12 +55,16 @@ pub record ThreeAnswers (t u : Ty) : Type 0 where
 unfoldable pub mendedType : Ty → Ty → Bool
 mendedType t u = readAs true (likeness t u)
 
+-- R-6: WidthChanged stands "first in that declaration"
 abbrev pub mendedReading : Reading
-mendedReading = clausesBy mendedType
+mendedReading = record { same = mendedType; first = compareWidths; last = λ d e. []; lastIn = λ n v w. [] }
 
+-- R-6: 16 is tested "after 10 and before 11"
 abbrev pub mended : Policy
-mended = usual viewOf mendedReading
+mended = record { alone = λ s. none; pair = mixedCheck ∷ aliasCheck viewOf ∷ []; view = viewOf; reading = mendedReading }
 
--- where no type that is compared in one of the two images holds a vector, quaternion or matrix, verdict and report are those of document 01
+-- Of images that are not refused by 16, where no type that is compared in one of the two holds a vector, quaternion or matrix, and no width
+-- has changed, verdict and report are those of document 01.
 abbrev pub Otherwise : Type 0
-Otherwise = (old new : List ℕ) → (holdsVectors viewOf old && holdsVectors viewOf new) ≡ false → outcome mended old new ≡ checked old new
+Otherwise = (old new : List ℕ) → (verdictBy mended old new 0 ≡ number mixedRefusal → ⊥) → verdictBy mended old new (5 + kindAt WidthChanged) ≡ 0
+    → (holdsVectors viewOf old && holdsVectors viewOf new) ≡ false → outcome mended old new ≡ checked old new

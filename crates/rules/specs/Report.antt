@@ -10,13 +10,13 @@ use Rattle.rules.specs.Text.{joined, word}
 use Rattle.rules.specs.Changes.{level, Change}
 use Rattle.rules.specs.Verdict.{bumpOf, resultAt}
 
--- the names of `ChangeKind`, `BumpKind` and `CompatResult`
+-- the names of `ChangeKind`, with R-6's at the end, of `BumpKind` and of `CompatResult`
 abbrev pub changeNames : List String
 changeNames =
     "FieldAdded" ∷ "FieldRemoved" ∷ "FieldTypeChanged" ∷ "FieldOrdinalChanged" ∷ "FieldRenamed" ∷ "FieldDeprecated"
     ∷ "FieldEncodingChanged" ∷ "VariantAdded" ∷ "VariantRemoved" ∷ "VariantOrdinalChanged" ∷ "DeclarationAdded" ∷ "DeclarationRemoved"
     ∷ "DeclarationKindChanged" ∷ "NamespaceChanged" ∷ "NonExhaustiveChanged" ∷ "FlagsBitAdded" ∷ "FlagsBitRemoved"
-    ∷ "FlagsBitOrdinalChanged" ∷ []
+    ∷ "FlagsBitOrdinalChanged" ∷ "WidthChanged" ∷ []
 
 abbrev pub bumpNames : List String
 bumpNames = "Patch" ∷ "Minor" ∷ "Major" ∷ []

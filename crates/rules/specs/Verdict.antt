@@ -20,7 +20,7 @@ resultAt bump = cond (eqb bump 2) 1 0
 unfoldable pub resultOf : List Change → ℕ
 resultOf cs = resultAt (bumpOf cs)
 
--- "the count for each of the 18 names of `ChangeKind`"
+-- "the count for each of the .. names of `ChangeKind`"
 unfoldable pub countOf : ℕ → List Change → ℕ
 countOf kind cs = count (λ c. eqb c.kind kind) cs
 

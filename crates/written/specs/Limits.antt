@@ -1,8 +1,9 @@
--- The schemas within document 01's limits: those that an image can hold. Assumes nothing.
-use Rattle.std.specs.Prelude.{◌≡◌, true, List, [], ◌∷◌, ℕ, suc, ◌^◌, max, ◌≤◌, ◌<◌, length}
+-- The schemas within the limits of documents 01 and 02: those that an image can hold, in its format. Assumes nothing.
+use Rattle.std.specs.Prelude.{◌≡◌, true, false, List, [], ◌∷◌, ℕ, suc, ◌^◌, max, ◌≤◌, ◌<◌, length}
 use Rattle.std.proofs.Math.Option.{Option, none, some}
 use Rattle.image.specs.Codes.{number, messageKind, enumKind, flagsKind, unionKind, newtypeKind, configKind, aliasKind, traitKind, implKind, primitiveTag, subByteTag, semanticTag, namedTag, optionalTag, arrayTag, fixedArrayTag, setTag, mapTag, resultTag, vec2Tag, mat4Tag, bitsTag}
 use Rattle.image.specs.Schema.{Name, Marks, unmarked, Encoding, Label, label, Ty, leaf, one, two, Field, Variant, Decl, decl, noType, Schema}
+use Rattle.image.specs.Formats.{hasWidths}
 use Rattle.image.specs.Names.{nameBytes}
 use Rattle.written.specs.Writer.{write}
 
@@ -93,28 +94,50 @@ pub record VariantWithin (v : Variant) : Type 0 where
   pub few : Few v.fields
   pub fields : Each FieldWithin v.fields
 
--- a declaration of each kind, what the kind has not at its default
-pub data DeclWithin : Decl → Type 0 where
-  message : {x : Name} {m : Marks} {fs : List Field} → NameWithin x → Few fs → Each FieldWithin fs → DeclWithin (decl (number messageKind) x m fs [] noType)
-  enum : {x : Name} {m : Marks} {vs : List Variant} → NameWithin x → Few vs → Each BareWithin vs → DeclWithin (decl (number enumKind) x m [] vs noType)
-  flags : {x : Name} {vs : List Variant} → NameWithin x → Few vs → Each BareWithin vs → DeclWithin (decl (number flagsKind) x unmarked [] vs noType)
-  union : {x : Name} {vs : List Variant} → NameWithin x → Few vs → Each VariantWithin vs → DeclWithin (decl (number unionKind) x unmarked [] vs noType)
-  newtype : {x : Name} {t : Ty} → NameWithin x → TypeWithin t → DeclWithin (decl (number newtypeKind) x unmarked [] [] t)
-  config : {x : Name} → NameWithin x → DeclWithin (decl (number configKind) x unmarked [] [] noType)
-  alias : {x : Name} → NameWithin x → DeclWithin (decl (number aliasKind) x unmarked [] [] noType)
-  trait : {x : Name} → NameWithin x → DeclWithin (decl (number traitKind) x unmarked [] [] noType)
-  impl : DeclWithin (decl (number implKind) [] unmarked [] [] noType)
+-- "Image format 2 stores the width": there is one exactly in a format that stores it
+pub data WidthWithin (format : ℕ) (P : ℕ → Type 0) : Option ℕ → Type 0 where
+  absent : hasWidths format ≡ false → WidthWithin format P none
+  stored : {w : ℕ} → hasWidths format ≡ true → P w → WidthWithin format P (some w)
 
-pub data EntryWithin : Option Decl → Type 0 where
-  empty : EntryWithin none
-  full : {d : Decl} → DeclWithin d → EntryWithin (some d)
+-- "1, 2, 4 or 8"
+pub data WireBytes : ℕ → Type 0 where
+  one : WireBytes 1
+  two : WireBytes 2
+  four : WireBytes 4
+  eight : WireBytes 8
+
+-- a declaration of each kind, what the kind has not at its default
+pub data DeclWithin (f : ℕ) : Decl → Type 0 where
+  message : {x : Name} {m : Marks} {fs : List Field} → NameWithin x → Few fs → Each FieldWithin fs
+      → DeclWithin f (decl (number messageKind) x m none fs [] noType)
+  enum : {x : Name} {m : Marks} {w : Option ℕ} {vs : List Variant} → NameWithin x → WidthWithin f Byte w → Few vs → Each BareWithin vs
+      → DeclWithin f (decl (number enumKind) x m w [] vs noType)
+  flags : {x : Name} {w : Option ℕ} {vs : List Variant} → NameWithin x → WidthWithin f WireBytes w → Few vs → Each BareWithin vs
+      → DeclWithin f (decl (number flagsKind) x unmarked w [] vs noType)
+  union : {x : Name} {vs : List Variant} → NameWithin x → Few vs → Each VariantWithin vs
+      → DeclWithin f (decl (number unionKind) x unmarked none [] vs noType)
+  newtype : {x : Name} {t : Ty} → NameWithin x → TypeWithin t → DeclWithin f (decl (number newtypeKind) x unmarked none [] [] t)
+  config : {x : Name} → NameWithin x → DeclWithin f (decl (number configKind) x unmarked none [] [] noType)
+  alias : {x : Name} → NameWithin x → DeclWithin f (decl (number aliasKind) x unmarked none [] [] noType)
+  trait : {x : Name} → NameWithin x → DeclWithin f (decl (number traitKind) x unmarked none [] [] noType)
+  impl : DeclWithin f (decl (number implKind) [] unmarked none [] [] noType)
+
+pub data EntryWithin (f : ℕ) : Option Decl → Type 0 where
+  empty : EntryWithin f none
+  full : {d : Decl} → DeclWithin f d → EntryWithin f (some d)
+
+-- a format that is read
+pub data FormatWithin : ℕ → Type 0 where
+  one : FormatWithin 1
+  two : FormatWithin 2
 
 -- "N or M over 512, S over 16" is crowded; "image over 32,768 bytes" is long
 pub record Within (s : Schema) : Type 0 where
+  pub format : FormatWithin s.format
   pub entryCount : length s.registry ≤ 512
   pub idCount : length s.ids ≤ 512
   pub segmentCount : length s.namespace ≤ 16
-  pub entries : Each EntryWithin s.registry
+  pub entries : Each (EntryWithin s.format) s.registry
   pub ids : Each U32 s.ids
   pub segments : Each NameWithin s.namespace
   pub whole : length (write s) ≤ 32768

@@ -1,4 +1,4 @@
--- The format from the other side: the bytes of a schema, in document 01's words and order. Assumes nothing.
+-- The format from the other side: the bytes of a schema, in document 01's words and order, with R-6's widths. Assumes nothing.
 use Rattle.std.specs.Prelude.{Bool, true, false, List, [], ◌∷◌, ◌++◌, ℕ, zero, suc, ◌+◌, ◌*◌, ◌/◌, ◌%◌, length, replicate}
 use Rattle.std.proofs.Math.Option.{Option, none, some}
 use Rattle.image.specs.Kinds.{Kind, message, enum, flags, union, newtype, config, alias, trait, impl, other, kindOf}
@@ -74,11 +74,16 @@ writeBare v = digits 4 v.ordinal ++ writeName v.name
 unfoldable pub writeVariant : Variant → List ℕ
 writeVariant v = digits 4 v.ordinal ++ (writeName v.name ++ writeCounted writeField v.fields)
 
+-- "a u8 of wire bits after an enum's marks, a u8 of wire bytes .. after a flags name", where there is a width
+unfoldable pub writeWidth : Option ℕ → List ℕ
+writeWidth none = []
+writeWidth (some w) = w ∷ []
+
 -- what follows the kind
 unfoldable pub writeDecl : Kind → Decl → List ℕ
 writeDecl message d = writeName d.name ++ (marksByte d.marks ∷ writeCounted writeField d.fields)
-writeDecl enum d = writeName d.name ++ (marksByte d.marks ∷ writeCounted writeBare d.variants)
-writeDecl flags d = writeName d.name ++ writeCounted writeBare d.variants
+writeDecl enum d = writeName d.name ++ (marksByte d.marks ∷ (writeWidth d.width ++ writeCounted writeBare d.variants))
+writeDecl flags d = writeName d.name ++ (writeWidth d.width ++ writeCounted writeBare d.variants)
 writeDecl union d = writeName d.name ++ writeCounted writeVariant d.variants
 writeDecl newtype d = writeName d.name ++ writeType d.inner
 writeDecl config d = writeName d.name
@@ -102,9 +107,9 @@ writeContents [] at = []
 writeContents (none ∷ es) at = digits 2 0 ++ (digits 2 0 ++ writeContents es at)
 writeContents (some d ∷ es) at = digits 2 at ++ (digits 2 (length (writeBody d)) ++ writeContents es (at + length (writeBody d)))
 
--- "Head: u16 format, 1; u16 N registry entries; u16 M declaration ids; u16 S namespace segments."
+-- "Head: u16 format ..; u16 N registry entries; u16 M declaration ids; u16 S namespace segments."
 unfoldable pub writeHead : Schema → List ℕ
-writeHead s = digits 2 1 ++ (digits 2 (length s.registry) ++ (digits 2 (length s.ids) ++ digits 2 (length s.namespace)))
+writeHead s = digits 2 s.format ++ (digits 2 (length s.registry) ++ (digits 2 (length s.ids) ++ digits 2 (length s.namespace)))
 
 -- where the bodies start
 unfoldable pub bodiesAt : Schema → ℕ

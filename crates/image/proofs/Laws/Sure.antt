@@ -14,7 +14,8 @@ use Rattle.image.specs.Names.{nameBytes, nameAt, namesAt}
 use Rattle.image.specs.Types.{Follows, code, subByte, identity, size, nothing, bits, unknown, followsTag, innerTypes, afterTag, labelOf}
 use Rattle.image.specs.Types.{innerAt, typeOf, typeAt}
 use Rattle.image.specs.Fields.{marksAt, encodingOf, encodingAt, limitAt, fieldAt, bareAt, variantAt}
-use Rattle.image.specs.Image.{entryCount, idCount, segmentCount, headOf}
+use Rattle.image.specs.Formats.{known}
+use Rattle.image.specs.Image.{format, entryCount, idCount, segmentCount, headOf}
 use Rattle.image.specs.Reads.{skip}
 use Rattle.image.specs.declared.Read.{Read}
 use Rattle.image.specs.declared.Read.TheVariants.{At}
@@ -248,14 +249,16 @@ variant-sure s at =
     sure-bind _ (name-sure 8 s n₁) (λ x n₂ _.
     sure-bind _ (counted-sure fieldAt s (field-sure s) n₂) (λ fs n₃ r. sure-ok r)))
 
--- what is known of an image whose head is read
-pub record Head (s : List ℕ) : Type 0 where
+-- what is known of an image whose head is read, and of the format that it gives
+pub record Head (s : List ℕ) (f n : ℕ) : Type 0 where
   pub most : length s ≤ 32768
   pub least : 8 ≤ length s
+  pub format : f ≡ format s
+  pub known : known f ≡ true
   pub counts : (leb (entryCount s) 512 && (leb (idCount s) 512 && leb (segmentCount s) 16)) ≡ true
 
-pub head-sure : (s : List ℕ) → Sure (λ _ _. Head s) (headOf s)
+pub head-sure : (s : List ℕ) → Sure (Head s) (headOf s)
 unfolding headOf
 head-sure s =
-    sure-need _ _ (λ a. sure-need _ _ (λ b. sure-need _ _ (λ _. sure-need _ _ (λ c.
-    sure-ok (record { most = leb-true (length s) 32768 a; least = leb-true 8 (length s) b; counts = c })))))
+    sure-need _ _ (λ a. sure-need _ _ (λ b. sure-need _ _ (λ k. sure-need _ _ (λ c.
+    sure-ok (record { most = leb-true (length s) 32768 a; least = leb-true 8 (length s) b; format = refl; known = k; counts = c })))))
