@@ -7,8 +7,9 @@ use Rattle.image.specs.Parse.{Parsed, no, byteAt, codeAt, numberAt, counted}
 use Rattle.image.specs.Names.{nameAt, namesAt}
 use Rattle.image.specs.Types.{Follows, code, subByte, identity, size, nothing, bits, unknown, followsTag, innerTypes, afterTag, labelOf, innerAt, typeOf, typeAt}
 use Rattle.image.specs.Fields.{marksAt, encodingOf, encodingAt, limitAt, fieldAt, bareAt, variantAt}
-use Rattle.image.specs.Codes.{number, kindRefusal, bodyRefusal}
+use Rattle.image.specs.Codes.{number, kindRefusal, bodyRefusal, codeRefusal}
 use Rattle.image.specs.Kinds.{Kind, message, enum, flags, union, newtype, config, alias, trait, impl, other, kindOf}
+use Rattle.image.specs.Widths.{wireBitsAt, wireBytesAt, widthAt}
 use Rattle.image.specs.Bodies.{messageAt, enumAt, flagsAt, unionAt, newtypeAt, otherAt, implAt, declAt, bodyOf}
 use Rattle.image.specs.Image.{entryOf, entriesOf}
 use Rattle.refusals.proofs.Told.{Told, told-ok, told-no, Any, told-bind, told-pick, told-within, told-many}
@@ -118,41 +119,57 @@ variant-told s at =
     told-bind _ (name-told s n₁) (λ x n₂ _.
     told-bind _ (counted-told fieldAt field_told s n₂) (λ fs n₃ _. told-ok tt)))
 
-decl-told : (kind : Kind) (s : List ℕ) (at : ℕ) → Told Any Body (declAt kind s at)
+width-told : (f : ℕ) (wire : List ℕ → ℕ → Parsed ℕ) → ((s : List ℕ) (at : ℕ) → Told Any Body (wire s at)) → (s : List ℕ) (at : ℕ)
+    → Told Any Body (widthAt f wire s at)
+unfolding widthAt
+width-told f wire told s at = told-pick _ (λ h. told-bind _ (told s at) (λ w n _. told-ok tt)) (λ h. told-ok tt)
+
+bits-told : (s : List ℕ) (at : ℕ) → Told Any Body (wireBitsAt s at)
+unfolding wireBitsAt
+bits-told s at = byte-told s at
+
+bytes-told : (s : List ℕ) (at : ℕ) → Told Any Body (wireBytesAt s at)
+unfolding wireBytesAt
+bytes-told s at = told-bind _ (byte-told s at) (λ b n _. told-pick _ (λ h. told-ok tt) (λ h. by (number codeRefusal) tt tt))
+
+decl-told : (f : ℕ) (kind : Kind) (s : List ℕ) (at : ℕ) → Told Any Body (declAt f kind s at)
 unfolding declAt messageAt enumAt flagsAt unionAt newtypeAt otherAt implAt
-decl-told message s at =
+decl-told f message s at =
     told-bind _ (name-told s at) (λ x n₁ _.
     told-bind _ (marks-told s n₁) (λ m n₂ _.
     told-bind _ (counted-told fieldAt field_told s n₂) (λ fs n₃ _. told-ok tt)))
-decl-told enum s at =
+decl-told f enum s at =
     told-bind _ (name-told s at) (λ x n₁ _.
     told-bind _ (marks-told s n₁) (λ m n₂ _.
+    told-bind _ (width-told f wireBitsAt bits-told s n₂) (λ w n₃ _.
+    told-bind _ (counted-told bareAt bare-told s n₃) (λ vs n₄ _. told-ok tt))))
+decl-told f flags s at =
+    told-bind _ (name-told s at) (λ x n₁ _.
+    told-bind _ (width-told f wireBytesAt bytes-told s n₁) (λ w n₂ _.
     told-bind _ (counted-told bareAt bare-told s n₂) (λ vs n₃ _. told-ok tt)))
-decl-told flags s at =
-    told-bind _ (name-told s at) (λ x n₁ _. told-bind _ (counted-told bareAt bare-told s n₁) (λ vs n₂ _. told-ok tt))
-decl-told union s at =
+decl-told f union s at =
     told-bind _ (name-told s at) (λ x n₁ _. told-bind _ (counted-told variantAt variant-told s n₁) (λ vs n₂ _. told-ok tt))
-decl-told newtype s at =
+decl-told f newtype s at =
     told-bind _ (name-told s at) (λ x n₁ _. told-bind _ (typeAt-told s n₁) (λ t n₂ _. told-ok tt))
-decl-told config s at = told-bind _ (name-told s at) (λ x n _. told-ok tt)
-decl-told alias s at = told-bind _ (name-told s at) (λ x n _. told-ok tt)
-decl-told trait s at = told-bind _ (name-told s at) (λ x n _. told-ok tt)
-decl-told impl s at = told-ok tt
-decl-told other s at = by (number kindRefusal) tt tt
+decl-told f config s at = told-bind _ (name-told s at) (λ x n _. told-ok tt)
+decl-told f alias s at = told-bind _ (name-told s at) (λ x n _. told-ok tt)
+decl-told f trait s at = told-bind _ (name-told s at) (λ x n _. told-ok tt)
+decl-told f impl s at = told-ok tt
+decl-told f other s at = by (number kindRefusal) tt tt
 
-body-told : (s : List ℕ) → Told Any Body (bodyOf s)
+body-told : (f : ℕ) (s : List ℕ) → Told Any Body (bodyOf f s)
 unfolding bodyOf
-body-told s =
+body-told f s =
     told-bind _ (byte-told s 0) (λ kind n₁ _.
-    told-bind _ (decl-told (kindOf kind) s n₁) (λ d n₂ _.
+    told-bind _ (decl-told f (kindOf kind) s n₁) (λ d n₂ _.
     told-pick _ (λ h. told-ok tt) (λ h. by (number bodyRefusal) tt tt)))
 
-entry-told : (s : List ℕ) (i : ℕ) → Told Any Body (entryOf s i)
+entry-told : (f : ℕ) (s : List ℕ) (i : ℕ) → Told Any Body (entryOf f s i)
 unfolding entryOf
-entry-told s i = told-pick _ (λ h. told-ok tt) (λ h. told-bind _ (body-told _) (λ d n _. told-ok tt))
+entry-told f s i = told-pick _ (λ h. told-ok tt) (λ h. told-bind _ (body-told f _) (λ d n _. told-ok tt))
 
-pub entries-told : (count : ℕ) (s : List ℕ) (i : ℕ) → Told Any Body (entriesOf count s i)
+pub entries-told : (f count : ℕ) (s : List ℕ) (i : ℕ) → Told Any Body (entriesOf f count s i)
 unfolding entriesOf
-entries-told zero s i = told-ok tt
-entries-told (suc count) s i =
-    told-bind _ (entry-told s i) (λ e n _. told-bind _ (entries-told count s (i + 1)) (λ es m _. told-ok tt))
+entries-told f zero s i = told-ok tt
+entries-told f (suc count) s i =
+    told-bind _ (entry-told f s i) (λ e n _. told-bind _ (entries-told f count s (i + 1)) (λ es m _. told-ok tt))

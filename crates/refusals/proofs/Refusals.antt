@@ -6,14 +6,15 @@ use mathlib.Core.List.{List}
 use Prim.Native.Nat.{ℕ, zero, suc, ◌≤◌, ◌<◌}
 use native.Mathlib.Omega.{arith}
 use native.Mathlib.Decide.{dec_lt}
-use borrow.Author.Tests.{leb-true, leb-false, eqb-true, eqb-false, le-leb, lt-leb, eq-eqb, ne_eqb}
-use lib.Dec.{leb}
+use borrow.Author.Tests.{leb-true, leb-false, eqb-true, eqb-false, le-leb, lt-leb}
+use lib.Dec.{eqb, leb}
 use lib.ListN.{length}
 use Rattle.image.specs.Schema.{Schema, Name}
 use Rattle.image.specs.Parse.{Parsed, ok, no, bind, pick}
 use Rattle.image.specs.Names.{namesAt}
-use Rattle.image.specs.Image.{entryCount, idCount, segmentCount, segmentsAt, headOf, tablesOf, laid, readImage}
-use Rattle.refusals.specs.Refusals.{Long, Eight, Format, Over, entries, ids, segments, Crowded, Head, segmentAt, Segment, ShortHead, head, tables, namespace, bodyStart, Misplaced, entry, after, Tables, Contents, ExactlyIf}
+use Rattle.image.specs.Formats.{known}
+use Rattle.image.specs.Image.{format, entryCount, idCount, segmentCount, segmentsAt, headOf, tablesOf, laid, readImage}
+use Rattle.refusals.specs.Refusals.{Long, Eight, Known, one, two, Format, Over, entries, ids, segments, Crowded, Head, segmentAt, Segment, ShortHead, head, tables, namespace, bodyStart, Misplaced, entry, after, Tables, Contents, ExactlyIf}
 use Rattle.maps.proofs.Tests.{no_both, both}
 use Rattle.refusals.proofs.Told.{Told, told-ok, told-no, Any, told-bind, told-pick, told-then}
 use Rattle.refusals.proofs.Bodies.{Body, entries-told}
@@ -60,6 +61,25 @@ over-told s e = go (leb (entryCount s) 512) (leb (idCount s) 512) refl refl e
     go true false p q r = ids (leb-false _ _ q)
     go false b p q r = entries (leb-false _ _ p)
 
+-- 1 or 2, and nothing else
+known-is : (s : List ℕ) → known (format s) ≡ true → Known s
+unfolding known
+known-is s e = go (eqb (format s) 1) refl
+  where
+    go : (b : Bool) → eqb (format s) 1 ≡ b → Known s
+    go true q = one (eqb-true _ _ q)
+    go false q =
+        let x = both _ _ e in
+        let l = leb-true 1 (format s) x.0 in
+        let m = leb-true (format s) 2 x.1 in
+        let n = eqb-false (format s) 1 q in
+        two (omega arith)
+
+is-known : (s : List ℕ) → Known s → known (format s) ≡ true
+unfolding known
+is-known s (one e) = rw e
+is-known s (two e) = rw e
+
 pub head-told : (s : List ℕ) → Told (λ h n. Head s) (Given s) (headOf s)
 unfolding headOf Given
 head-told s =
@@ -68,9 +88,9 @@ head-told s =
     (λ b. told-pick _
     (λ c. told-pick _
     (λ d. told-ok (let x = both _ _ d in let y = both _ _ x.1 in
-    record { eight = eight a b; one = eqb-true _ _ c; entries = leb-true _ _ x.0; ids = leb-true _ _ y.0; segments = leb-true _ _ y.1 }))
-    (λ d. told-no (record { eight = eight a b; one = eqb-true _ _ c; over = over-told s d })))
-    (λ c. told-no (record { eight = eight a b; other = eqb-false _ _ c })))
+    record { eight = eight a b; known = known-is s c; entries = leb-true _ _ x.0; ids = leb-true _ _ y.0; segments = leb-true _ _ y.1 }))
+    (λ d. told-no (record { eight = eight a b; known = known-is s c; over = over-told s d })))
+    (λ c. told-no (record { eight = eight a b; other = λ k. no_both (is-known s k) c })))
     (λ b. told-no (head (leb-false _ _ b))))
     (λ a. told-no (leb-false _ _ a))
   where
@@ -119,12 +139,12 @@ told-misplaced (good h e) (after l) = absurd (omega arith)
 image-told : (s : List ℕ) → Told Any (Given s) (readImage s)
 unfolding readImage Given
 image-told s =
-    told-bind _ (head-told s) (λ u n₁ h.
+    told-bind _ (head-told s) (λ f n₁ h.
     told-bind _ (tables-told s h) (λ is n₂ g.
     told-bind _ (told-then (names-told s n₂ g.1) (λ xs n e. e) (fault-given s h)) (λ xs n₃ e.
     told-pick _
-    (λ f. told-bind _ (told-then (entries-told (entryCount s) s 0) (λ es n u. u) (later s)) (λ es n₄ u. told-ok tt))
-    (λ f. told-no (contents (record { head = h; inside = g.0; segments = e.0 }) (rw e.1 at f))))))
+    (λ l. told-bind _ (told-then (entries-told f (entryCount s) s 0) (λ es n u. u) (later s)) (λ es n₄ u. told-ok tt))
+    (λ l. told-no (contents (record { head = h; inside = g.0; segments = e.0 }) (rw e.1 at l))))))
   where
     contents : Tables s → Fits s ≡ false → Contents s
     contents t f = record { tables = t; misplaced = misplaced-told (fits_told s t) f }
@@ -151,22 +171,26 @@ head-given s l = from-head s 2 (simp (le-leb (length s) 32768 (omega arith), lt-
 
 format-given : (s : List ℕ) → Format s → readImage s ≡ no 3
 unfolding headOf pick
-format-given s f = from-head s 3 (simp (le-leb _ _ f.eight.fits, le-leb _ _ f.eight.there, ne_eqb _ _ f.other))
+format-given s f = from-head s 3 (simp (le-leb _ _ f.eight.fits, le-leb _ _ f.eight.there, unknown (known (format s)) refl))
+  where
+    unknown : (b : Bool) → known (format s) ≡ b → known (format s) ≡ false
+    unknown true q = absurd (f.other (known-is s q))
+    unknown false q = q
 
 crowded-given : (s : List ℕ) → Crowded s → readImage s ≡ no 4
 unfolding headOf pick
-crowded-given s c = from-head s 4 (simp (le-leb _ _ c.eight.fits, le-leb _ _ c.eight.there, eq-eqb _ _ c.one, crowd c.over))
+crowded-given s c = from-head s 4 (simp (le-leb _ _ c.eight.fits, le-leb _ _ c.eight.there, is-known s c.known, crowd c.over))
   where
     crowd : Over s → leb (entryCount s) 512 && (leb (idCount s) 512 && leb (segmentCount s) 16) ≡ false
     crowd (entries l) = simp (lt-leb _ _ l)
     crowd (ids l) = simp (lt-leb _ _ l, and-false)
     crowd (segments l) = simp (lt-leb _ _ l, and-false)
 
-pub head_passed : (s : List ℕ) → Head s → headOf s ≡ ok tt 8
+pub head_passed : (s : List ℕ) → Head s → headOf s ≡ ok (format s) 8
 unfolding headOf pick
 head_passed s h =
     let eight = h.eight in
-    simp (le-leb _ _ eight.fits, le-leb _ _ eight.there, eq-eqb _ _ h.one, le-leb _ _ h.entries, le-leb _ _ h.ids, le-leb _ _ h.segments)
+    simp (le-leb _ _ eight.fits, le-leb _ _ eight.there, is-known s h.known, le-leb _ _ h.entries, le-leb _ _ h.ids, le-leb _ _ h.segments)
 
 -- then the tables
 tables-given : (s : List ℕ) → Head s → length s < segmentsAt s → readImage s ≡ no 2
