@@ -216,8 +216,11 @@ marksSize kind = cond (leb kind (number enumKind)) 1 0
 unfoldable pub widthPlace : List ℕ → ℕ → ℕ
 widthPlace s at = nameEnd s (at + 1) + marksSize (declIn s at).kind
 
+unfoldable pub measured : ℕ → Bool
+measured kind = eqb kind (number enumKind) || eqb kind (number flagsKind)
+
 unfoldable pub storesWidth : ℕ → ℕ → Bool
-storesWidth format kind = hasWidths format && (eqb kind (number enumKind) || eqb kind (number flagsKind))
+storesWidth format kind = hasWidths format && measured kind
 
 unfoldable pub widthSize : ℕ → ℕ → ℕ
 widthSize format kind = cond (storesWidth format kind) 1 0

@@ -1,18 +1,23 @@
 // Declarations at places of the image.
-ghost use Rattle.std.specs.Prelude.{◌≡◌};
-ghost use Rattle.image.specs.Codes.{number, newtypeKind};
+ghost use Rattle.std.specs.Prelude.{◌≡◌, ◌<◌};
+ghost use Rattle.image.specs.Codes.{number, newtypeKind, implKind};
 ghost use Rattle.image.specs.Fields.{marksOf};
-ghost use Rattle.parts.specs.Promise.{DeclHere, declIn, innerPlace};
+ghost use Rattle.image.specs.Image.{format};
+ghost use Rattle.parts.specs.Promise.{DeclHere, declIn, measured, storesWidth, widthOf, widthPlace, innerPlace};
 
-use crate::names::{name_at, name_end};
-use image::kinds::{ENUM, IMPL};
+use crate::Width;
+use crate::names::name_end;
+use crate::starts::{start_kind, start_name};
+use image::formats::has_widths;
+use image::kinds::{ENUM, FLAGS};
+use image::numbers::u16_at;
 
 // The kind, one of `image::kinds`.
 pub fn decl_kind(image: &[u8], at: usize) -> u8
     requires { DeclHere image.now at }
     ensures { result ≡ (declIn image.now at).kind }
 {
-    image[at]
+    start_kind(image, at)
 }
 
 // The bytes of the name; an impl's is empty.
@@ -20,10 +25,7 @@ pub fn decl_name(image: &[u8], at: usize) -> &[u8]
     requires { DeclHere image.now at }
     ensures { result.now ≡ (declIn image.now at).name }
 {
-    if image[at] == IMPL {
-        return &image[at..at];
-    }
-    name_at(image, at + 1)
+    start_name(image, at)
 }
 
 // The marks of a declaration as one number. Only messages and enums have them; those of others are none.
@@ -52,6 +54,50 @@ pub fn non_exhaustive(image: &[u8], at: usize) -> bool
     ensures { result ≡ (declIn image.now at).marks.nonExhaustive }
 {
     marks(image, at) / 2 == 1
+}
+
+// Whether a kind has a width, in a format that stores it.
+fn is_measured(kind: u8) -> bool
+    ensures { result ≡ measured kind }
+{
+    if kind == ENUM {
+        return true;
+    }
+    kind == FLAGS
+}
+
+// Whether the width of a declaration is stored.
+pub fn stores_width(image: &[u8], at: usize) -> bool
+    requires { DeclHere image.now at }
+    ensures { result ≡ storesWidth (format image.now) (declIn image.now at).kind }
+{
+    if !is_measured(image[at]) {
+        return false;
+    }
+    has_widths(u16_at(image, 0))
+}
+
+// The place after the name and the marks, where the width stands if it is stored.
+pub fn width_place(image: &[u8], at: usize) -> usize
+    requires { DeclHere image.now at × ((declIn image.now at).kind < number implKind) }
+    ensures { result ≡ widthPlace image.now at }
+{
+    let end = name_end(image, at + 1);
+    if ENUM < image[at] {
+        return end;
+    }
+    end + 1
+}
+
+// The width of a declaration.
+pub fn width(image: &[u8], at: usize) -> Width
+    requires { DeclHere image.now at }
+    ensures { widthOf result ≡ (declIn image.now at).width }
+{
+    if !stores_width(image, at) {
+        return Width::Absent;
+    }
+    Width::Wire(image[width_place(image, at)])
 }
 
 // Where a newtype's type stands.

@@ -5,6 +5,14 @@ ghost use Rattle.parts.specs.Promise.{Accepted, schemaOf, Resolved, BodyOf, segm
 use crate::{Entry, Run};
 use image::numbers::u32_at;
 
+// The format, as the head has it.
+pub fn format(image: &[u8]) -> usize
+    requires { Accepted image.now }
+    ensures { result ≡ (schemaOf image.now).format }
+{
+    reader::contents::format(image)
+}
+
 // How many registry entries there are.
 pub fn entry_count(image: &[u8]) -> usize
     requires { Accepted image.now }

@@ -6,6 +6,7 @@
 pub mod decls;
 pub mod entries;
 pub mod names;
+pub mod starts;
 pub mod types;
 
 // The names of the kinds and tags that the accessors answer, and of refusals and sides.

@@ -1,0 +1,26 @@
+// The starts of declarations: the kind, and the name unless it is an impl. They stand so in every format, and the bytes need not be a whole
+// image.
+ghost use Rattle.std.specs.Prelude.{◌≡◌};
+ghost use Rattle.parts.specs.Promise.{StartHere, startKind, startName};
+
+use crate::names::name_at;
+use image::kinds::IMPL;
+
+// The kind, one of `image::kinds`.
+pub fn start_kind(s: &[u8], at: usize) -> u8
+    requires { StartHere s.now at }
+    ensures { result ≡ startKind s.now at }
+{
+    s[at]
+}
+
+// The bytes of the name; an impl's is empty.
+pub fn start_name(s: &[u8], at: usize) -> &[u8]
+    requires { StartHere s.now at }
+    ensures { result.now ≡ startName s.now at }
+{
+    if s[at] == IMPL {
+        return &s[at..at];
+    }
+    name_at(s, at + 1)
+}
