@@ -3,12 +3,12 @@ use mathlib.Core.Path.{◌≡◌, refl, sym, ap, ◌∙◌}
 use mathlib.Core.Bool.{Bool, true, false, cond}
 use mathlib.Core.Option.{Option, none, some, or_else, none-ne-some, some-injective}
 use mathlib.Core.List.{List, [], ◌∷◌}
-use mathlib.Core.Logic.{◌↔◌}
+use mathlib.Core.Logic.{◌⊎◌, inl, inr, ⊎_elim, ◌↔◌}
 use Prim.Native.Nat.{ℕ, zero, suc, ◌+◌, ◌<◌}
 use native.Mathlib.Omega.{arith}
 use lib.ListN.{length, get_or}
 use lib.Seq.{get_or-append-add}
-use Rattle.image.specs.Schema.{Schema}
+use Rattle.image.specs.Schema.{Schema, noSchema}
 use Rattle.image.specs.Parse.{Parsed, ok, no}
 use Rattle.image.specs.Image.{readImage}
 use Rattle.refusals.proofs.Refusals.{only-ten}
@@ -19,7 +19,7 @@ use Rattle.rules.specs.Verdict.{bumpOf, resultOf, countOf, aliasPair}
 use Rattle.rules.specs.Report.{report}
 use Rattle.rules.specs.Outcome.{Outcome, refused, selected, select}
 use Rattle.image.specs.Codes.{number, oldSide, newSide, bothSides}
-use Rattle.rules.specs.Answer.{Fault, fault, Policy, compared, counts, firstFault, judged, onSide, imageFault, faultIn, comparePair, acceptNew, acceptOld, outcome, aliasCheck, usual, plainReading, plain}
+use Rattle.rules.specs.Answer.{Fault, fault, Check, Policy, compared, counts, firstFault, judged, onSide, imageFault, faultIn, comparePair, acceptNew, acceptOld, outcome, aliasCheck, usual, plainReading, plain}
 use Rattle.rules.specs.Refusals.{Passes, Decided, oldRefused, oldAlone, newRefused, newAlone, pairRefused, verdict, Numbered}
 
 -- ---- where they are decided
@@ -118,7 +118,7 @@ module _ (p : Policy) where
 -- the schema that an image holds; of one that is refused, one that holds nothing
 unfoldable pub schemaOf : Parsed Schema → Schema
 schemaOf (ok s n) = s
-schemaOf (no k) = record { registry = []; ids = []; namespace = [] }
+schemaOf (no k) = noSchema
 
 -- two images of which none of the numbers is given
 pub record Settled (p : Policy) (a b : List ℕ) : Type 0 where
@@ -166,23 +166,53 @@ count-selected kind h cs =
     get_or-append-add (0 ∷ 0 ∷ bumpOf cs ∷ resultOf cs ∷ length (report cs) ∷ []) (counts kindCount 0 cs) kind 0
     ∙ (counts-at kindCount 0 kind cs h ∙ ap (λ i. countOf i cs) (omega arith))
 
+-- ---- the checks of a pair, one after the other
+
+module _ (c : Check) (cs : List Check) (x y : Schema) where
+  -- a fault is the first check's, or a later one's where that finds none
+  pub here_or_later : (f : Fault) → firstFault (c ∷ cs) x y ≡ some f → (c x y ≡ some f) ⊎ ((c x y ≡ none) × (firstFault cs x y ≡ some f))
+  unfolding firstFault or_else
+  here_or_later f = go (c x y) refl
+    where
+      go : (o : Option Fault) → c x y ≡ o → or_else o (firstFault cs x y) ≡ some f
+          → (c x y ≡ some f) ⊎ ((c x y ≡ none) × (firstFault cs x y ≡ some f))
+      go none p e = inr (p, e)
+      go (some g) p e = inl (p ∙ e)
+
+  pub here-found : {f : Fault} → c x y ≡ some f → firstFault (c ∷ cs) x y ≡ some f
+  unfolding firstFault or_else
+  here-found e = rw e
+
+  pub here_passed : c x y ≡ none → firstFault (c ∷ cs) x y ≡ firstFault cs x y
+  unfolding firstFault or_else
+  here_passed e = rw e
+
+pub no-checks : {A : Type 0} (x y : Schema) (f : Fault) → firstFault [] x y ≡ some f → A
+unfolding firstFault
+no-checks x y f e = absurd (none-ne-some f e)
+
+-- a check that is a test with one fault
+pub tested : (g : Fault) (u : Bool) (f : Fault) → cond u (some g) none ≡ some f → (u ≡ true) × (f ≡ g)
+tested g true f e = (refl, sym (some-injective g f e))
+tested g false f e = absurd (none-ne-some f e)
+
+pub untested : (g : Fault) (u : Bool) → ◌≡◌ {A = Option Fault} (cond u (some g) none) none → u ≡ false
+untested g true e = absurd (none-ne-some g (sym e))
+untested g false e = refl
+
 -- ---- a verdict whose one check is 11, over any view and by any reading
 
 module _ (view : Schema → View) where
   -- of the pair only 11 is given, to a pair of aliases
   pub usual-fault : (x y : Schema) (f : Fault) → firstFault (aliasCheck view ∷ []) x y ≡ some f
       → (aliasPair (view x) (view y) ≡ true) × (f ≡ fault 11 (number bothSides))
-  unfolding firstFault aliasCheck or_else
-  usual-fault x y f = go (aliasPair (view x) (view y)) refl
-    where
-      go : (u : Bool) → aliasPair (view x) (view y) ≡ u → or_else (cond u (some (fault 11 (number bothSides))) none) none ≡ some f
-          → (aliasPair (view x) (view y) ≡ true) × (f ≡ fault 11 (number bothSides))
-      go true p e = (p, sym (some-injective (fault 11 (number bothSides)) f e))
-      go false p e = absurd (none-ne-some f e)
+  unfolding aliasCheck
+  usual-fault x y f e =
+      ⊎_elim (tested (fault 11 (number bothSides)) (aliasPair (view x) (view y)) f) (λ q. no-checks x y f q.1) (here_or_later (aliasCheck view) [] x y f e)
 
   pub alias-fault : (x y : Schema) → aliasPair (view x) (view y) ≡ true → firstFault (aliasCheck view ∷ []) x y ≡ some (fault 11 (number bothSides))
-  unfolding firstFault aliasCheck or_else
-  alias-fault x y e = rw e
+  unfolding aliasCheck
+  alias-fault x y e = here-found (aliasCheck view) [] x y (rw e)
 
 pub usual-numbered : (view : Schema → View) (reading : Reading) → Numbered (usual view reading)
 usual-numbered view reading = record {

@@ -1,5 +1,6 @@
 -- Equal, Types: the tests are sound. Chain, Self, Swap: the three claims of the distance rule, of the clauses over any views and any sound
 -- reading of types. Answer: the four cases of two images. Distance: the distance rule. Refusals: when each number is given.
+-- MendedRefusals: when each is by the mended verdict.
 -- Calls: what both calls say together.
 -- Ordinals: the counts that are always 0. Sizes, Texts, Scales, Weights, Held, Bound: how long a report can be.
 -- ReachedSets, Reached: what is computed is what is reached through named nodes. Standing: what stands with a set of ids. Imports: the
@@ -21,6 +22,7 @@ pub mod Reached
 pub mod Standing
 pub mod Distance
 pub mod Refusals
+pub mod MendedRefusals
 pub mod Calls
 pub mod Ordinals
 pub mod Sizes
