@@ -1,4 +1,4 @@
-// Bodies: a kind, and what it has.
+// Bodies: a kind, and what it has in the image's format.
 ghost use Rattle.std.specs.Prelude.{◌≡◌};
 ghost use Rattle.image.specs.Kinds.{kindOf};
 ghost use Rattle.image.specs.Bodies.{messageAt, enumAt, flagsAt, unionAt, newtypeAt, declAt, bodyOf};
@@ -9,6 +9,7 @@ use image::names::read_name;
 use image::numbers::read_byte;
 use image::refusals::{BODY, KIND};
 use image::types::read_type_at;
+use image::widths::{read_wire_bits, read_wire_bytes};
 use image::{Read, kinds};
 
 // Name, marks, fields.
@@ -26,28 +27,36 @@ fn read_message(s: &[u8], at: usize) -> Read
     read_fields(s, fields_at)
 }
 
-// Name, marks, variants without fields.
-fn read_enum(s: &[u8], at: usize) -> Read
-    ensures { result ≡ skip (enumAt s.now at) }
+// Name, marks, width, variants without fields.
+fn read_enum(format: usize, s: &[u8], at: usize) -> Read
+    ensures { result ≡ skip (enumAt format s.now at) }
 {
     let name = read_name(s, at, BODY);
     let Read::At(marks_at) = name else {
         return name;
     };
     let marks = read_marks(s, marks_at);
-    let Read::At(variants_at) = marks else {
+    let Read::At(width_at) = marks else {
         return marks;
+    };
+    let width = read_wire_bits(format, s, width_at);
+    let Read::At(variants_at) = width else {
+        return width;
     };
     read_bares(s, variants_at)
 }
 
-// Name, bits.
-fn read_flags(s: &[u8], at: usize) -> Read
-    ensures { result ≡ skip (flagsAt s.now at) }
+// Name, width, bits.
+fn read_flags(format: usize, s: &[u8], at: usize) -> Read
+    ensures { result ≡ skip (flagsAt format s.now at) }
 {
     let name = read_name(s, at, BODY);
-    let Read::At(bits_at) = name else {
+    let Read::At(width_at) = name else {
         return name;
+    };
+    let width = read_wire_bytes(format, s, width_at);
+    let Read::At(bits_at) = width else {
+        return width;
     };
     read_bares(s, bits_at)
 }
@@ -75,13 +84,13 @@ fn read_newtype(s: &[u8], at: usize) -> Read
 }
 
 // What follows the kind: configs, generic aliases and traits have only a name, impls have nothing.
-fn read_decl(kind: u8, s: &[u8], at: usize) -> Read
-    ensures { result ≡ skip (declAt (kindOf kind) s.now at) }
+fn read_decl(format: usize, kind: u8, s: &[u8], at: usize) -> Read
+    ensures { result ≡ skip (declAt format (kindOf kind) s.now at) }
 {
     match kind {
         kinds::MESSAGE => read_message(s, at),
-        kinds::ENUM => read_enum(s, at),
-        kinds::FLAGS => read_flags(s, at),
+        kinds::ENUM => read_enum(format, s, at),
+        kinds::FLAGS => read_flags(format, s, at),
         kinds::UNION => read_union(s, at),
         kinds::NEWTYPE => read_newtype(s, at),
         kinds::CONFIG | kinds::ALIAS | kinds::TRAIT => read_name(s, at, BODY),
@@ -91,14 +100,14 @@ fn read_decl(kind: u8, s: &[u8], at: usize) -> Read
 }
 
 // A whole body: nothing is left.
-pub(crate) fn read_body(s: &[u8]) -> Read
-    ensures { result ≡ skip (bodyOf s.now) }
+pub(crate) fn read_body(format: usize, s: &[u8]) -> Read
+    ensures { result ≡ skip (bodyOf format s.now) }
 {
     let kind = read_byte(s, 0);
     let Read::At(start) = kind else {
         return kind;
     };
-    let decl = read_decl(s[0], s, start);
+    let decl = read_decl(format, s[0], s, start);
     let Read::At(end) = decl else {
         return decl;
     };

@@ -1,13 +1,22 @@
 // Head, contents, ids and namespace, and the bodies that the contents place.
 ghost use Rattle.std.specs.Prelude.{◌≡◌, true, ◌+◌, ◌*◌, ◌≤◌, ◌<◌, length};
-ghost use Rattle.image.specs.Image.{entryCount, idCount, segmentCount, entryOffset, entryLength, headOf, tablesOf, laid, entryOf, entriesOf, readImage};
+ghost use Rattle.image.specs.Image.{format, entryCount, idCount, segmentCount, entryOffset, entryLength, headOf, tablesOf, laid, entryOf, entriesOf, readImage};
 ghost use Rattle.image.specs.Reads.{skip};
 
 use crate::bodies::read_body;
 use image::Read;
+use image::formats::is_known;
 use image::names::read_names;
 use image::numbers::u16_at;
 use image::refusals::{CONTENTS, CROWDED, FORMAT, LONG, SHORT_HEAD};
+
+// The head's format.
+pub fn format(s: &[u8]) -> usize
+    requires { 8 ≤ length s.now }
+    ensures { (result ≡ format s.now) × (result < 65536) }
+{
+    u16_at(s, 0)
+}
 
 // The head's count of registry entries.
 pub fn entry_count(s: &[u8]) -> usize
@@ -59,7 +68,7 @@ fn read_head(s: &[u8]) -> Read
     if s.len() < 8 {
         return Read::Refused(SHORT_HEAD);
     }
-    if u16_at(s, 0) != 1 {
+    if !is_known(format(s)) {
         return Read::Refused(FORMAT);
     }
     if 512 < entry_count(s) {
@@ -114,10 +123,10 @@ fn is_laid(s: &[u8], n: usize, from: usize) -> bool
     at == s.len()
 }
 
-// The body of an entry, if it has one.
-fn read_entry(s: &[u8], i: usize) -> Read
+// The body of an entry, if it has one, in a format.
+fn read_entry(format: usize, s: &[u8], i: usize) -> Read
     requires { (8 + 4 * i + 4 ≤ length s.now) × (entryOffset s.now i + entryLength s.now i ≤ length s.now) }
-    ensures { result ≡ skip (entryOf s.now i) }
+    ensures { result ≡ skip (entryOf format s.now i) }
 {
     let len = entry_length(s, i);
     if len == 0 {
@@ -125,17 +134,17 @@ fn read_entry(s: &[u8], i: usize) -> Read
     }
     let offset = entry_offset(s, i);
     let end = offset + len;
-    read_body(&s[offset..end])
+    read_body(format, &s[offset..end])
 }
 
 // The bodies of the n entries, which lie without gaps from a position on.
-fn read_entries(s: &[u8], n: usize, from: usize) -> Read
+fn read_entries(format: usize, s: &[u8], n: usize, from: usize) -> Read
     requires { (8 + 4 * n ≤ length s.now) × (laid n s.now 0 from ≡ true) }
-    ensures { result ≡ skip (entriesOf n s.now 0) }
+    ensures { result ≡ skip (entriesOf format n s.now 0) }
 {
     let mut i: usize = 0;
     while i < n {
-        let step = read_entry(s, i);
+        let step = read_entry(format, s, i);
         let Read::At(_) = step else {
             return step;
         };
@@ -164,5 +173,5 @@ pub(crate) fn read_whole(s: &[u8]) -> Read
     if !is_laid(s, n, bodies_at) {
         return Read::Refused(CONTENTS);
     }
-    read_entries(s, n, bodies_at)
+    read_entries(format(s), s, n, bodies_at)
 }

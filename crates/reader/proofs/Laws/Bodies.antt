@@ -6,6 +6,7 @@ use native.Mathlib.Omega.{arith}
 use borrow.Author.Tests.{eq-eqb, ne_eqb}
 use lib.ListN.{length, get_or}
 use lib.Dec.{eqb}
+use mathlib.Core.Option.{Option}
 use Rattle.image.specs.Schema.{Name, Marks, Decl}
 use Rattle.image.specs.Parse.{Parsed, ok, no, bind, pick, byteAt}
 use Rattle.image.specs.Names.{nameAt}
@@ -44,21 +45,32 @@ module _ {A : Type 0} (p : List ℕ → ℕ → Parsed A) (f : Name → Marks �
     pub marked-rest : {x r : Read} {n : ℕ} → x ≡ At n → x ≡ skip (marksAt s n₁) → r ≡ skip (p s n) → r ≡ skip marked
     marked-rest {n = n} h e q = next _ (got h₁ e₁) (λ _. next _ (got h e) (λ _. q ∙ sym (skip-ok (p s n) _)))
 
+-- a width, and what a parser reads after it: the width refused, or the rest's answer
+module _ {A : Type 0} (p : List ℕ → ℕ → Parsed A) (f : Option ℕ → A → Decl) (s : List ℕ) (q : Parsed (Option ℕ)) where
+  abbrev sized : Parsed Decl
+  sized = bind q (λ w n. bind (p s n) (λ a m. ok (f w a) m))
+
+  pub sized-stop : {x : Read} {k : ℕ} → x ≡ Refused k → x ≡ skip q → x ≡ skip sized
+  sized-stop h e = stop _ _ h e
+
+  pub sized-rest : {x r : Read} {n : ℕ} → x ≡ At n → x ≡ skip q → r ≡ skip (p s n) → r ≡ skip sized
+  sized-rest {n = n} h e r = next _ (got h e) (λ _. r ∙ sym (skip-ok (p s n) _))
+
 -- 5 to 7 have only a name
-pub decl-other : (kind : ℕ) (s : List ℕ) (at : ℕ) → 5 ≤ kind → kind ≤ 7 → skip (nameAt 8 s at) ≡ skip (declAt (kindOf kind) s at)
+pub decl-other : (f kind : ℕ) (s : List ℕ) (at : ℕ) → 5 ≤ kind → kind ≤ 7 → skip (nameAt 8 s at) ≡ skip (declAt f (kindOf kind) s at)
 unfolding kindOf declAt otherAt
-decl-other kind s at lo hi = go (kind - 5) (omega arith) (omega arith)
+decl-other f kind s at lo hi = go (kind - 5) (omega arith) (omega arith)
   where
-    go : (k : ℕ) → kind ≡ 5 + k → k ≤ 2 → skip (nameAt 8 s at) ≡ skip (declAt (kindOf kind) s at)
+    go : (k : ℕ) → kind ≡ 5 + k → k ≤ 2 → skip (nameAt 8 s at) ≡ skip (declAt f (kindOf kind) s at)
     go zero e h = rw e (sym (skip-ok (nameAt 8 s at) _))
     go (suc zero) e h = rw e (sym (skip-ok (nameAt 8 s at) _))
     go (suc (suc zero)) e h = rw e (sym (skip-ok (nameAt 8 s at) _))
     go (suc (suc (suc k))) e h = absurd (omega arith)
 
 -- a kind over 8
-pub decl-unknown : (kind : ℕ) (s : List ℕ) (at : ℕ) → 8 < kind → Refused 6 ≡ skip (declAt (kindOf kind) s at)
+pub decl-unknown : (f kind : ℕ) (s : List ℕ) (at : ℕ) → 8 < kind → Refused 6 ≡ skip (declAt f (kindOf kind) s at)
 unfolding kindOf declAt skip
-decl-unknown kind s at h =
+decl-unknown f kind s at h =
     let e : kind ≡ suc (suc (suc (suc (suc (suc (suc (suc (suc (kind - 9))))))))) = omega arith in
     rw e
 
@@ -72,16 +84,16 @@ unfolding pick skip
 end_whole d s n e = rw (eq-eqb n (length s) e)
 
 -- a body whose kind is there: its declaration refused, bytes left, or whole
-module _ (s : List ℕ) {n : ℕ} (b : There (byteAt 8 s 0) s 0 n) where
-  pub body-stop : {x : Read} {k : ℕ} → x ≡ Refused k → x ≡ skip (declAt (kindOf (get_or s 0 0)) s n) → x ≡ skip (bodyOf s)
+module _ (f : ℕ) (s : List ℕ) {n : ℕ} (b : There (byteAt 8 s 0) s 0 n) where
+  pub body-stop : {x : Read} {k : ℕ} → x ≡ Refused k → x ≡ skip (declAt f (kindOf (get_or s 0 0)) s n) → x ≡ skip (bodyOf f s)
   unfolding bodyOf
   body-stop h e = next-is _ b.is (stop _ _ h e)
 
-  module _ {x : Read} {m : ℕ} (h : x ≡ At m) (e : x ≡ skip (declAt (kindOf (get_or s 0 0)) s n)) where
-    pub body-left : (m ≡ length s → ⊥) → Refused 8 ≡ skip (bodyOf s)
+  module _ {x : Read} {m : ℕ} (h : x ≡ At m) (e : x ≡ skip (declAt f (kindOf (get_or s 0 0)) s n)) where
+    pub body-left : (m ≡ length s → ⊥) → Refused 8 ≡ skip (bodyOf f s)
     unfolding bodyOf
-    body-left f = next-is _ b.is (next _ (got h e) (λ d. end-left d s m f))
+    body-left q = next-is _ b.is (next _ (got h e) (λ d. end-left d s m q))
 
-    pub body-whole : m ≡ length s → At m ≡ skip (bodyOf s)
+    pub body-whole : m ≡ length s → At m ≡ skip (bodyOf f s)
     unfolding bodyOf
     body-whole q = next-is _ b.is (next _ (got h e) (λ d. end_whole d s m q))

@@ -11,11 +11,12 @@ use lib.Dec.{eqb, leb}
 use Rattle.image.specs.Parse.{ok, no, part, pick}
 use Rattle.image.specs.Names.{namesAt}
 use Rattle.image.specs.Bodies.{bodyOf}
+use Rattle.image.specs.Formats.{known}
 use Rattle.image.specs.Image.{format, entryCount, idCount, segmentCount, entryOffset, entryLength, idsAt, segmentsAt, headOf, tablesOf, laid, entryOf, entriesOf, readImage}
 use Rattle.image.specs.Reads.{skip}
 use Rattle.image.specs.declared.Read.{Read}
 use Rattle.image.specs.declared.Read.TheVariants.{At, Refused}
-use Rattle.image.proofs.Laws.Answers.{refused, got, next, stop, skip-ok, pick_true, pick-false}
+use Rattle.image.proofs.Laws.Answers.{refused, got, next, next-is, stop, skip-ok, pick_true, pick-false}
 use Rattle.image.proofs.Laws.Sure.{Sure, sure-ok, sure-need, sure-at, names-sure, head-sure}
 
 -- the head: what each test leaves
@@ -28,20 +29,20 @@ module _ (s : List ℕ) where
   unfolding headOf pick skip
   head-short a h = rw (le-leb (length s) 32768 a, lt-leb 8 (length s) h)
 
-  pub head-format : length s ≤ 32768 → 8 ≤ length s → (format s ≡ 1 → ⊥) → Refused 3 ≡ skip (headOf s)
+  pub head-format : length s ≤ 32768 → 8 ≤ length s → known (format s) ≡ false → Refused 3 ≡ skip (headOf s)
   unfolding headOf pick skip
-  head-format a b h = rw (le-leb (length s) 32768 a, le-leb 8 (length s) b, ne_eqb (format s) 1 h)
+  head-format a b h = rw (le-leb (length s) 32768 a, le-leb 8 (length s) b, h)
 
   -- the tests before the counts
   pub record Formatted : Type 0 where
     pub short : length s ≤ 32768
     pub there : 8 ≤ length s
-    pub one : format s ≡ 1
+    pub known : known (format s) ≡ true
 
   module _ (f : Formatted) where
-    counts : headOf s ≡ pick (leb (entryCount s) 512 && (leb (idCount s) 512 && leb (segmentCount s) 16)) (ok tt 8) (no 4)
+    counts : headOf s ≡ pick (leb (entryCount s) 512 && (leb (idCount s) 512 && leb (segmentCount s) 16)) (ok (format s) 8) (no 4)
     unfolding headOf pick
-    counts = rw (le-leb (length s) 32768 f.short, le-leb 8 (length s) f.there, eq-eqb (format s) 1 f.one)
+    counts = rw (le-leb (length s) 32768 f.short, le-leb 8 (length s) f.there, f.known)
 
     pub crowded-entries : 512 < entryCount s → Refused 4 ≡ skip (headOf s)
     unfolding pick skip
@@ -62,6 +63,12 @@ module _ (s : List ℕ) where
 -- a head that was read
 pub head-there : (s : List ℕ) {x : Read} {n : ℕ} → x ≡ At n → x ≡ skip (headOf s) → 8 ≤ length s
 head-there s h e = (sure-at (head-sure s) h e).2.least
+
+-- gives the format
+pub head-is : (s : List ℕ) {x : Read} {n f : ℕ} → x ≡ At n → x ≡ skip (headOf s) → f ≡ format s → headOf s ≡ ok f n
+head-is s {n = n} h e q =
+    let (a, p, k) = sure-at (head-sure s) h e in
+    p ∙ ap (λ v. ok v n) (k.format ∙ sym q)
 
 -- the contents and the ids
 tables-sure : (s : List ℕ) → Sure (λ a n. (8 + 4 * entryCount s ≤ length s) × (n ≤ length s)) (tablesOf s)
@@ -169,40 +176,40 @@ unfolding part
 entry-part s {o} {l} e f = ap₂ take (add-sub_cancel_left o l ∙ f) (ap (λ (k : ℕ). drop k s) e)
 
 -- one entry: empty, or its body's answer
-module _ (s : List ℕ) (i : ℕ) {l : ℕ} (e : l ≡ entryLength s i) where
-  pub entry-empty : l ≡ 0 → At 0 ≡ skip (entryOf s i)
+module _ (f : ℕ) (s : List ℕ) (i : ℕ) {l : ℕ} (e : l ≡ entryLength s i) where
+  pub entry-empty : l ≡ 0 → At 0 ≡ skip (entryOf f s i)
   unfolding entryOf pick skip
   entry-empty z = rw (← e, z)
 
-  pub entry-body : {o : ℕ} {x : Read} → (l ≡ 0 → ⊥) → o ≡ entryOffset s i → x ≡ skip (bodyOf (take (o + l - o) (drop o s)))
-      → x ≡ skip (entryOf s i)
+  pub entry-body : {o : ℕ} {x : Read} → (l ≡ 0 → ⊥) → o ≡ entryOffset s i → x ≡ skip (bodyOf f (take (o + l - o) (drop o s)))
+      → x ≡ skip (entryOf f s i)
   unfolding entryOf pick
-  entry-body f d q =
-      rw (ne_eqb (entryLength s i) 0 (λ z. f (e ∙ z))) (q ∙ ap (λ (b : List ℕ). skip (bodyOf b)) (entry-part s d e) ∙ sym (skip-ok _ _))
+  entry-body g d q =
+      rw (ne_eqb (entryLength s i) 0 (λ z. g (e ∙ z))) (q ∙ ap (λ (b : List ℕ). skip (bodyOf f b)) (entry-part s d e) ∙ sym (skip-ok _ _))
 
 -- the entries from the i-th of n on
-module _ (n : ℕ) (s : List ℕ) (i : ℕ) where
-  pub entries-done : n ≤ i → At (length s) ≡ skip (entriesOf (n - i) s i)
+module _ (f n : ℕ) (s : List ℕ) (i : ℕ) where
+  pub entries-done : n ≤ i → At (length s) ≡ skip (entriesOf f (n - i) s i)
   unfolding entriesOf skip
   entries-done h =
       let z : n - i ≡ 0 = omega arith in
       rw z
 
-  pub entries-stop : {x : Read} {k : ℕ} → i < n → x ≡ Refused k → x ≡ skip (entryOf s i) → x ≡ skip (entriesOf (n - i) s i)
+  pub entries-stop : {x : Read} {k : ℕ} → i < n → x ≡ Refused k → x ≡ skip (entryOf f s i) → x ≡ skip (entriesOf f (n - i) s i)
   unfolding entriesOf
   entries-stop p h e =
       let z : n - i ≡ suc (n - (i + 1)) = omega arith in
-      rw z (stop (entryOf s i) _ h e)
+      rw z (stop (entryOf f s i) _ h e)
 
-  pub entries-more : {x : Read} {m : ℕ} → i < n → x ≡ At m → x ≡ skip (entryOf s i)
-      → skip (entriesOf (n - (i + 1)) s (i + 1)) ≡ skip (entriesOf (n - i) s i)
+  pub entries-more : {x : Read} {m : ℕ} → i < n → x ≡ At m → x ≡ skip (entryOf f s i)
+      → skip (entriesOf f (n - (i + 1)) s (i + 1)) ≡ skip (entriesOf f (n - i) s i)
   unfolding entriesOf
   entries-more p h e =
       let z : n - i ≡ suc (n - (i + 1)) = omega arith in
-      rw z (next _ (got h e) (λ _. sym (skip-ok (entriesOf (n - (i + 1)) s (i + 1)) _)))
+      rw z (next _ (got h e) (λ _. sym (skip-ok (entriesOf f (n - (i + 1)) s (i + 1)) _)))
 
-pub entries-start : (n : ℕ) (s : List ℕ) → skip (entriesOf (n - 0) s 0) ≡ skip (entriesOf n s 0)
-entries-start n s =
+pub entries-start : (f n : ℕ) (s : List ℕ) → skip (entriesOf f (n - 0) s 0) ≡ skip (entriesOf f n s 0)
+entries-start f n s =
     let z : n - 0 ≡ n = omega arith in
     rw z
 
@@ -234,10 +241,10 @@ module _ (s : List ℕ) where
             next _ (got h₃ (names-as e₃)) (λ _.
             pick-false _ _ _ (rw em at l) (refused _ 5))))
 
-        pub image-entries : {r : Read} → laid m s 0 n₃ ≡ true → r ≡ skip (entriesOf m s 0) → r ≡ skip (readImage s)
+        pub image-entries : {r : Read} {f : ℕ} → f ≡ format s → laid m s 0 n₃ ≡ true → r ≡ skip (entriesOf f m s 0) → r ≡ skip (readImage s)
         unfolding readImage
-        image-entries l q =
-            next _ (got h₁ e₁) (λ _.
+        image-entries ef l q =
+            next-is _ (head-is s h₁ e₁ ef) (
             next _ (got h₂ e₂) (λ _.
             next _ (got h₃ (names-as e₃)) (λ _.
             pick_true _ _ _ (rw em at l) ((rw em at q) ∙ sym (skip-ok _ _)))))

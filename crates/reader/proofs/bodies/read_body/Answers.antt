@@ -15,11 +15,11 @@ bounds-s-0 c = (byte-there 8 _ _ c.in-At.is c.read_byte-kind.ensures).inside
 
 pub returns-in_default-decl : goal.returns-in_default-decl
 returns-in_default-decl c =
-    body-stop _ (byte-there 8 _ _ c.in-At.is c.read_byte-kind.ensures) c.in_default-decl.is c.read_decl-decl.ensures
+    body-stop _ _ (byte-there 8 _ _ c.in-At.is c.read_byte-kind.ensures) c.in_default-decl.is c.read_decl-decl.ensures
 
 pub returns-then-end-s : goal.returns-then-end-s
 returns-then-end-s c =
-    body-left _ (byte-there 8 _ _ c.in-At.is c.read_byte-kind.ensures) c.in-At-decl.is c.read_decl-decl.ensures c.if-end-s.true
+    body-left _ _ (byte-there 8 _ _ c.in-At.is c.read_byte-kind.ensures) c.in-At-decl.is c.read_decl-decl.ensures c.if-end-s.true
 
 pub returns : goal.returns
-returns c = body-whole _ (byte-there 8 _ _ c.in-At.is c.read_byte-kind.ensures) c.in-At-decl.is c.read_decl-decl.ensures c.if-end-s.false
+returns c = body-whole _ _ (byte-there 8 _ _ c.in-At.is c.read_byte-kind.ensures) c.in-At-decl.is c.read_decl-decl.ensures c.if-end-s.false

@@ -31,7 +31,7 @@ unfolding kindOf declAt implAt skip
 returns-in-8 c = rw c.in-8.is
 
 pub returns-in-5 : goal.returns-in-5
-returns-in-5 c = c.read_name.ensures ∙ decl-other _ _ _ (omega arith) (omega arith)
+returns-in-5 c = c.read_name.ensures ∙ decl-other _ _ _ _ (omega arith) (omega arith)
 
 pub returns-in_default : goal.returns-in_default
-returns-in_default c = decl-unknown _ _ _ (omega arith)
+returns-in_default c = decl-unknown _ _ _ _ (omega arith)

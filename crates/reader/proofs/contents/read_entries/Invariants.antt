@@ -5,7 +5,7 @@ use Rattle.image.specs.Reads.{skip}
 use Rattle.reader.proofs.contents.read_entries.Given as goal
 
 abbrev pub invariant-loop-i : goal.invariant-loop-i
-invariant-loop-i l = (l.i ≤ l.n) × (skip (entriesOf (l.n - l.i) l.s l.i) ≡ skip (entriesOf l.n l.s 0))
+invariant-loop-i l = (l.i ≤ l.n) × (skip (entriesOf l.format (l.n - l.i) l.s l.i) ≡ skip (entriesOf l.format l.n l.s 0))
 
 abbrev pub decreases-loop-i : goal.decreases-loop-i
 decreases-loop-i l = l.n - l.i

@@ -1,6 +1,7 @@
 -- `reader::contents::read_head` meets its contract: each test that is passed is one of `headOf`. Assumes nothing.
-use Rattle.std.proofs.Common.{arith, ◌≡◌, ◌≤◌, ℕ, List, length, sym, ◌∙◌}
-use Rattle.image.specs.Image.{u16At, format}
+use Rattle.std.proofs.Common.{arith, ap, Bool, true, ◌≡◌, ◌≤◌, ℕ, List, length, sym, ◌∙◌}
+use Rattle.image.specs.Formats.{known}
+use Rattle.image.specs.Image.{format}
 use Rattle.reader.proofs.Laws.Contents.{Formatted, head-long, head-short, head-format, crowded-entries, crowded-ids, crowded-segments, head-good}
 use Rattle.reader.proofs.contents.read_head.Goals as goal
 
@@ -10,40 +11,35 @@ returns-then-s-gt32768 c = head-long _ c.if-s-gt32768.true
 pub returns-then-s-lt8 : goal.returns-then-s-lt8
 returns-then-s-lt8 c = head-short _ c.if-s-gt32768.false c.if-s-lt8.true
 
-pub returns-then-u16_at-ne1 : goal.returns-then-u16_at-ne1
-unfolding format u16At
-returns-then-u16_at-ne1 c =
-    head-format _ c.if-s-gt32768.false c.if-s-lt8.false (λ z. c.if-u16_at-ne1.true (c.u16_at.ensures.0 ∙ z))
+pub returns-then-not-is_known : goal.returns-then-not-is_known
+returns-then-not-is_known c =
+    head-format _ c.if-s-gt32768.false c.if-s-lt8.false (ap known (sym c.format.ensures.0) ∙ sym c.is_known.ensures ∙ c.if-not-is_known.true)
 
 -- the tests before the counts are passed
-formatted : (s : List ℕ) {n : ℕ} → length s ≤ 32768 → 8 ≤ length s → n ≡ format s → n ≡ 1 → Formatted s
-formatted s a b e o = record { short = a; there = b; one = sym e ∙ o }
+formatted : (s : List ℕ) {n : ℕ} {k : Bool} → length s ≤ 32768 → 8 ≤ length s → n ≡ format s → k ≡ known n → k ≡ true → Formatted s
+formatted s a b e k o = record { short = a; there = b; known = ap known (sym e) ∙ sym k ∙ o }
 
 pub returns-then-entry_count-gt512 : goal.returns-then-entry_count-gt512
-unfolding format u16At
 returns-then-entry_count-gt512 c =
     let e = c.entry_count.ensures.0 in
-    crowded-entries _ (formatted _ c.if-s-gt32768.false c.if-s-lt8.false c.u16_at.ensures.0 c.if-u16_at-ne1.false) (omega arith)
+    crowded-entries _ (formatted _ c.if-s-gt32768.false c.if-s-lt8.false c.format.ensures.0 c.is_known.ensures c.if-not-is_known.false) (omega arith)
 
 pub returns-then-id_count-gt512 : goal.returns-then-id_count-gt512
-unfolding format u16At
 returns-then-id_count-gt512 c =
     let e = c.entry_count.ensures.0 in
     let i = c.id_count.ensures.0 in
-    crowded-ids _ (formatted _ c.if-s-gt32768.false c.if-s-lt8.false c.u16_at.ensures.0 c.if-u16_at-ne1.false) (omega arith) (omega arith)
+    crowded-ids _ (formatted _ c.if-s-gt32768.false c.if-s-lt8.false c.format.ensures.0 c.is_known.ensures c.if-not-is_known.false) (omega arith) (omega arith)
 
 pub returns-then-segment_count-gt16 : goal.returns-then-segment_count-gt16
-unfolding format u16At
 returns-then-segment_count-gt16 c =
     let e = c.entry_count.ensures.0 in
     let i = c.id_count.ensures.0 in
     let g = c.segment_count.ensures.0 in
-    crowded-segments _ (formatted _ c.if-s-gt32768.false c.if-s-lt8.false c.u16_at.ensures.0 c.if-u16_at-ne1.false) (omega arith) (omega arith) (omega arith)
+    crowded-segments _ (formatted _ c.if-s-gt32768.false c.if-s-lt8.false c.format.ensures.0 c.is_known.ensures c.if-not-is_known.false) (omega arith) (omega arith) (omega arith)
 
 pub returns : goal.returns
-unfolding format u16At
 returns c =
     let e = c.entry_count.ensures.0 in
     let i = c.id_count.ensures.0 in
     let g = c.segment_count.ensures.0 in
-    head-good _ (formatted _ c.if-s-gt32768.false c.if-s-lt8.false c.u16_at.ensures.0 c.if-u16_at-ne1.false) (omega arith) (omega arith) (omega arith)
+    head-good _ (formatted _ c.if-s-gt32768.false c.if-s-lt8.false c.format.ensures.0 c.is_known.ensures c.if-not-is_known.false) (omega arith) (omega arith) (omega arith)

@@ -38,7 +38,10 @@ read_entries-requires c =
     let e = c.entry_count-n.ensures.0 in
     (omega arith, sym c.is_laid.ensures ∙ c.if-not-is_laid.false)
 
+pub format-requires : goal.format-requires
+format-requires c = head-there _ c.in-At.is c.read_head-head.ensures
+
 pub returns : goal.returns
 returns c =
     image-entries _ c.in-At.is c.read_head-head.ensures c.in-At-tables.is c.read_tables-tables.ensures c.segment_count.ensures.0 c.in-At-names.is c.read_names-names.ensures c.entry_count-n.ensures.0
-    (sym c.is_laid.ensures ∙ c.if-not-is_laid.false) c.read_entries.ensures
+    c.format.ensures.0 (sym c.is_laid.ensures ∙ c.if-not-is_laid.false) c.read_entries.ensures
