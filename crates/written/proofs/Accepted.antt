@@ -1,5 +1,5 @@
 -- Every image that is accepted is what is written of a schema within the limits: the one that it holds. Assumes nothing.
-use mathlib.Core.Path.{◌≡◌, refl, sym, ap, subst, ◌∙◌}
+use mathlib.Core.Path.{◌≡◌, refl, sym, ap, ◌∙◌}
 use mathlib.Core.Logic.{◌↔◌}
 use mathlib.Core.Bool.{Bool, true}
 use mathlib.Core.Option.{Option, none, some}
@@ -13,28 +13,29 @@ use lib.ListN.{length}
 use Rattle.image.specs.Schema.{Name, Decl, Schema}
 use Rattle.image.specs.Parse.{ok, part}
 use Rattle.image.specs.Names.{nameAt, namesAt}
-use Rattle.image.specs.Image.{u16At, format, entryCount, idCount, segmentCount, entryOffset, entryLength, idsAt, segmentsAt, idsFrom, tablesOf, entryOf, entriesOf, readImage}
+use Rattle.image.specs.Image.{u16At, format, entryCount, idCount, segmentCount, entryOffset, entryLength, idsAt, segmentsAt, idsFrom, headOf, tablesOf, entryOf, entriesOf, readImage}
 use Rattle.refusals.specs.Refusals.{Head, bodyStart, Placed}
 use Rattle.written.specs.Writer.{digits, writeEach, writeName, writeBody, writeEntry, writeContents, writeHead, bodiesAt, write}
 use Rattle.written.specs.Limits.{Each, end, also, Byte, U32, NameWithin, DeclWithin, EntryWithin, empty, full, Within}
 use Rattle.maps.proofs.Tests.{no_both}
-use Rattle.refusals.proofs.Told.{Told, told-ok, told-no, told-bind, told-pick, told-then, told-both}
+use Rattle.refusals.proofs.Told.{Told, told-ok, told-no, told-bind, told-pick, told-both}
 use Rattle.refusals.proofs.Places.{Laid, good, wrong, placed-empty, placed-full}
 use Rattle.refusals.proofs.Refusals.{head-told, names-told, fits_told}
 use Rattle.written.proofs.Runs.{Run, run_none, run_join, run-whole, Free, Keeps, each_part, part_length, part-run, number-run, number_is, name-keeps, each_keeps}
 use Rattle.written.proofs.ItemRuns.{body-keeps}
+use Rattle.written.proofs.Formats.{format-known}
 use Rattle.written.proofs.Whole.{written_read}
 
 -- an entry as the contents have it
 data Entry (s : List ℕ) (i : ℕ) : Option Decl → Type 0 where
   none_here : entryOffset s i ≡ 0 → entryLength s i ≡ 0 → Entry s i none
-  some-here : {d : Decl} → DeclWithin d → entryOffset s i ≡ bodyStart s i → entryLength s i ≡ length (writeBody d)
+  some-here : {d : Decl} → DeclWithin (format s) d → entryOffset s i ≡ bodyStart s i → entryLength s i ≡ length (writeBody d)
       → Run s (bodyStart s i) (bodyStart s (suc i)) (writeBody d) → Entry s i (some d)
 
 -- the entries from the i-th on
 record Entries (s : List ℕ) (i : ℕ) (es : List (Option Decl)) : Type 0 where
   pub count : i + length es ≡ entryCount s
-  pub within : Each EntryWithin es
+  pub within : Each (EntryWithin (format s)) es
   pub contents : Run s (8 + 4 * i) (8 + 4 * entryCount s) (writeContents es (bodyStart s i))
   pub bodies : Run s (bodyStart s i) (bodyStart s (entryCount s)) (writeEach writeEntry es)
 
@@ -54,17 +55,18 @@ all_placed (good h e) t = (h, e)
 all_placed (wrong m) t = no_both t refl
 
 module _ (s : List ℕ) (bytes : Each Byte s) where
-  entry-keeps : (i : ℕ) → Placed s i → Told (λ e n. Entry s i e) Free (entryOf s i)
+  entry-keeps : (i : ℕ) → Placed s i → Told (λ e n. Entry s i e) Free (entryOf (format s) s i)
   unfolding entryOf bodyStart
   entry-keeps i p =
       told-pick _
       (λ h. let z = eqb-true _ _ h in told-ok (none_here (placed-empty p z) z))
-      (λ h. told-bind _ (body-keeps body (each_part (entryOffset s i) (entryLength s i) s bytes)) (λ d n q. told-ok (there d (eqb-false _ _ h) q)))
+      (λ h. told-bind _ (body-keeps body (each_part (entryOffset s i) (entryLength s i) s bytes) (format s)) (λ d n q.
+      told-ok (there d (eqb-false _ _ h) q)))
     where
       body : List ℕ
       body = part (entryOffset s i) (entryLength s i) s
 
-      there : (d : Decl) → ¬ (entryLength s i ≡ 0) → DeclWithin d × (body ≡ writeBody d) → Entry s i (some d)
+      there : (d : Decl) → ¬ (entryLength s i ≡ 0) → DeclWithin (format s) d × (body ≡ writeBody d) → Entry s i (some d)
       there d z q =
           let f = placed-full p z in
           let fits : bodyStart s i + entryLength s i ≤ length s = f.1 in
@@ -119,7 +121,7 @@ module _ (s : List ℕ) (bytes : Each Byte s) where
   entries_none h g = record { count = add-zero (entryCount s); within = end; contents = run_none h; bodies = run_none g }
 
   entries-keep : (count i : ℕ) → i + count ≡ entryCount s → 8 + 4 * entryCount s ≤ length s → bodyStart s (entryCount s) ≤ length s
-      → ((j : ℕ) → i ≤ j → j < entryCount s → Placed s j) → Told (λ es n. Entries s i es × (n ≡ length s)) Free (entriesOf count s i)
+      → ((j : ℕ) → i ≤ j → j < entryCount s → Placed s j) → Told (λ es n. Entries s i es × (n ≡ length s)) Free (entriesOf (format s) count s i)
   unfolding entriesOf
   entries-keep zero i e h g placed = let z : i ≡ entryCount s = omega arith in let r : Entries s i [] = rw z (entries_none h g) in told-ok (r, refl)
   entries-keep (suc count) i e h g placed =
@@ -146,14 +148,24 @@ module _ (s : List ℕ) (bytes : Each Byte s) where
       run_join (digits 4 _) _ (number-run s bytes 4 at (omega arith)) (rw e at (ids-run count (at + 4) (omega arith)))
 
   -- the head
-  head-run : Head s → Run s 0 8 (digits 2 1 ++ (digits 2 (entryCount s) ++ (digits 2 (idCount s) ++ digits 2 (segmentCount s))))
+  head-run : Head s → Run s 0 8 (digits 2 (format s) ++ (digits 2 (entryCount s) ++ (digits 2 (idCount s) ++ digits 2 (segmentCount s))))
   unfolding format entryCount idCount segmentCount u16At
   head-run h =
       let l = h.eight.there in
-      let f : Run s 0 2 (digits 2 (format s)) = number-run s bytes 2 0 (omega arith) in
-      run_join (digits 2 1) _ (subst (λ (v : ℕ). Run s 0 2 (digits 2 v)) h.one f)
+      run_join (digits 2 (format s)) _ (number-run s bytes 2 0 (omega arith))
       (run_join (digits 2 (entryCount s)) _ (number-run s bytes 2 2 (omega arith))
       (run_join (digits 2 (idCount s)) (digits 2 (segmentCount s)) (number-run s bytes 2 4 (omega arith)) (number-run s bytes 2 6 (omega arith))))
+
+  head-gives : Told (λ f n. f ≡ format s) Free (headOf s)
+  unfolding headOf
+  head-gives =
+      told-pick _
+      (λ a. told-pick _
+      (λ b. told-pick _
+      (λ c. told-pick _ (λ d. told-ok refl) (λ d. told-no tt))
+      (λ c. told-no tt))
+      (λ b. told-no tt))
+      (λ a. told-no tt)
 
   names-keep : (count at : ℕ) → at ≤ length s
       → Keeps (λ xs. (length xs ≡ count) × Each NameWithin xs) (writeEach writeName) s at (namesAt 2 count s at)
@@ -167,7 +179,7 @@ module _ (s : List ℕ) (bytes : Each Byte s) where
   -- All that was read stands one after the other, and is the whole image.
   module _ (xs : List Name) (es : List (Option Decl)) (r : Parts s xs es) where
     held : Schema
-    held = record { registry = es; ids = idsFrom (idCount s) s (idsAt s); namespace = xs }
+    held = record { format = format s; registry = es; ids = idsFrom (idCount s) s (idsAt s); namespace = xs }
 
     entries-all : length es ≡ entryCount s
     entries-all = omega (arith, r.entries.count)
@@ -197,6 +209,7 @@ module _ (s : List ℕ) (bytes : Each Byte s) where
     unfolding held
     is_within =
         record {
+          format = format-known r.head.known;
           entryCount = rw entries-all r.head.entries;
           idCount = rw (ids-count (idCount s) (idsAt s)) r.head.ids;
           segmentCount = rw r.count r.head.segments;
@@ -212,17 +225,18 @@ module _ (s : List ℕ) (bytes : Each Byte s) where
   image-keeps : Told Holds Free (readImage s)
   unfolding Holds readImage bodyStart held segmentsAt idsAt
   image-keeps =
-      told-bind _ (told-then (head-told s) (λ u n h. h) (λ k g. tt)) (λ u n₁ h.
+      told-bind _ (told-both (head-told s) head-gives) (λ f n₁ h.
       told-bind _ tables-keep (λ is n₂ t.
       told-bind _ (told-both (names-told s n₂ t.2) (names-keep (segmentCount s) n₂ (rw t.2 t.0))) (λ xs n₃ e.
       told-pick _
-      (λ f.
-      let p = all_placed (fits_told s (record { head = h; inside = t.0; segments = e.0.0 })) (rw e.0.1 at f) in
+      (λ l.
+      let p = all_placed (fits_told s (record { head = h.0; inside = t.0; segments = e.0.0 })) (rw e.0.1 at l) in
       let last : bodyStart s (entryCount s) ≤ length s = omega (arith, p.1) in
-      told-bind _ (entries-keep (entryCount s) 0 (omega arith) (omega (arith, t.0)) last p.0) (λ es n₄ k.
+      told-bind {P = λ es n. Entries s 0 es × (n ≡ length s)} _
+      (rw h.1 (entries-keep (entryCount s) 0 (omega arith) (omega (arith, t.0)) last p.0)) (λ es n₄ k.
       let r : Parts s xs es =
       record {
-        head = h;
+        head = h.0;
         inside = t.0;
         count = e.1.0.0;
         within = e.1.0.1;
@@ -230,10 +244,10 @@ module _ (s : List ℕ) (bytes : Each Byte s) where
         ends = p.1;
         entries = k.0;
       } in
-      told-ok (rw t.1 (is_within xs es r, is-written xs es r, k.1))))
-      (λ f. told-no tt))))
+      told-ok (rw (t.1, h.1) (is_within xs es r, is-written xs es r, k.1))))
+      (λ l. told-no tt))))
 
--- A list of bytes is accepted and holds x exactly if x is within 01's limits and the list is what is written of x.
+-- A list of bytes is accepted and holds x exactly if x is within the limits and the list is what is written of x.
 pub accepted-exactly : (s : List ℕ) → Each Byte s → (x : Schema) (n : ℕ) → (readImage s ≡ ok x n) ↔ (Within x × (s ≡ write x) × (n ≡ length s))
 unfolding Holds
 accepted-exactly s bytes x n = (λ e. told (rw e at (image-keeps s bytes)), back)

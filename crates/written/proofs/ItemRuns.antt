@@ -1,18 +1,22 @@
--- What is read as marks, an encoding, a limit, a field, a variant or a body is within the limits, and its bytes stand where it was read.
--- Assumes nothing.
+-- What is read as marks, an encoding, a limit, a width, a field, a variant or a body is within the limits, and its bytes stand where it was
+-- read. Assumes nothing.
 use mathlib.Core.Path.{◌≡◌, refl}
+use mathlib.Core.Bool.{Bool, true, false, ◌||◌}
 use mathlib.Core.List.{List, [], ◌∷◌}
 use Prim.Native.Nat.{ℕ, zero, suc, ◌≤◌}
 use native.Mathlib.Omega.{arith}
 use borrow.Author.Tests.{eqb-true, eqb-false}
+use lib.Dec.{eqb}
 use lib.ListN.{length}
 use Rattle.image.specs.Schema.{Decl}
+use Rattle.image.specs.Parse.{Parsed}
 use Rattle.image.specs.Fields.{marksOf, marksAt, plain, delta, encodingOf, encodingAt, limitAt, fieldAt, bareAt, variantAt}
 use Rattle.image.specs.Kinds.{Kind, kindOf}
+use Rattle.image.specs.Widths.{wireBitsAt, wireBytes, wireBytesAt, widthAt}
 use Rattle.image.specs.Bodies.{messageAt, enumAt, flagsAt, unionAt, newtypeAt, otherAt, implAt, declAt, bodyOf}
 use Rattle.image.proofs.Laws.Kinds.{Says, says}
-use Rattle.written.specs.Writer.{digits, writeCounted, writeName, bit, marksByte, writeEncoding, writeLimit, writeType, writeField, writeBare, writeVariant, writeDecl, writeBody}
-use Rattle.written.specs.Limits.{Each, Byte, EncodingWithin, LimitWithin, free, most, FieldWithin, BareWithin, VariantWithin, DeclWithin, message, enum, flags, union, newtype, config, alias, trait, impl}
+use Rattle.written.specs.Writer.{digits, writeCounted, writeName, bit, marksByte, writeEncoding, writeLimit, writeType, writeField, writeBare, writeVariant, writeWidth, writeDecl, writeBody}
+use Rattle.written.specs.Limits.{Each, Byte, EncodingWithin, LimitWithin, free, most, FieldWithin, BareWithin, VariantWithin, WidthWithin, absent, stored, WireBytes, inOne, inTwo, inFour, inEight, DeclWithin, message, enum, flags, union, newtype, config, alias, trait, impl}
 use Rattle.refusals.proofs.Told.{Told, told-ok, told-no, told-bind, told-pick, told-then}
 use Rattle.written.proofs.Runs.{Run, run_none, run_inside, run_join, run-whole, Free, Keeps, byte-keeps, code-keeps, number-keeps, name-keeps, counted-keeps}
 use Rattle.written.proofs.TreeRuns.{typeAt-keeps}
@@ -27,6 +31,16 @@ byte-marks (suc (suc (suc (suc b)))) h = absurd (omega arith)
 
 below : (b : ℕ) → b ≤ 3 → ¬ (b ≡ 3) → b ≤ 2
 below b h d = omega arith
+
+four-only : (b : ℕ) → wireBytes b ≡ true → WireBytes b
+unfolding wireBytes
+four-only b e = go (eqb b 1) (eqb b 2) (eqb b 4) refl refl refl e
+  where
+    go : (x y z : Bool) → eqb b 1 ≡ x → eqb b 2 ≡ y → eqb b 4 ≡ z → (x || (y || (z || eqb b 8))) ≡ true → WireBytes b
+    go true y z p q r e = rw (eqb-true b 1 p) inOne
+    go false true z p q r e = rw (eqb-true b 2 q) inTwo
+    go false false true p q r e = rw (eqb-true b 4 r) inFour
+    go false false false p q r e = rw (eqb-true b 8 e) inEight
 
 module _ (s : List ℕ) (bytes : Each Byte s) where
   marks-keeps : (at : ℕ) → Keeps (λ m. Unit {0}) (λ m. marksByte m ∷ []) s at (marksAt s at)
@@ -64,6 +78,24 @@ module _ (s : List ℕ) (bytes : Each Byte s) where
       one : (b : ℕ) → b ≤ 1 → ¬ (b ≡ 0) → b ≡ 1
       one b h d = omega arith
 
+  -- a width, in a format that has none and in one that stores it
+  width-keeps : (f : ℕ) (wire : List ℕ → ℕ → Parsed ℕ) (P : ℕ → Type 0) → ((at : ℕ) → Keeps P (λ w. w ∷ []) s at (wire s at)) → (at : ℕ)
+      → at ≤ length s → Keeps (WidthWithin f P) writeWidth s at (widthAt f wire s at)
+  unfolding widthAt writeWidth
+  width-keeps f wire P keeps at h =
+      told-pick _
+      (λ e. told-bind _ (keeps at) (λ w n q. told-ok (stored e q.0, q.1)))
+      (λ e. told-ok (absent e, run_none h))
+
+  bits-keeps : (at : ℕ) → Keeps Byte (λ w. w ∷ []) s at (wireBitsAt s at)
+  unfolding wireBitsAt
+  bits-keeps at = byte-keeps s bytes 8 at
+
+  bytes-keeps : (at : ℕ) → Keeps WireBytes (λ w. w ∷ []) s at (wireBytesAt s at)
+  unfolding wireBytesAt
+  bytes-keeps at =
+      told-bind _ (byte-keeps s bytes 8 at) (λ w n q. told-pick _ (λ e. told-ok (four-only w e, q.1)) (λ e. told-no tt))
+
   field-keeps : (at : ℕ) → Keeps FieldWithin writeField s at (fieldAt s at)
   unfolding fieldAt writeField
   field-keeps at =
@@ -100,44 +132,50 @@ module _ (s : List ℕ) (bytes : Each Byte s) where
       ))))
 
   -- what follows a kind
-  Declared : ℕ → ℕ → Decl → ℕ → Type 0
-  Declared kind at d n = (d.kind ≡ kind) × DeclWithin d × Run s at n (writeDecl (kindOf d.kind) d)
+  Declared : ℕ → ℕ → ℕ → Decl → ℕ → Type 0
+  Declared f kind at d n = (d.kind ≡ kind) × DeclWithin f d × Run s at n (writeDecl (kindOf d.kind) d)
 
-  decl-keeps : {kind : ℕ} {k : Kind} → Says kind k → (at : ℕ) → at ≤ length s → Told (Declared kind at) Free (declAt k s at)
+  decl-keeps : (f : ℕ) {kind : ℕ} {k : Kind} → Says kind k → (at : ℕ) → at ≤ length s → Told (Declared f kind at) Free (declAt f k s at)
   unfolding kindOf Declared declAt messageAt enumAt flagsAt unionAt newtypeAt otherAt implAt writeDecl
-  decl-keeps Says.message at h =
+  decl-keeps f Says.message at h =
       told-bind _ (name-keeps s bytes 8 at) (λ x n₁ q₁.
       told-bind _ (marks-keeps n₁) (λ m n₂ q₂.
       told-bind _ (counted-keeps s bytes fieldAt writeField FieldWithin field-keeps n₂) (λ fs n₃ q₃.
       told-ok (refl, message q₁.0 q₃.0.0 q₃.0.1, run_join (writeName x) _ q₁.1 (run_join (marksByte m ∷ []) _ q₂.1 q₃.1)))))
-  decl-keeps Says.enum at h =
+  decl-keeps f Says.enum at h =
       told-bind _ (name-keeps s bytes 8 at) (λ x n₁ q₁.
       told-bind _ (marks-keeps n₁) (λ m n₂ q₂.
-      told-bind _ (counted-keeps s bytes bareAt writeBare BareWithin bare-keeps n₂) (λ vs n₃ q₃.
-      told-ok (refl, enum q₁.0 q₃.0.0 q₃.0.1, run_join (writeName x) _ q₁.1 (run_join (marksByte m ∷ []) _ q₂.1 q₃.1)))))
-  decl-keeps Says.flags at h =
+      told-bind _ (width-keeps f wireBitsAt Byte bits-keeps n₂ (run_inside q₂.1)) (λ w n₃ q₃.
+      told-bind _ (counted-keeps s bytes bareAt writeBare BareWithin bare-keeps n₃) (λ vs n₄ q₄.
+      told-ok (
+        refl,
+        enum q₁.0 q₃.0 q₄.0.0 q₄.0.1,
+        run_join (writeName x) _ q₁.1 (run_join (marksByte m ∷ []) _ q₂.1 (run_join (writeWidth w) _ q₃.1 q₄.1)),
+      )))))
+  decl-keeps f Says.flags at h =
       told-bind _ (name-keeps s bytes 8 at) (λ x n₁ q₁.
-      told-bind _ (counted-keeps s bytes bareAt writeBare BareWithin bare-keeps n₁) (λ vs n₂ q₂.
-      told-ok (refl, flags q₁.0 q₂.0.0 q₂.0.1, run_join (writeName x) _ q₁.1 q₂.1)))
-  decl-keeps Says.union at h =
+      told-bind _ (width-keeps f wireBytesAt WireBytes bytes-keeps n₁ (run_inside q₁.1)) (λ w n₂ q₂.
+      told-bind _ (counted-keeps s bytes bareAt writeBare BareWithin bare-keeps n₂) (λ vs n₃ q₃.
+      told-ok (refl, flags q₁.0 q₂.0 q₃.0.0 q₃.0.1, run_join (writeName x) _ q₁.1 (run_join (writeWidth w) _ q₂.1 q₃.1)))))
+  decl-keeps f Says.union at h =
       told-bind _ (name-keeps s bytes 8 at) (λ x n₁ q₁.
       told-bind _ (counted-keeps s bytes variantAt writeVariant VariantWithin variant-keeps n₁) (λ vs n₂ q₂.
       told-ok (refl, union q₁.0 q₂.0.0 q₂.0.1, run_join (writeName x) _ q₁.1 q₂.1)))
-  decl-keeps Says.newtype at h =
+  decl-keeps f Says.newtype at h =
       told-bind _ (name-keeps s bytes 8 at) (λ x n₁ q₁.
       told-bind _ (typeAt-keeps s bytes n₁ (run_inside q₁.1)) (λ t n₂ q₂.
       told-ok (refl, newtype q₁.0 q₂.0, run_join (writeName x) _ q₁.1 q₂.1)))
-  decl-keeps Says.config at h = told-bind _ (name-keeps s bytes 8 at) (λ x n q. told-ok (refl, config q.0, q.1))
-  decl-keeps Says.alias at h = told-bind _ (name-keeps s bytes 8 at) (λ x n q. told-ok (refl, alias q.0, q.1))
-  decl-keeps Says.trait at h = told-bind _ (name-keeps s bytes 8 at) (λ x n q. told-ok (refl, trait q.0, q.1))
-  decl-keeps Says.impl at h = told-ok (refl, impl, run_none h)
-  decl-keeps (Says.other _ _) at h = told-no tt
+  decl-keeps f Says.config at h = told-bind _ (name-keeps s bytes 8 at) (λ x n q. told-ok (refl, config q.0, q.1))
+  decl-keeps f Says.alias at h = told-bind _ (name-keeps s bytes 8 at) (λ x n q. told-ok (refl, alias q.0, q.1))
+  decl-keeps f Says.trait at h = told-bind _ (name-keeps s bytes 8 at) (λ x n q. told-ok (refl, trait q.0, q.1))
+  decl-keeps f Says.impl at h = told-ok (refl, impl, run_none h)
+  decl-keeps f (Says.other _ _) at h = told-no tt
 
-  pub body-keeps : Told (λ d n. DeclWithin d × (s ≡ writeBody d)) Free (bodyOf s)
+  pub body-keeps : (f : ℕ) → Told (λ d n. DeclWithin f d × (s ≡ writeBody d)) Free (bodyOf f s)
   unfolding Declared bodyOf writeBody
-  body-keeps =
+  body-keeps f =
       told-bind _ (byte-keeps s bytes 8 0) (λ kind n₁ q₁.
-      told-bind _ (decl-keeps (says kind) n₁ (run_inside q₁.1)) (λ d n₂ q₂.
+      told-bind _ (decl-keeps f (says kind) n₁ (run_inside q₁.1)) (λ d n₂ q₂.
       told-pick _
       (λ h. told-ok {n = n₂} (q₂.1, run-whole (eqb-true _ _ h) (run_join (d.kind ∷ []) (writeDecl (kindOf d.kind) d) (rw q₂.0 q₁.1) q₂.2)))
       (λ h. told-no tt)))

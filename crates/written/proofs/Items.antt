@@ -1,4 +1,4 @@
--- Marks, encodings, limits, fields and variants are read back where they were written, and so is a body. Assumes nothing.
+-- Marks, encodings, limits, widths, fields and variants are read back where they were written, and so is a body. Assumes nothing.
 use mathlib.Core.Path.{◌≡◌, refl, sym, ap, ◌∙◌}
 use mathlib.Core.Bool.{Bool, true, false}
 use mathlib.Core.Option.{Option, none, some}
@@ -9,12 +9,13 @@ use native.Mathlib.Omega.{arith}
 use borrow.Author.Tests.{eq-eqb, ne_eqb}
 use lib.ListN.{length, replicate}
 use Rattle.image.specs.Schema.{Marks, Encoding, Field, Variant, Decl}
-use Rattle.image.specs.Parse.{ok, pick}
+use Rattle.image.specs.Parse.{Parsed, ok, pick}
 use Rattle.image.specs.Fields.{marksOf, marksAt, plain, delta, encodingOf, encodingAt, limitAt, fieldAt, bareAt, variantAt}
 use Rattle.image.specs.Kinds.{kindOf}
+use Rattle.image.specs.Widths.{wireBitsAt, wireBytes, wireBytesAt, widthAt}
 use Rattle.image.specs.Bodies.{messageAt, enumAt, flagsAt, unionAt, newtypeAt, otherAt, implAt, declAt, bodyOf}
-use Rattle.written.specs.Writer.{digits, writeName, bit, marksByte, writeEncoding, writeLimit, writeField, writeBare, writeVariant, writeDecl, writeBody}
-use Rattle.written.specs.Limits.{EncodingWithin, LimitWithin, free, most, FieldWithin, BareWithin, VariantWithin, DeclWithin, message, enum, flags, union, newtype, config, alias, trait, impl}
+use Rattle.written.specs.Writer.{digits, writeName, bit, marksByte, writeEncoding, writeLimit, writeField, writeBare, writeVariant, writeWidth, writeDecl, writeBody}
+use Rattle.written.specs.Limits.{Byte, EncodingWithin, LimitWithin, free, most, FieldWithin, BareWithin, VariantWithin, WidthWithin, absent, stored, WireBytes, inOne, inTwo, inFour, inEight, DeclWithin, message, enum, flags, union, newtype, config, alias, trait, impl}
 use Rattle.written.proofs.Here.{here-all}
 use Rattle.written.proofs.Pieces.{Reads, got, seq, stay, byte-back, code-back, number-back, name_back, counted_back}
 use Rattle.written.proofs.Trees.{typeAt-back}
@@ -87,35 +88,59 @@ variant_back v q s at h =
     seq (writeName v.name) _ h₁ _ (name_back 8 v.name q.name s _) (λ h₂.
     got _ (counted_back fieldAt writeField FieldWithin field_back v.fields q.few q.fields s _ h₂) refl))
 
+-- a width, in a format that has none and in one that stores it
+width_back : (f : ℕ) (wire : List ℕ → ℕ → Parsed ℕ) (P : ℕ → Type 0) → ((w : ℕ) → P w → Reads wire (w ∷ []) w) → (w : Option ℕ)
+    → WidthWithin f P w → Reads (widthAt f wire) (writeWidth w) w
+unfolding widthAt writeWidth pick
+width_back f wire P back _ (absent e) s at h = rw e (stay none at)
+width_back f wire P back _ (stored {w = w} e q) s at h = rw e (got _ (back w q s at h) refl)
+
+bits-back : (w : ℕ) → Byte w → Reads wireBitsAt (w ∷ []) w
+unfolding wireBitsAt
+bits-back w q = byte-back 8 w
+
+one-of-four : {w : ℕ} → WireBytes w → wireBytes w ≡ true
+unfolding wireBytes
+one-of-four inOne = refl
+one-of-four inTwo = refl
+one-of-four inFour = refl
+one-of-four inEight = refl
+
+bytes-back : (w : ℕ) → WireBytes w → Reads wireBytesAt (w ∷ []) w
+unfolding wireBytesAt pick
+bytes-back w q s at h = got _ (byte-back 8 w s at h) (rw (one-of-four q))
+
 -- what follows the kind
-decl-back : (d : Decl) → DeclWithin d → Reads (declAt (kindOf d.kind)) (writeDecl (kindOf d.kind) d) d
+decl-back : (f : ℕ) (d : Decl) → DeclWithin f d → Reads (declAt f (kindOf d.kind)) (writeDecl (kindOf d.kind) d) d
 unfolding kindOf declAt messageAt enumAt flagsAt unionAt newtypeAt otherAt implAt writeDecl
-decl-back _ (message {x = x} {m = m} {fs = fs} q few qs) s at h =
+decl-back f _ (message {x = x} {m = m} {fs = fs} q few qs) s at h =
     seq (writeName x) _ h _ (name_back 8 x q s at) (λ h₁.
     seq (marksByte m ∷ []) _ h₁ _ (marks-back m s _) (λ h₂.
     got _ (counted_back fieldAt writeField FieldWithin field_back fs few qs s _ h₂) refl))
-decl-back _ (enum {x = x} {m = m} {vs = vs} q few qs) s at h =
+decl-back f _ (enum {x = x} {m = m} {w = w} {vs = vs} q width few qs) s at h =
     seq (writeName x) _ h _ (name_back 8 x q s at) (λ h₁.
     seq (marksByte m ∷ []) _ h₁ _ (marks-back m s _) (λ h₂.
-    got _ (counted_back bareAt writeBare BareWithin bare-back vs few qs s _ h₂) refl))
-decl-back _ (flags {x = x} {vs = vs} q few qs) s at h =
+    seq (writeWidth w) _ h₂ _ (width_back f wireBitsAt Byte bits-back w width s _) (λ h₃.
+    got _ (counted_back bareAt writeBare BareWithin bare-back vs few qs s _ h₃) refl)))
+decl-back f _ (flags {x = x} {w = w} {vs = vs} q width few qs) s at h =
     seq (writeName x) _ h _ (name_back 8 x q s at) (λ h₁.
-    got _ (counted_back bareAt writeBare BareWithin bare-back vs few qs s _ h₁) refl)
-decl-back _ (union {x = x} {vs = vs} q few qs) s at h =
+    seq (writeWidth w) _ h₁ _ (width_back f wireBytesAt WireBytes bytes-back w width s _) (λ h₂.
+    got _ (counted_back bareAt writeBare BareWithin bare-back vs few qs s _ h₂) refl))
+decl-back f _ (union {x = x} {vs = vs} q few qs) s at h =
     seq (writeName x) _ h _ (name_back 8 x q s at) (λ h₁.
     got _ (counted_back variantAt writeVariant VariantWithin variant_back vs few qs s _ h₁) refl)
-decl-back _ (newtype {x = x} {t = t} q r) s at h =
+decl-back f _ (newtype {x = x} {t = t} q r) s at h =
     seq (writeName x) _ h _ (name_back 8 x q s at) (λ h₁.
     got _ (typeAt-back t r s _ h₁) refl)
-decl-back _ (config {x = x} q) s at h = got _ (name_back 8 x q s at h) refl
-decl-back _ (alias {x = x} q) s at h = got _ (name_back 8 x q s at h) refl
-decl-back _ (trait {x = x} q) s at h = got _ (name_back 8 x q s at h) refl
-decl-back _ impl s at h = stay _ at
+decl-back f _ (config {x = x} q) s at h = got _ (name_back 8 x q s at h) refl
+decl-back f _ (alias {x = x} q) s at h = got _ (name_back 8 x q s at h) refl
+decl-back f _ (trait {x = x} q) s at h = got _ (name_back 8 x q s at h) refl
+decl-back f _ impl s at h = stay _ at
 
-pub body_back : (d : Decl) → DeclWithin d → bodyOf (writeBody d) ≡ ok d (length (writeBody d))
+pub body_back : (f : ℕ) (d : Decl) → DeclWithin f d → bodyOf f (writeBody d) ≡ ok d (length (writeBody d))
 unfolding bodyOf writeBody pick
-body_back d q =
+body_back f d q =
     let e : 1 + length (writeDecl (kindOf d.kind) d) ≡ length (writeBody d) = omega arith in
     seq (d.kind ∷ []) _ (here-all (writeBody d)) _ (byte-back 8 d.kind (writeBody d) 0) (λ h.
-    got _ (decl-back d q (writeBody d) 1 h) (rw (eq-eqb _ _ e)))
+    got _ (decl-back f d q (writeBody d) 1 h) (rw (eq-eqb _ _ e)))
     ∙ ap (ok d) (zero-add _)

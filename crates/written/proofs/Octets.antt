@@ -12,8 +12,8 @@ use Rattle.image.specs.Schema.{Name, Marks, Label, Ty, Field, Variant, Decl, Sch
 use Rattle.image.specs.Names.{nameByte, nameBytes}
 use Rattle.image.specs.Types.{followsTag}
 use Rattle.image.specs.Kinds.{kindOf}
-use Rattle.written.specs.Writer.{digits, writeEach, writeCounted, writeName, marksByte, writeEncoding, writeLimit, writeAfter, writeLabel, writeType, writeField, writeBare, writeVariant, writeDecl, writeBody, writeEntry, writeContents, writeHead, bodiesAt, write}
-use Rattle.written.specs.Limits.{Each, end, also, Byte, NameWithin, LabelWithin, primitive, subByte, semantic, named, bits, wrapping, fixedArray, map, result, Typed, bare, around, between, FieldWithin, BareWithin, VariantWithin, DeclWithin, message, enum, flags, union, newtype, config, alias, trait, impl, EntryWithin, empty, full, Within}
+use Rattle.written.specs.Writer.{digits, writeEach, writeCounted, writeName, marksByte, writeEncoding, writeLimit, writeAfter, writeLabel, writeType, writeField, writeBare, writeVariant, writeWidth, writeDecl, writeBody, writeEntry, writeContents, writeHead, bodiesAt, write}
+use Rattle.written.specs.Limits.{Each, end, also, Byte, NameWithin, LabelWithin, primitive, subByte, semantic, named, bits, wrapping, fixedArray, map, result, Typed, bare, around, between, FieldWithin, BareWithin, VariantWithin, WidthWithin, absent, stored, WireBytes, inOne, inTwo, inFour, inEight, DeclWithin, message, enum, flags, union, newtype, config, alias, trait, impl, EntryWithin, empty, full, Within}
 use Rattle.maps.proofs.Tests.{no_both, both}
 use Rattle.written.proofs.Items.{marks-most}
 use Rattle.written.proofs.Trees.{wraps-nothing, wraps-most}
@@ -110,14 +110,28 @@ variant-bytes v q =
     each-join (digits-bytes 4 v.ordinal)
     (each-join (name-bytes v.name q.name) (counted-bytes writeField FieldWithin field-bytes v.fields q.fields))
 
-body_bytes : (d : Decl) → DeclWithin d → Each Byte (writeBody d)
+width-bytes : {f : ℕ} {P : ℕ → Type 0} → ((w : ℕ) → P w → Byte w) → (w : Option ℕ) → WidthWithin f P w → Each Byte (writeWidth w)
+unfolding writeWidth
+width-bytes below none (absent e) = end
+width-bytes below (some w) (stored e q) = byte w (below w q) end
+
+wire_byte : (w : ℕ) → WireBytes w → Byte w
+wire_byte _ inOne = omega arith
+wire_byte _ inTwo = omega arith
+wire_byte _ inFour = omega arith
+wire_byte _ inEight = omega arith
+
+body_bytes : {f : ℕ} (d : Decl) → DeclWithin f d → Each Byte (writeBody d)
 unfolding kindOf writeBody writeDecl
 body_bytes _ (message {x = x} {m = m} {fs = fs} q few qs) =
     byte 0 (omega arith) (each-join (name-bytes x q) (marks-bytes m (counted-bytes writeField FieldWithin field-bytes fs qs)))
-body_bytes _ (enum {x = x} {m = m} {vs = vs} q few qs) =
-    byte 1 (omega arith) (each-join (name-bytes x q) (marks-bytes m (counted-bytes writeBare BareWithin bare-bytes vs qs)))
-body_bytes _ (flags {x = x} {vs = vs} q few qs) =
-    byte 2 (omega arith) (each-join (name-bytes x q) (counted-bytes writeBare BareWithin bare-bytes vs qs))
+body_bytes _ (enum {x = x} {m = m} {w = w} {vs = vs} q width few qs) =
+    byte 1 (omega arith)
+    (each-join (name-bytes x q)
+    (marks-bytes m (each-join (width-bytes (λ b q. q) w width) (counted-bytes writeBare BareWithin bare-bytes vs qs))))
+body_bytes _ (flags {x = x} {w = w} {vs = vs} q width few qs) =
+    byte 2 (omega arith)
+    (each-join (name-bytes x q) (each-join (width-bytes wire_byte w width) (counted-bytes writeBare BareWithin bare-bytes vs qs)))
 body_bytes _ (union {x = x} {vs = vs} q few qs) =
     byte 3 (omega arith) (each-join (name-bytes x q) (counted-bytes writeVariant VariantWithin variant-bytes vs qs))
 body_bytes _ (newtype {x = x} {t = t} q r) = byte 4 (omega arith) (each-join (name-bytes x q) (type-bytes t r.typed))
@@ -126,7 +140,7 @@ body_bytes _ (alias {x = x} q) = byte 6 (omega arith) (name-bytes x q)
 body_bytes _ (trait {x = x} q) = byte 7 (omega arith) (name-bytes x q)
 body_bytes _ impl = byte 8 (omega arith) end
 
-entry-bytes : (e : Option Decl) → EntryWithin e → Each Byte (writeEntry e)
+entry-bytes : {f : ℕ} (e : Option Decl) → EntryWithin f e → Each Byte (writeEntry e)
 unfolding writeEntry
 entry-bytes none empty = end
 entry-bytes (some d) (full q) = body_bytes d q
@@ -147,9 +161,9 @@ pub written-bytes : (s : Schema) → Within s → Each Byte (write s)
 unfolding write writeHead
 written-bytes s q =
     each-join
-    (each-join (digits-bytes 2 1)
+    (each-join (digits-bytes 2 s.format)
     (each-join (digits-bytes 2 (length s.registry)) (each-join (digits-bytes 2 (length s.ids)) (digits-bytes 2 (length s.namespace)))))
     (each-join (contents-bytes s.registry (bodiesAt s))
     (each-join (ids-bytes s.ids)
     (each-join (each-bytes writeName NameWithin name-bytes s.namespace q.segments)
-    (each-bytes writeEntry EntryWithin entry-bytes s.registry q.entries))))
+    (each-bytes writeEntry (EntryWithin s.format) entry-bytes s.registry q.entries))))

@@ -1,5 +1,5 @@
 -- A whole image is read back as it was written: nothing valid is refused. Assumes nothing.
-use mathlib.Core.Path.{◌≡◌, refl, ap₂}
+use mathlib.Core.Path.{◌≡◌, refl, ap, ap₂, ◌∙◌}
 use mathlib.Core.Bool.{true}
 use mathlib.Core.Option.{Option, none, some}
 use mathlib.Core.List.{List, [], ◌∷◌, ◌++◌}
@@ -17,6 +17,7 @@ use Rattle.refusals.proofs.Refusals.{head_passed}
 use Rattle.written.proofs.Here.{Here, here-all, here-fits, here-first, here-next, here-part}
 use Rattle.written.proofs.Pieces.{got, here-number, names-back}
 use Rattle.written.proofs.Items.{body_back}
+use Rattle.written.proofs.Formats.{format-few, known-format}
 
 -- a u16, as the head and the contents have it
 u16-back : {s : List ℕ} {at : ℕ} (v : ℕ) → v < 2 ^ 16 → Here s at (digits 2 v) → u16At s at ≡ v
@@ -71,42 +72,42 @@ unfolding writeBody
 some_byte d e = omega arith
 
 -- of entries from the i-th on, whose bodies start at `at`: they are laid out as they should be, and are read back
-abbrev Read : List (Option Decl) → List ℕ → ℕ → ℕ → Type 0
-Read es s i at = (laid (length es) s i at ≡ true) × (entriesOf (length es) s i ≡ ok es (length s))
+abbrev Read : ℕ → List (Option Decl) → List ℕ → ℕ → ℕ → Type 0
+Read f es s i at = (laid (length es) s i at ≡ true) × (entriesOf f (length es) s i ≡ ok es (length s))
 
-empty_back : (es : List (Option Decl)) (s : List ℕ) (i at : ℕ) → entryOffset s i ≡ 0 → entryLength s i ≡ 0 → Read es s (i + 1) at
-    → Read (none ∷ es) s i at
+empty_back : (f : ℕ) (es : List (Option Decl)) (s : List ℕ) (i at : ℕ) → entryOffset s i ≡ 0 → entryLength s i ≡ 0 → Read f es s (i + 1) at
+    → Read f (none ∷ es) s i at
 unfolding laid entriesOf entryOf pick bind
-empty_back es s i at o n r = (simp (o, n, r.0), simp (n, r.1))
+empty_back f es s i at o n r = (simp (o, n, r.0), simp (n, r.1))
 
-full_back : (d : Decl) → DeclWithin d → (es : List (Option Decl)) (s : List ℕ) (i at : ℕ) → entryOffset s i ≡ at
+full_back : (f : ℕ) (d : Decl) → DeclWithin f d → (es : List (Option Decl)) (s : List ℕ) (i at : ℕ) → entryOffset s i ≡ at
     → entryLength s i ≡ length (writeBody d)
-    → Here s at (writeBody d) → Read es s (i + 1) (at + length (writeBody d)) → Read (some d ∷ es) s i at
+    → Here s at (writeBody d) → Read f es s (i + 1) (at + length (writeBody d)) → Read f (some d ∷ es) s i at
 unfolding laid entriesOf entryOf pick bind
-full_back d q es s i at o n h r = (
+full_back f d q es s i at o n h r = (
   simp (o, n, ne_eqb _ 0 (some_byte d), eq-eqb at at refl, le-leb _ _ (here-fits h), r.0),
-  simp (o, n, ne_eqb _ 0 (some_byte d), here-part h, body_back d q, r.1),
+  simp (o, n, ne_eqb _ 0 (some_byte d), here-part h, body_back f d q, r.1),
 )
 
-entries-back : (es : List (Option Decl)) → Each EntryWithin es → (s : List ℕ) → length s ≤ 32768 → (i at : ℕ)
+entries-back : (f : ℕ) (es : List (Option Decl)) → Each (EntryWithin f) es → (s : List ℕ) → length s ≤ 32768 → (i at : ℕ)
     → Here s (8 + 4 * i) (writeContents es at) → Here s at (writeEach writeEntry es) → at + length (writeEach writeEntry es) ≡ length s
-    → Read es s i at
+    → Read f es s i at
 unfolding laid entriesOf writeContents writeEach writeEntry
-entries-back [] end s l i at h g e = (eq-eqb at (length s) (omega arith), refl)
-entries-back (none ∷ es) (also empty qs) s l i at h g e =
+entries-back f [] end s l i at h g e = (eq-eqb at (length s) (omega arith), refl)
+entries-back f (none ∷ es) (also empty qs) s l i at h g e =
     let p = pair-back i 0 0 (writeContents es at) (omega arith) (omega arith) h in
-    empty_back es s i at p.offset-is p.size_is (entries-back es qs s l (i + 1) at p.next g e)
-entries-back (some d ∷ es) (also (full q) qs) s l i at h g e =
-    let f = here-first (writeBody d) (writeEach writeEntry es) g in
-    let fits : at + length (writeBody d) ≤ length s = here-fits f in
+    empty_back f es s i at p.offset-is p.size_is (entries-back f es qs s l (i + 1) at p.next g e)
+entries-back f (some d ∷ es) (also (full q) qs) s l i at h g e =
+    let b = here-first (writeBody d) (writeEach writeEntry es) g in
+    let fits : at + length (writeBody d) ≤ length s = here-fits b in
     let p = pair-back i at (length (writeBody d)) (writeContents es (at + length (writeBody d))) (omega arith) (omega arith) h in
-    full_back d q es s i at p.offset-is p.size_is f
-    (entries-back es qs s l (i + 1) (at + length (writeBody d)) p.next (here-next (writeBody d) (writeEach writeEntry es) g)
+    full_back f d q es s i at p.offset-is p.size_is b
+    (entries-back f es qs s l (i + 1) (at + length (writeBody d)) p.next (here-next (writeBody d) (writeEach writeEntry es) g)
     (omega (arith, length-append (writeBody d) (writeEach writeEntry es))))
 
 -- the head of what is written
 record Front (s : Schema) : Type 0 where
-  pub one : format (write s) ≡ 1
+  pub stored : format (write s) ≡ s.format
   pub entries : entryCount (write s) ≡ length s.registry
   pub ids : idCount (write s) ≡ length s.ids
   pub segments : segmentCount (write s) ≡ length s.namespace
@@ -115,7 +116,7 @@ front : (s : Schema) → Within s → Front s
 unfolding write writeHead format entryCount idCount segmentCount digits
 front s q =
     record {
-      one = u16-back 1 (omega arith) (here-first (digits 2 1) _ at0);
+      stored = u16-back s.format (format-few q.format) (here-first (digits 2 s.format) _ at0);
       entries = u16-back N (omega (arith, q.entryCount)) (here-first (digits 2 N) _ at2);
       ids = u16-back M (omega (arith, q.idCount)) (here-first (digits 2 M) _ at4);
       segments = u16-back S (omega (arith, q.segmentCount)) (here-next (digits 2 M) _ at4);
@@ -134,7 +135,7 @@ front s q =
     at0 = here-first (writeHead s) _ (here-all (write s))
 
     at2 : Here (write s) 2 (digits 2 N ++ (digits 2 M ++ digits 2 S))
-    at2 = here-next (digits 2 1) _ at0
+    at2 = here-next (digits 2 s.format) _ at0
 
     at4 : Here (write s) 4 (digits 2 M ++ digits 2 S)
     at4 = here-next (digits 2 N) _ at2
@@ -186,17 +187,18 @@ back s =
     atNames : Here (write s) (8 + 4 * length s.registry + 4 * length s.ids) (n ++ b)
     atNames = rw (ids-length s.ids) at (here-next d _ atIds)
 
-head-back : (s : Schema) → Within s → headOf (write s) ≡ ok tt 8
+head-back : (s : Schema) → Within s → headOf (write s) ≡ ok s.format 8
 head-back s q =
     let f = front s q in
     head_passed (write s)
     (record {
       eight = record { fits = q.whole; there = (back s).contents.from };
-      one = f.one;
+      known = known-format f.stored q.format;
       entries = rw f.entries q.entryCount;
       ids = rw f.ids q.idCount;
       segments = rw f.segments q.segmentCount;
     })
+    ∙ ap (λ (k : ℕ). ok k 8) f.stored
 
 tables-back : (s : Schema) → Within s → tablesOf (write s) ≡ ok s.ids (8 + 4 * length s.registry + 4 * length s.ids)
 unfolding tablesOf segmentsAt idsAt pick
@@ -210,11 +212,11 @@ segments-back : (s : Schema) → Within s
 unfolding bodiesAt
 segments-back s q = rw (front s q).segments (names-back 2 s.namespace q.segments (write s) _ (back s).names)
 
--- Nothing valid is refused: every schema within 01's limits is read back from its bytes.
+-- Nothing valid is refused: every schema within the limits is read back from its bytes.
 pub written_read : (s : Schema) → Within s → readImage (write s) ≡ ok s (length (write s))
 unfolding readImage pick
 written_read s q =
     let b = back s in
-    let e = entries-back s.registry q.entries (write s) q.whole 0 (bodiesAt s) b.contents b.bodies b.ends in
+    let e = entries-back s.format s.registry q.entries (write s) q.whole 0 (bodiesAt s) b.contents b.bodies b.ends in
     got _ (head-back s q) (got _ (tables-back s q) (got _ (segments-back s q)
     (rw ((front s q).entries, e.0) (got _ e.1 refl))))

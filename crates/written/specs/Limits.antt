@@ -101,10 +101,10 @@ pub data WidthWithin (format : ℕ) (P : ℕ → Type 0) : Option ℕ → Type 0
 
 -- "1, 2, 4 or 8"
 pub data WireBytes : ℕ → Type 0 where
-  one : WireBytes 1
-  two : WireBytes 2
-  four : WireBytes 4
-  eight : WireBytes 8
+  inOne : WireBytes 1
+  inTwo : WireBytes 2
+  inFour : WireBytes 4
+  inEight : WireBytes 8
 
 -- a declaration of each kind, what the kind has not at its default
 pub data DeclWithin (f : ℕ) : Decl → Type 0 where
@@ -126,10 +126,10 @@ pub data EntryWithin (f : ℕ) : Option Decl → Type 0 where
   empty : EntryWithin f none
   full : {d : Decl} → DeclWithin f d → EntryWithin f (some d)
 
--- a format that is read
+-- the formats that are read: "3 now means neither 1 nor 2"
 pub data FormatWithin : ℕ → Type 0 where
-  one : FormatWithin 1
-  two : FormatWithin 2
+  first : FormatWithin 1
+  second : FormatWithin 2
 
 -- "N or M over 512, S over 16" is crowded; "image over 32,768 bytes" is long
 pub record Within (s : Schema) : Type 0 where
