@@ -3,10 +3,11 @@ use mathlib.Core.Path.{◌≡◌, refl, sym, ap, ◌∙◌}
 use mathlib.Core.Bool.{Bool, true, false, ◌&&◌, ◌||◌}
 use mathlib.Core.Option.{Option, none, some, none-ne-some}
 use mathlib.Core.List.{List, [], ◌∷◌}
-use Prim.Native.Nat.{ℕ, ◌≤◌}
+use mathlib.Core.Logic.{◌↔◌}
+use Prim.Native.Nat.{ℕ, ◌≤◌, ◌<◌}
 use native.Mathlib.Omega.{arith}
-use lib.Dec.{leb}
-use borrow.Author.Tests.{eqb-true, eq-eqb, leb-true, leb-false}
+use lib.Dec.{eqb}
+use borrow.Author.Tests.{eqb-true, eqb-false, eq-eqb}
 use Rattle.maps.specs.Lists.{All}
 use Rattle.maps.specs.Keyed.{lookup}
 use Rattle.maps.specs.Orders.{before}
@@ -14,7 +15,7 @@ use Rattle.maps.specs.Walk.{Rising}
 use Rattle.maps.proofs.Names.{byName}
 use Rattle.maps.proofs.Survivors.{all_lookup, lookup_key, lookup-own}
 use Rattle.image.specs.Schema.{Name, Decl, Schema}
-use Rattle.image.specs.Parse.{no}
+use Rattle.image.specs.Parse.{ok, no}
 use Rattle.image.specs.Image.{readImage}
 use Rattle.refusals.proofs.Refusals.{only-ten}
 use Rattle.maps.proofs.Tests.{no_both, both}
@@ -62,7 +63,7 @@ found-alias n l = go (lookup nameOf before n l) refl
     go (some d) p e = (d, p, eqb-true d.kind 6 e)
 
 module _ (view : Schema → View) (rise : (s : Schema) → Rising nameOf before (view s).standing) (x y : Schema) where
-  pair_found : aliasPair (view x) (view y) ≡ true → AliasPair view x y
+  pub pair_found : aliasPair (view x) (view y) ≡ true → AliasPair view x y
   unfolding aliasPair alias
   pair_found e =
       let own = lookup-own nameOf byName (view x).standing (rise x) in
@@ -75,7 +76,7 @@ module _ (view : Schema → View) (rise : (s : Schema) → Rising nameOf before 
         inNew = record { decl = f.0; stands = f.1; generic = f.2 };
       }
 
-  pair-given : AliasPair view x y → aliasPair (view x) (view y) ≡ true
+  pub pair-given : AliasPair view x y → aliasPair (view x) (view y) ≡ true
   unfolding aliasPair alias isAlias
   pair-given a = go (aliasPair (view x) (view y)) refl
     where
@@ -145,143 +146,223 @@ module _ (p : Policy) (numbered : Numbered p) (old new : List ℕ) where
         untouched = nothing_written (reportBy p old new room);
       }
 
+-- ---- of a verdict that refuses no image alone, and two accepted images by numbers that are beyond those of one image
+
+-- both images are accepted, whatever holds of what they hold
+accepted-so : {old new : List ℕ} {P Q : Schema → Schema → Type 0} → ((x y : Schema) → P x y → Q x y) → AcceptedPair old new P → AcceptedPair old new Q
+accepted-so f a = record {
+  oldSchema = a.oldSchema;
+  newSchema = a.newSchema;
+  oldEnd = a.oldEnd;
+  newEnd = a.newEnd;
+  oldRead = a.oldRead;
+  newRead = a.newRead;
+  holds = f a.oldSchema a.newSchema a.holds;
+}
+
+pub accepted-exactly : {A : Type 0} {old new : List ℕ} {P Q : Schema → Schema → Type 0} → (A ↔ AcceptedPair old new P)
+    → ((x y : Schema) → P x y ↔ Q x y) → A ↔ AcceptedPair old new Q
+accepted-exactly e f = (λ a. accepted-so (λ x y. (f x y).0) (e.0 a), λ b. e.1 (accepted-so (λ x y. (f x y).1) b))
+
+pub record Paired (p : Policy) : Type 0 where
+  pub alone : (x : Schema) → p.alone x ≡ none
+  pub beyond : (x y : Schema) (f : Fault) → firstFault p.pair x y ≡ some f → 10 < f.number
+
+-- the pair has no fault, and one with such a number
+abbrev pub Faultless : Policy → Schema → Schema → Type 0
+Faultless p x y = firstFault p.pair x y ≡ none
+
+abbrev pub Faulty : Policy → ℕ → Schema → Schema → Type 0
+Faulty p n x y = (f : Fault) × (firstFault p.pair x y ≡ some f) × (f.number ≡ n)
+
+module _ (p : Policy) (paired : Paired p) (old new : List ℕ) where
+  abbrev Of : Outcome → Type 0
+  Of = Decided p old new
+
+  abbrev result : Outcome
+  result = outcome p old new
+
+  none_alone : {A : Type 0} {x : Schema} {k : ℕ} → p.alone x ≡ some k → A
+  none_alone {x = x} {k = k} e = absurd (none-ne-some k (sym (paired.alone x) ∙ e))
+
+  passes : (image : List ℕ) (x : Schema) (end : ℕ) → readImage image ≡ ok x end → Passes p image x
+  passes image x end e = record { end = end; read = e; alone = paired.alone x }
+
+  both_read : {P : Schema → Schema → Type 0} {x y : Schema} → Passes p old x → Passes p new y → P x y → AcceptedPair old new P
+  both_read {x = x} {y = y} a b h =
+      record { oldSchema = x; newSchema = y; oldEnd = a.end; newEnd = b.end; oldRead = a.read; newRead = b.read; holds = h }
+
+  module _ {P : Schema → Schema → Type 0} (a : AcceptedPair old new P) where
+    old-passes : Passes p old a.oldSchema
+    old-passes = passes old a.oldSchema a.oldEnd a.oldRead
+
+    new-passes : Passes p new a.newSchema
+    new-passes = passes new a.newSchema a.newEnd a.newRead
+
+  -- ---- 0
+
+  verdict-only : {o : Outcome} → Of o → select o 0 ≡ 0 → AcceptedPair old new (Faultless p)
+  unfolding select selected
+  verdict-only (oldRefused l q) z = absurd (omega arith)
+  verdict-only (oldAlone q e) z = none_alone e
+  verdict-only (newRefused a l q) z = absurd (omega arith)
+  verdict-only (newAlone a q e) z = none_alone e
+  verdict-only (pairRefused a b e) z = absurd (omega (arith, paired.beyond _ _ _ e))
+  verdict-only (verdict a b e) z = both_read a b e
+
+  -- two images that get a verdict get that of the clauses
+  pub faultless-told : {P : Schema → Schema → Type 0} (a : AcceptedPair old new P) → Faultless p a.oldSchema a.newSchema
+      → result ≡ compared (changes p.reading (p.view a.oldSchema) (p.view a.newSchema))
+  faultless-told a e = decides p old new (verdict (old-passes a) (new-passes a) e)
+
+  pub verdict-exactly : (select result 0 ≡ 0) ↔ AcceptedPair old new (Faultless p)
+  unfolding select selected
+  verdict-exactly = (verdict-only (decided p old new), λ a. ap (λ o. select o 0) (faultless-told a a.holds))
+
+  -- ---- the numbers of the pair
+
+  fault-only : (n : ℕ) → 10 < n → {o : Outcome} → Of o → select o 0 ≡ n → AcceptedPair old new (Faulty p n)
+  unfolding select selected
+  fault-only n h (oldRefused l q) z = absurd (omega arith)
+  fault-only n h (oldAlone q e) z = none_alone e
+  fault-only n h (newRefused a l q) z = absurd (omega arith)
+  fault-only n h (newAlone a q e) z = none_alone e
+  fault-only n h (pairRefused {f = f} a b e) z = both_read a b (f, e, z)
+  fault-only n h (verdict a b e) z = absurd (omega arith)
+
+  fault-given : (n : ℕ) → AcceptedPair old new (Faulty p n) → select result 0 ≡ n
+  unfolding select selected
+  fault-given n a =
+      ap (λ o. select o 0) (decides p old new (pairRefused (old-passes a) (new-passes a) a.holds.1)) ∙ a.holds.2
+
+  pub fault-exactly : (n : ℕ) → 10 < n → (select result 0 ≡ n) ↔ AcceptedPair old new (Faulty p n)
+  fault-exactly n h = (fault-only n h (decided p old new), fault-given n)
+
+  -- ---- those of one image, where a fault of the pair has both sides
+
+  module _ (sides : (x y : Schema) (f : Fault) → firstFault p.pair x y ≡ some f → f.side ≡ number bothSides) where
+    old-only : (k : ℕ) {o : Outcome} → Of o → (select o 0 ≡ k) × (select o 1 ≡ 1) → readImage old ≡ no k
+    unfolding select selected
+    old-only k (oldRefused l q) z = q ∙ ap no z.0
+    old-only k (oldAlone q e) z = none_alone e
+    old-only k (newRefused a l q) z = absurd (omega (arith, z.1))
+    old-only k (newAlone a q e) z = none_alone e
+    old-only k (pairRefused a b e) z = absurd (omega (arith, z.1, sides _ _ _ e))
+    old-only k (verdict a b e) z = absurd (omega (arith, z.1))
+
+    old-given : (k : ℕ) → readImage old ≡ no k → (select result 0 ≡ k) × (select result 1 ≡ 1)
+    unfolding select selected
+    old-given k e = let d = decides p old new (oldRefused (only-ten old k e) e) in (ap (λ o. select o 0) d, ap (λ o. select o 1) d)
+
+    pub old-exactly : (k : ℕ) → ((select result 0 ≡ k) × (select result 1 ≡ 1)) ↔ (readImage old ≡ no k)
+    old-exactly k = (old-only k (decided p old new), old-given k)
+
+    new-only : (k : ℕ) {o : Outcome} → Of o → (select o 0 ≡ k) × (select o 1 ≡ 2) → NewRefused old new k
+    unfolding select selected
+    new-only k (oldRefused l q) z = absurd (omega (arith, z.1))
+    new-only k (oldAlone q e) z = none_alone e
+    new-only k (newRefused {x = x} a l q) z = record { oldSchema = x; oldEnd = a.end; oldRead = a.read; newRead = q ∙ ap no z.0 }
+    new-only k (newAlone a q e) z = none_alone e
+    new-only k (pairRefused a b e) z = absurd (omega (arith, z.1, sides _ _ _ e))
+    new-only k (verdict a b e) z = absurd (omega (arith, z.1))
+
+    new-given : (k : ℕ) → NewRefused old new k → (select result 0 ≡ k) × (select result 1 ≡ 2)
+    unfolding select selected
+    new-given k r =
+        let d = decides p old new (newRefused (passes old r.oldSchema r.oldEnd r.oldRead) (only-ten new k r.newRead) r.newRead) in
+        (ap (λ o. select o 0) d, ap (λ o. select o 1) d)
+
+    pub new-exactly : (k : ℕ) → ((select result 0 ≡ k) × (select result 1 ≡ 2)) ↔ NewRefused old new k
+    new-exactly k = (new-only k (decided p old new), new-given k)
+
+    sided : (n : ℕ) → 10 < n → {o : Outcome} → Of o → select o 0 ≡ n → select o 1 ≡ number bothSides
+    unfolding select selected
+    sided n h (oldRefused l q) z = absurd (omega arith)
+    sided n h (oldAlone q e) z = none_alone e
+    sided n h (newRefused a l q) z = absurd (omega arith)
+    sided n h (newAlone a q e) z = none_alone e
+    sided n h (pairRefused a b e) z = sides _ _ _ e
+    sided n h (verdict a b e) z = absurd (omega arith)
+
+    pub both-sides : (n : ℕ) → 10 < n → select result 0 ≡ n → select result 1 ≡ number bothSides
+    both-sides n h = sided n h (decided p old new)
+
+  -- ---- all numbers: what holds of 0 to 10 and of those of the pair holds of the number, and of the report's if it holds of 12
+
+  module _ (P : ℕ → Type 0) (ten : (n : ℕ) → n ≤ 10 → P n) (pair : (x y : Schema) (f : Fault) → firstFault p.pair x y ≡ some f → P f.number) where
+    each-number : {o : Outcome} → Of o → P (select o 0)
+    unfolding select selected
+    each-number (oldRefused l q) = ten _ (omega arith)
+    each-number (oldAlone q e) = none_alone e
+    each-number (newRefused a l q) = ten _ (omega arith)
+    each-number (newAlone a q e) = none_alone e
+    each-number (pairRefused a b e) = pair _ _ _ e
+    each-number (verdict a b e) = ten 0 (omega arith)
+
+    pub number-given : P (select result 0)
+    number-given = each-number (decided p old new)
+
+    pub number-reported : (room : ℕ) → P 12 → P (select (reportBy p old new room) 0)
+    unfolding reportBy
+    number-reported room twelve = go (eqb (select (reportBy p old new room) 0) 12) refl
+      where
+        go : (u : Bool) → eqb (select (reportBy p old new room) 0) 12 ≡ u → P (select (reportBy p old new room) 0)
+        go true e = rw (eqb-true (select (reportBy p old new room) 0) 12 e) twelve
+        go false e = rw (fit-else (number bothSides) room result (eqb-false (select (reportBy p old new room) 0) 12 e)) number-given
+
+-- no fault, if each is out of the question
+pub no-fault : (p : Policy) (x y : Schema) → ((f : Fault) → firstFault p.pair x y ≡ some f → ⊥) → Faultless p x y
+no-fault p x y h = go (firstFault p.pair x y) refl
+  where
+    go : (o : Option Fault) → firstFault p.pair x y ≡ o → o ≡ none
+    go none e = refl
+    go (some f) e = absurd (h f e)
+
 -- ---- of a verdict whose one check is 11
 
-module _ (view : Schema → View) (rise : (s : Schema) → Rising nameOf before (view s).standing) (reading : Reading) (old new : List ℕ) where
+module _ (view : Schema → View) (rise : (s : Schema) → Rising nameOf before (view s).standing) (reading : Reading) where
   abbrev policy : Policy
   policy = usual view reading
-
-  abbrev Of : Outcome → Type 0
-  Of = Decided policy old new
-
-  -- nobody is refused alone
-  none-alone : {A : Type 0} {k : ℕ} → ◌≡◌ {A = Option ℕ} none (some k) → A
-  none-alone e = absurd (none-ne-some _ e)
 
   -- the number and the side that a fault of the pair has
   eleven : (x y : Schema) (f : Fault) → firstFault policy.pair x y ≡ some f → (f.number ≡ 11) × (f.side ≡ number bothSides)
   eleven x y f e = let q = (usual-fault view x y f e).1 in (ap (λ (g : Fault). g.number) q, ap (λ (g : Fault). g.side) q)
 
-  both_read : {P : Schema → Schema → Type 0} {x y : Schema} → Passes policy old x → Passes policy new y → P x y → AcceptedPair old new P
-  both_read {x = x} {y = y} a b h =
-      record { oldSchema = x; newSchema = y; oldEnd = a.end; newEnd = b.end; oldRead = a.read; newRead = b.read; holds = h }
+  usual-paired : Paired policy
+  usual-paired = record { alone = λ x. refl; beyond = λ x y f e. omega (arith, (eleven x y f e).0) }
 
-  verdict-only : {o : Outcome} → Of o → select o 0 ≡ 0 → AcceptedPair old new (λ x y. AliasPair view x y → ⊥)
-  unfolding select selected
-  verdict-only (oldRefused l q) z = absurd (omega arith)
-  verdict-only (oldAlone q e) z = none-alone e
-  verdict-only (newRefused a l q) z = absurd (omega arith)
-  verdict-only (newAlone a q e) z = none-alone e
-  verdict-only (pairRefused a b e) z = absurd (omega (arith, (eleven _ _ _ e).0))
-  verdict-only (verdict {x = x} {y = y} a b e) z =
-      both_read a b (λ h. absurd (none-ne-some _ (sym e ∙ alias-fault view x y (pair-given view rise x y h))))
+  unpaired : (x y : Schema) → Faultless policy x y ↔ ¬ AliasPair view x y
+  unpaired x y = (
+    λ e h. none-ne-some _ (sym e ∙ alias-fault view x y (pair-given view rise x y h)),
+    λ h. no-fault policy x y (λ f e. h (pair_found view rise x y (usual-fault view x y f e).0)),
+  )
 
-  alias-only : {o : Outcome} → Of o → select o 0 ≡ 11 → AcceptedPair old new (AliasPair view)
-  unfolding select selected
-  alias-only (oldRefused l q) z = absurd (omega arith)
-  alias-only (oldAlone q e) z = none-alone e
-  alias-only (newRefused a l q) z = absurd (omega arith)
-  alias-only (newAlone a q e) z = none-alone e
-  alias-only (pairRefused {x = x} {y = y} a b e) z = both_read a b (pair_found view rise x y (usual-fault view _ _ _ e).0)
-  alias-only (verdict a b e) z = absurd (omega arith)
+  aliased : (x y : Schema) → Faulty policy 11 x y ↔ AliasPair view x y
+  aliased x y = (
+    λ q. pair_found view rise x y (usual-fault view x y q.0 q.1).0,
+    λ h. (fault 11 (number bothSides), alias-fault view x y (pair-given view rise x y h), refl),
+  )
 
-  module _ {P : Schema → Schema → Type 0} (a : AcceptedPair old new P) where
-    old-passes : Passes policy old a.oldSchema
-    old-passes = record { end = a.oldEnd; read = a.oldRead; alone = refl }
+  module _ (old new : List ℕ) where
+    -- two images that get a verdict get that of the clauses
+    pub clauses-told : (a : AcceptedPair old new (λ x y. AliasPair view x y → ⊥))
+        → outcome policy old new ≡ compared (changes reading (view a.oldSchema) (view a.newSchema))
+    clauses-told a = faultless-told policy usual-paired old new a ((unpaired a.oldSchema a.newSchema).1 a.holds)
 
-    new-passes : Passes policy new a.newSchema
-    new-passes = record { end = a.newEnd; read = a.newRead; alone = refl }
-
-  -- two images that get a verdict get that of the clauses
-  pub clauses-told : (a : AcceptedPair old new (λ x y. AliasPair view x y → ⊥))
-      → outcome policy old new ≡ compared (changes reading (view a.oldSchema) (view a.newSchema))
-  clauses-told a = go (firstFault policy.pair a.oldSchema a.newSchema) refl
-    where
-      go : (f : Option Fault) → firstFault policy.pair a.oldSchema a.newSchema ≡ f
-          → outcome policy old new ≡ compared (changes reading (view a.oldSchema) (view a.newSchema))
-      go none e = decides policy old new (verdict (old-passes a) (new-passes a) e)
-      go (some f) e = absurd (a.holds (pair_found view rise a.oldSchema a.newSchema (usual-fault view _ _ _ e).0))
-
-  verdict-given : AcceptedPair old new (λ x y. AliasPair view x y → ⊥) → select (outcome policy old new) 0 ≡ 0
-  unfolding select selected
-  verdict-given a = ap (λ o. select o 0) (clauses-told a)
-
-  alias-given : AcceptedPair old new (AliasPair view) → select (outcome policy old new) 0 ≡ 11
-  unfolding select selected
-  alias-given a =
-      ap (λ o. select o 0) (decides policy old new (pairRefused {f = fault 11 (number bothSides)} (old-passes a) (new-passes a)
-      (alias-fault view a.oldSchema a.newSchema (pair-given view rise a.oldSchema a.newSchema a.holds))))
-
-  -- the old image's number, and the new one's
-  old-only : (k : ℕ) {o : Outcome} → Of o → (select o 0 ≡ k) × (select o 1 ≡ 1) → readImage old ≡ no k
-  unfolding select selected
-  old-only k (oldRefused l q) z = q ∙ ap no z.0
-  old-only k (oldAlone q e) z = none-alone e
-  old-only k (newRefused a l q) z = absurd (omega (arith, z.1))
-  old-only k (newAlone a q e) z = none-alone e
-  old-only k (pairRefused a b e) z = absurd (omega (arith, z.1, (eleven _ _ _ e).1))
-  old-only k (verdict a b e) z = absurd (omega (arith, z.1))
-
-  old-given : (k : ℕ) → readImage old ≡ no k → (select (outcome policy old new) 0 ≡ k) × (select (outcome policy old new) 1 ≡ 1)
-  unfolding select selected
-  old-given k e = let d = decides policy old new (oldRefused (only-ten old k e) e) in (ap (λ o. select o 0) d, ap (λ o. select o 1) d)
-
-  new-only : (k : ℕ) {o : Outcome} → Of o → (select o 0 ≡ k) × (select o 1 ≡ 2) → NewRefused old new k
-  unfolding select selected
-  new-only k (oldRefused l q) z = absurd (omega (arith, z.1))
-  new-only k (oldAlone q e) z = none-alone e
-  new-only k (newRefused {x = x} a l q) z = record { oldSchema = x; oldEnd = a.end; oldRead = a.read; newRead = q ∙ ap no z.0 }
-  new-only k (newAlone a q e) z = none-alone e
-  new-only k (pairRefused a b e) z = absurd (omega (arith, z.1, (eleven _ _ _ e).1))
-  new-only k (verdict a b e) z = absurd (omega (arith, z.1))
-
-  new-given : (k : ℕ) → NewRefused old new k → (select (outcome policy old new) 0 ≡ k) × (select (outcome policy old new) 1 ≡ 2)
-  unfolding select selected
-  new-given k r =
-      let d = decides policy old new (newRefused (record { end = r.oldEnd; read = r.oldRead; alone = refl }) (only-ten new k r.newRead) r.newRead) in
-      (ap (λ o. select o 0) d, ap (λ o. select o 1) d)
-
-  both-sides : {o : Outcome} → Of o → select o 0 ≡ 11 → select o 1 ≡ 3
-  unfolding select selected
-  both-sides (oldRefused l q) z = absurd (omega arith)
-  both-sides (oldAlone q e) z = none-alone e
-  both-sides (newRefused a l q) z = absurd (omega arith)
-  both-sides (newAlone a q e) z = none-alone e
-  both-sides (pairRefused a b e) z = (eleven _ _ _ e).1
-  both-sides (verdict a b e) z = absurd (omega arith)
-
-  at_most : {o : Outcome} → Of o → select o 0 ≤ 11
-  unfolding select selected
-  at_most (oldRefused l q) = omega arith
-  at_most (oldAlone q e) = none-alone e
-  at_most (newRefused a l q) = omega arith
-  at_most (newAlone a q e) = none-alone e
-  at_most (pairRefused a b e) = omega (arith, (eleven _ _ _ e).0)
-  at_most (verdict a b e) = omega arith
-
-  reported-most : (room : ℕ) → select (reportBy policy old new room) 0 ≤ 12
-  unfolding reportBy
-  reported-most room = go (leb (select (reportBy policy old new room) 0) 12) refl
-    where
-      go : (u : Bool) → leb (select (reportBy policy old new room) 0) 12 ≡ u → select (reportBy policy old new room) 0 ≤ 12
-      go true e = leb-true _ 12 e
-      go false e =
-          let l = leb-false (select (reportBy policy old new room) 0) 12 e in
-          absurd (omega (arith, ap (λ o. select o 0) (fit-else (number bothSides) room (outcome policy old new) (λ z. omega arith)), at_most (decided policy old new)))
-
-  pub verdict-refusals : VerdictRefusals view reading old new
-  unfolding verdictBy
-  verdict-refusals =
-      let d = decided policy old new in
-      let r = policy-refusals policy (usual-numbered view reading) old new in
-      record {
-        verdict = (verdict-only d, verdict-given);
-        aliasPair = (alias-only d, alias-given);
-        oldRefused = λ k. (old-only k d, old-given k);
-        newRefused = λ k. (new-only k d, new-given k);
-        noSide = r.noSide;
-        bothSides = both-sides d;
-        refusal = r.refusal;
-        most = at_most d;
-        mostReported = reported-most;
-      }
+    pub verdict-refusals : VerdictRefusals view reading old new
+    unfolding verdictBy
+    verdict-refusals =
+        let sides = λ (x y : Schema) (f : Fault) (e : firstFault policy.pair x y ≡ some f). (eleven x y f e).1 in
+        let r = policy-refusals policy (usual-numbered view reading) old new in
+        record {
+          verdict = accepted-exactly (verdict-exactly policy usual-paired old new) unpaired;
+          aliasPair = accepted-exactly (fault-exactly policy usual-paired old new 11 (omega arith)) aliased;
+          oldRefused = old-exactly policy usual-paired old new sides;
+          newRefused = new-exactly policy usual-paired old new sides;
+          noSide = r.noSide;
+          bothSides = both-sides policy usual-paired old new sides 11 (omega arith);
+          refusal = r.refusal;
+          most = number-given policy usual-paired old new (λ n. n ≤ 11) (λ n h. omega arith) (λ x y f e. omega (arith, (eleven x y f e).0));
+          mostReported = λ room.
+              number-reported policy usual-paired old new (λ n. n ≤ 12) (λ n h. omega arith) (λ x y f e. omega (arith, (eleven x y f e).0)) room (omega arith);
+        }
