@@ -6,37 +6,41 @@ use crate::refusal::{Read, Refusal, BODY, CODE, DEEP, KIND};
 use crate::schema::*;
 use std::ops::Range;
 
-/// The body that stands in this part of the image.
-pub fn read_body(image: &[u8], part: Range<usize>) -> Read<Declaration> {
+/// The body that stands in this part of an image of this format.
+pub fn read_body(format: u16, image: &[u8], part: Range<usize>) -> Read<Declaration> {
     let start = part.start;
     let mut body = Cursor::of_part(image, part, BODY);
     let kind = body.u8("kind")?;
     if kind > IMPL {
         return Err(Refusal::new(KIND, "kind", u64::from(kind)).at(start));
     }
-    read_declaration(&mut body, kind).map_err(|refusal| refusal.of_kind(kind))
+    read_declaration(format, &mut body, kind).map_err(|refusal| refusal.of_kind(kind))
 }
 
-fn read_declaration(body: &mut Cursor, kind: u8) -> Read<Declaration> {
+fn read_declaration(format: u16, body: &mut Cursor, kind: u8) -> Read<Declaration> {
     let name = match kind {
         IMPL => String::new(),
         _ => body.name("declaration name")?,
     };
-    match read_rest(body, kind) {
+    match read_rest(format, body, kind) {
         Ok(body) => Ok(Declaration { name, body }),
         Err(refusal) => Err(refusal.of_name(name)),
     }
 }
 
 /// What follows the name, up to the body's end.
-fn read_rest(body: &mut Cursor, kind: u8) -> Read<Body> {
+fn read_rest(format: u16, body: &mut Cursor, kind: u8) -> Read<Body> {
     let read = match kind {
         0 => Body::Message(read_marks(body, "marks")?, read_fields(body)?),
         1 => Body::Enum(
             read_marks(body, "marks")?,
+            read_width(format, body, |_| true)?,
             read_items(body, "enum variant name")?,
         ),
-        2 => Body::Flags(read_items(body, "bit name")?),
+        2 => Body::Flags(
+            read_width(format, body, |bytes| WIRE_BYTES.contains(&bytes))?,
+            read_items(body, "bit name")?,
+        ),
         3 => Body::Union(read_list(body, "count", read_variant)?),
         4 => Body::Newtype(read_type(body, 1)?),
         5 => Body::Config,
@@ -94,15 +98,27 @@ fn read_field(body: &mut Cursor) -> Read<Field> {
     })
 }
 
-/// A coded byte, refused outside its values.
+/// The width, where the format has one.
+fn read_width(format: u16, body: &mut Cursor, allowed: impl Fn(u8) -> bool) -> Read<Width> {
+    match has_widths(format) {
+        true => read_coded(body, "width", allowed).map(Some),
+        false => Ok(None),
+    }
+}
+
 fn read_code(
     body: &mut Cursor,
     what: &'static str,
     values: std::ops::RangeInclusive<u8>,
 ) -> Read<u8> {
+    read_coded(body, what, |code| values.contains(&code))
+}
+
+/// A coded byte, refused outside its values.
+fn read_coded(body: &mut Cursor, what: &'static str, allowed: impl Fn(u8) -> bool) -> Read<u8> {
     let at = body.at();
     match body.u8(what)? {
-        code if values.contains(&code) => Ok(code),
+        code if allowed(code) => Ok(code),
         code => Err(Refusal::new(CODE, what, u64::from(code)).at(at)),
     }
 }

@@ -112,8 +112,8 @@ fn edit_body(rng: &mut Rng, body: &mut Body, entries: usize) {
     match body {
         Body::Message(marks, _) if rng.once_in(4) => *marks = random_marks(rng),
         Body::Message(_, fields) => edit_fields(rng, fields, entries),
-        Body::Enum(marks, _) if rng.once_in(3) => *marks = random_marks(rng),
-        Body::Enum(_, list) | Body::Flags(list) => edit_items(rng, list),
+        Body::Enum(marks, _, _) if rng.once_in(3) => *marks = random_marks(rng),
+        Body::Enum(_, _, list) | Body::Flags(_, list) => edit_items(rng, list),
         Body::Union(variants) => edit_variants(rng, variants, entries),
         Body::Newtype(inner) => edit_type(rng, inner, entries),
         _ => {}

@@ -1,10 +1,12 @@
-//! The numbers of document 01.
+//! The numbers of document 01, and the formats that document 02 adds.
+
+use std::ops::RangeInclusive;
 
 pub const IMAGE_BYTES: usize = 32_768;
 pub const REPORT_BYTES: usize = 65_536;
 pub const HEAD_BYTES: usize = 8;
 pub const ENTRY_BYTES: usize = 4;
-pub const FORMAT: u16 = 1;
+pub const FORMATS: RangeInclusive<u16> = 1..=2;
 pub const ENTRIES: u16 = 512;
 pub const IDS: u16 = 512;
 pub const SEGMENTS: u16 = 16;

@@ -6,16 +6,38 @@ pub fn names(list: &[&str]) -> Vec<String> {
     list.iter().map(|name| name.to_string()).collect()
 }
 
-/// A schema of namespace `ride` that lists all of its declarations in order.
+/// A schema of namespace `ride` and of the first format that lists all of its
+/// declarations in order.
 pub fn schema(declarations: Vec<Declaration>) -> Schema {
     Schema {
+        format: FIRST_FORMAT,
         namespace: names(&["ride"]),
         declarations: (0..declarations.len() as u32).collect(),
         registry: declarations.into_iter().map(Some).collect(),
     }
 }
 
+/// The widths of declarations that nobody gave one.
+const WIRE_BITS_UNASKED: u8 = 8;
+const WIRE_BYTES_UNASKED: u8 = 1;
+
 impl Schema {
+    /// The same in another format. Of enums and flags without a width, where the format
+    /// has one, an enum has 8 wire bits and flags have 1 wire byte.
+    pub fn in_format(mut self, format: u16) -> Schema {
+        self.format = format;
+        for declaration in self.registry.iter_mut().flatten() {
+            let unasked = match declaration.body {
+                Body::Enum(..) => WIRE_BITS_UNASKED,
+                _ => WIRE_BYTES_UNASKED,
+            };
+            if let Some(width) = declaration.width_mut() {
+                *width = has_widths(format).then_some(width.unwrap_or(unasked));
+            }
+        }
+        self
+    }
+
     pub fn in_namespace(mut self, segments: &[&str]) -> Schema {
         self.namespace = names(segments);
         self
@@ -41,6 +63,15 @@ fn declaration(name: &str, body: Body) -> Declaration {
     }
 }
 
+impl Declaration {
+    /// An enum or flags with this width, for a schema of a format that has widths.
+    pub fn of_width(mut self, width: u8) -> Declaration {
+        let place = self.width_mut().expect("enums and flags have a width");
+        *place = Some(width);
+        self
+    }
+}
+
 pub fn message(name: &str, fields: Vec<Field>) -> Declaration {
     marked_message(name, 0, fields)
 }
@@ -50,11 +81,11 @@ pub fn marked_message(name: &str, marks: u8, fields: Vec<Field>) -> Declaration 
 }
 
 pub fn enumeration(name: &str, marks: u8, variants: Vec<Item>) -> Declaration {
-    declaration(name, Body::Enum(Marks::of(marks), variants))
+    declaration(name, Body::Enum(Marks::of(marks), None, variants))
 }
 
 pub fn flags(name: &str, bits: Vec<Item>) -> Declaration {
-    declaration(name, Body::Flags(bits))
+    declaration(name, Body::Flags(None, bits))
 }
 
 pub fn union(name: &str, variants: Vec<Variant>) -> Declaration {

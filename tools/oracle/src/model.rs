@@ -144,10 +144,10 @@ impl Clauses<'_> {
                 self.compare_field_sets(name, of, nf);
                 self.compare_deprecated(name, None, *om, *nm);
             }
-            (Body::Enum(om, ov), Body::Enum(nm, nv)) => {
+            (Body::Enum(om, _, ov), Body::Enum(nm, _, nv)) => {
                 self.compare_enums(name, (*om, ov), (*nm, nv));
             }
-            (Body::Flags(o), Body::Flags(n)) => self.compare_flags(name, o, n),
+            (Body::Flags(_, o), Body::Flags(_, n)) => self.compare_flags(name, o, n),
             (Body::Union(o), Body::Union(n)) => self.compare_unions(name, o, n),
             (Body::Newtype(o), Body::Newtype(n)) => self.compare_newtypes(name, o, n),
             // Config, trait and impl are silent; an alias pair is refused before.

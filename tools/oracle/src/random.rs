@@ -54,6 +54,7 @@ pub fn random_schema(rng: &mut Rng, most_entries: usize) -> Schema {
     }
     let segments = if rng.once_in(8) { 4 } else { 2 };
     Schema {
+        format: FIRST_FORMAT,
         namespace: list_of(rng, segments, random_name),
         registry,
         declarations,

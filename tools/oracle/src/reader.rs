@@ -3,11 +3,13 @@
 
 use crate::bodies::read_body;
 use crate::cursor::Cursor;
-use crate::limits::{ENTRIES, ENTRY_BYTES, FORMAT, HEAD_BYTES, IDS, IMAGE_BYTES, SEGMENTS};
+use crate::limits::{ENTRIES, ENTRY_BYTES, FORMATS, HEAD_BYTES, IDS, IMAGE_BYTES, SEGMENTS};
 use crate::refusal::{self, Read, Refusal, CONTENTS, CROWDED, LONG, SHORT_HEAD};
 use crate::schema::Schema;
+use std::ops::Range;
 
 struct Head {
+    format: u16,
     entries: u16,
     ids: u16,
     segments: u16,
@@ -21,6 +23,10 @@ struct Entry {
 impl Entry {
     fn is_empty(&self) -> bool {
         self.offset == 0 && self.length == 0
+    }
+
+    fn part(&self) -> Range<usize> {
+        self.offset..self.offset + self.length
     }
 }
 
@@ -40,12 +46,13 @@ pub fn read_image(image: &[u8]) -> Read<Schema> {
         .zip(&contents)
         .map(|(id, entry)| match entry.is_empty() {
             true => Ok(None),
-            false => read_body(image, entry.offset..entry.offset + entry.length)
+            false => read_body(head.format, image, entry.part())
                 .map(Some)
                 .map_err(|refusal| refusal.of_entry(id)),
         })
         .collect::<Read<_>>()?;
     Ok(Schema {
+        format: head.format,
         namespace,
         registry,
         declarations,
@@ -56,7 +63,7 @@ pub fn read_image(image: &[u8]) -> Read<Schema> {
 fn read_head(front: &mut Cursor) -> Read<Head> {
     let mut head = Cursor::new(front.take(HEAD_BYTES, "head")?, SHORT_HEAD);
     let format = head.u16("format")?;
-    if format != FORMAT {
+    if !FORMATS.contains(&format) {
         return Err(Refusal::new(refusal::FORMAT, "format", u64::from(format)).at(0));
     }
     let mut count = |what, most| {
@@ -67,6 +74,7 @@ fn read_head(front: &mut Cursor) -> Read<Head> {
         }
     };
     Ok(Head {
+        format,
         entries: count("N", ENTRIES)?,
         ids: count("M", IDS)?,
         segments: count("S", SEGMENTS)?,

@@ -1,13 +1,36 @@
-//! What an image holds, in document 01's terms. The reader makes it, the model
-//! compares it, the writer turns it back into bytes.
+//! What an image holds, in the terms of document 01 and, of formats and widths, of
+//! document 02. The reader makes it, the model compares it, the writer turns it back
+//! into bytes.
 
-#[derive(Clone, PartialEq, Debug, Default)]
+#[derive(Clone, PartialEq, Debug)]
 pub struct Schema {
+    /// That of the image, by which its bodies are read and written.
+    pub format: u16,
     pub namespace: Vec<String>,
     /// `None` is an empty entry.
     pub registry: Vec<Option<Declaration>>,
     /// The ids as listed; any value.
     pub declarations: Vec<u32>,
+}
+
+/// The format of document 01.
+pub const FIRST_FORMAT: u16 = 1;
+
+/// Whether enums and flags have a width in images of this format.
+pub fn has_widths(format: u16) -> bool {
+    format >= 2
+}
+
+/// An image that holds nothing, of the first format.
+impl Default for Schema {
+    fn default() -> Schema {
+        Schema {
+            format: FIRST_FORMAT,
+            namespace: Vec::new(),
+            registry: Vec::new(),
+            declarations: Vec::new(),
+        }
+    }
 }
 
 impl Schema {
@@ -27,8 +50,8 @@ pub struct Declaration {
 #[derive(Clone, PartialEq, Debug)]
 pub enum Body {
     Message(Marks, Vec<Field>),
-    Enum(Marks, Vec<Item>),
-    Flags(Vec<Item>),
+    Enum(Marks, Width, Vec<Item>),
+    Flags(Width, Vec<Item>),
     Union(Vec<Variant>),
     Newtype(Type),
     Config,
@@ -36,6 +59,13 @@ pub enum Body {
     Trait,
     Impl,
 }
+
+/// The byte as it is stored: an enum's wire bits, or the wire bytes of flags. There is
+/// one exactly if the format has widths.
+pub type Width = Option<u8>;
+
+/// What the wire bytes of flags may be; wire bits may be any byte.
+pub const WIRE_BYTES: [u8; 4] = [1, 2, 4, 8];
 
 pub const KIND_NAMES: [&str; 9] = [
     "message",
@@ -58,13 +88,21 @@ impl Declaration {
         match self.body {
             Body::Message(..) => 0,
             Body::Enum(..) => 1,
-            Body::Flags(_) => 2,
+            Body::Flags(..) => 2,
             Body::Union(_) => 3,
             Body::Newtype(_) => 4,
             Body::Config => 5,
             Body::GenericAlias => GENERIC_ALIAS,
             Body::Trait => 7,
             Body::Impl => IMPL,
+        }
+    }
+
+    /// Where the width stands, of enums and flags.
+    pub fn width_mut(&mut self) -> Option<&mut Width> {
+        match &mut self.body {
+            Body::Enum(_, width, _) | Body::Flags(width, _) => Some(width),
+            _ => None,
         }
     }
 }

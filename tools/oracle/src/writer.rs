@@ -1,7 +1,6 @@
 //! From a schema to the bytes of its image, in parts that a caller can spoil
 //! before they are put together.
 
-use crate::limits::FORMAT;
 use crate::schema::*;
 
 /// An image in its parts. `of` makes them fit; whoever changes one afterwards
@@ -20,14 +19,18 @@ pub struct Parts {
 impl Parts {
     pub fn of(schema: &Schema) -> Parts {
         let bodies = schema.registry.iter();
-        let bodies = bodies.map(|entry| entry.as_ref().map(body)).collect();
-        Parts::around(&schema.namespace, &schema.declarations, bodies)
+        let bodies = bodies.map(|entry| Some(body(schema.format, entry.as_ref()?)));
+        Parts {
+            format: schema.format,
+            ..Parts::around(&schema.namespace, &schema.declarations, bodies.collect())
+        }
     }
 
-    /// The parts around bodies given as bytes; `None` is an empty entry.
+    /// The parts around bodies given as bytes, of the first format; `None` is an empty
+    /// entry.
     pub fn around(namespace: &[String], ids: &[u32], bodies: Vec<Option<Vec<u8>>>) -> Parts {
         let mut parts = Parts {
-            format: FORMAT,
+            format: FIRST_FORMAT,
             counts: [
                 bodies.len() as u16,
                 ids.len() as u16,
@@ -77,7 +80,7 @@ fn count<T>(items: &[T]) -> [u8; 2] {
     (items.len() as u16).to_le_bytes()
 }
 
-pub fn body(declaration: &Declaration) -> Vec<u8> {
+pub fn body(format: u16, declaration: &Declaration) -> Vec<u8> {
     let mut bytes = vec![declaration.kind()];
     if declaration.kind() != IMPL {
         bytes.extend(name(&declaration.name));
@@ -87,11 +90,15 @@ pub fn body(declaration: &Declaration) -> Vec<u8> {
             bytes.push(marks.byte());
             bytes.extend(fields(list));
         }
-        Body::Enum(marks, list) => {
+        Body::Enum(marks, bits, list) => {
             bytes.push(marks.byte());
+            bytes.extend(width(format, *bits));
             bytes.extend(items(list));
         }
-        Body::Flags(list) => bytes.extend(items(list)),
+        Body::Flags(wire_bytes, list) => {
+            bytes.extend(width(format, *wire_bytes));
+            bytes.extend(items(list));
+        }
         Body::Union(list) => {
             bytes.extend(count(list));
             bytes.extend(list.iter().flat_map(variant));
@@ -100,6 +107,16 @@ pub fn body(declaration: &Declaration) -> Vec<u8> {
         Body::Config | Body::GenericAlias | Body::Trait | Body::Impl => {}
     }
     bytes
+}
+
+/// A width stands exactly where the format has one.
+fn width(format: u16, width: Width) -> Width {
+    assert_eq!(
+        width.is_some(),
+        has_widths(format),
+        "a width in format {format}"
+    );
+    width
 }
 
 /// The ordinal and the name that every numbered item starts with.

@@ -3,7 +3,7 @@
 
 use super::Cases;
 use crate::make::*;
-use crate::schema::{Declaration, Field, KIND_NAMES};
+use crate::schema::{Declaration, Field, FIRST_FORMAT, KIND_NAMES};
 use crate::writer::{body, Parts};
 
 /// An image of one listed body in namespace `ride`.
@@ -46,7 +46,7 @@ fn full_fields() -> Vec<Field> {
 pub fn add(cases: &mut Cases) {
     for declaration in full_bodies() {
         let word = KIND_NAMES[usize::from(declaration.kind())];
-        let whole = body(&declaration);
+        let whole = body(FIRST_FORMAT, &declaration);
         cases.beside_ride(&format!("whole {word}"), with_body(whole.clone()));
         for length in 1..whole.len() {
             let cut = with_body(whole[..length].to_vec());
@@ -67,7 +67,7 @@ pub fn add(cases: &mut Cases) {
 fn counts(cases: &mut Cases) {
     for declaration in &full_bodies()[..4] {
         let word = KIND_NAMES[usize::from(declaration.kind())];
-        let whole = body(declaration);
+        let whole = body(FIRST_FORMAT, declaration);
         let at = if declaration.kind() < 2 { 5 } else { 4 };
         for (name, change) in [("too many", 1), ("too few", 255)] {
             let mut spoiled = whole.clone();

@@ -4,7 +4,7 @@
 use super::bodies::with_body;
 use super::Cases;
 use crate::make::*;
-use crate::schema::{Declaration, Field, Type};
+use crate::schema::{Declaration, Field, Type, FIRST_FORMAT};
 use crate::writer::{body, field as field_bytes, fields as fields_bytes, ty as type_bytes};
 
 pub fn add(cases: &mut Cases) {
@@ -57,7 +57,7 @@ fn name_places(cases: &mut Cases) {
         ("inline bit", newtype("N", bits(&["a", "Qqq"]))),
     ];
     for (place, declaration) in places {
-        let whole = body(&declaration);
+        let whole = body(FIRST_FORMAT, &declaration);
         let at = whole.windows(3).position(|bytes| bytes == b"Qqq");
         let at = at.expect("the name stands in the body");
         for (end, offset) in [("first", 0), ("last", 2)] {

@@ -69,7 +69,7 @@ fn of_declaration(fact: &mut impl FnMut(String), declaration: &Declaration) {
                 .iter()
                 .for_each(|field| of_field(fact, field, "field"));
         }
-        Body::Enum(marks, _) => fact(format!("enum marks {}", marks.byte())),
+        Body::Enum(marks, _, _) => fact(format!("enum marks {}", marks.byte())),
         Body::Union(variants) => {
             let fields = variants.iter().flat_map(|variant| &variant.fields);
             fields.for_each(|field| of_field(fact, field, "variant's field"));

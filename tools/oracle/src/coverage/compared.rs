@@ -76,7 +76,7 @@ impl Pairing<'_> {
                 self.of_marks("message", *om, *nm);
                 self.of_fields("field", o, n);
             }
-            (Body::Enum(o, _), Body::Enum(n, _)) => self.of_marks("enum", *o, *n),
+            (Body::Enum(o, _, _), Body::Enum(n, _, _)) => self.of_marks("enum", *o, *n),
             (Body::Union(o), Body::Union(n)) => self.of_variants(o, n),
             (Body::Newtype(o), Body::Newtype(n)) => typed::root(self, o, n),
             _ => {}

@@ -23,7 +23,7 @@ pub fn facts(facts: &mut Facts, pair: &Pair) {
     for (name, o, n) in kept(&o, &n) {
         match (&o.body, &n.body) {
             (Body::Message(_, o), Body::Message(_, n)) => of_fields(facts, o, n, silent),
-            (Body::Enum(o, _), Body::Enum(n, _)) => of_enum(facts, &report, name, *o, *n),
+            (Body::Enum(o, _, _), Body::Enum(n, _, _)) => of_enum(facts, &report, name, *o, *n),
             (Body::Union(o), Body::Union(n)) => {
                 let (o, n) = (survivors(o), survivors(n));
                 let renamed = kept(&o, &n).any(|(_, o, n)| o.name != n.name);

@@ -129,8 +129,8 @@ fn of_list<T: Numbered + PartialEq>(fact: &mut impl FnMut(String), place: &str, 
 fn of_body(fact: &mut impl FnMut(String), schema: &Schema, body: &Body) {
     match body {
         Body::Message(_, fields) => of_fields(fact, schema, "field", fields),
-        Body::Enum(_, list) => of_list(fact, "enum variant", list),
-        Body::Flags(list) => of_list(fact, "bit", list),
+        Body::Enum(_, _, list) => of_list(fact, "enum variant", list),
+        Body::Flags(_, list) => of_list(fact, "bit", list),
         Body::Union(variants) => {
             of_list(fact, "union variant", variants);
             for variant in variants {

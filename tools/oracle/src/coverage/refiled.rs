@@ -103,8 +103,8 @@ impl Moves<'_> {
     fn of_bodies(&mut self, one: &Body, other: &Body) {
         match (one, other) {
             (Body::Message(_, o), Body::Message(_, n)) => self.of_fields("fields", o, n),
-            (Body::Enum(_, o), Body::Enum(_, n)) => self.of_order("enum variants", o, n),
-            (Body::Flags(o), Body::Flags(n)) => self.of_order("bits", o, n),
+            (Body::Enum(_, _, o), Body::Enum(_, _, n)) => self.of_order("enum variants", o, n),
+            (Body::Flags(_, o), Body::Flags(_, n)) => self.of_order("bits", o, n),
             (Body::Union(o), Body::Union(n)) => {
                 self.of_order("union variants", o, n);
                 for (_, o, n) in kept(&survivors(o), &survivors(n)) {

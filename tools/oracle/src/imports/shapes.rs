@@ -41,6 +41,7 @@ pub fn random_imports(rng: &mut Rng, most_entries: usize) -> Schema {
     });
     let registry = registry.collect();
     Schema {
+        format: FIRST_FORMAT,
         namespace: names(&["ride"]),
         registry,
         declarations: listed(rng, &shape),

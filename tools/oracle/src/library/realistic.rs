@@ -43,7 +43,7 @@ fn declaration(rng: &mut Rng, place: usize, declarations: usize) -> Declaration 
 fn number_items(body: &mut Body) {
     match body {
         Body::Message(_, fields) => count_up(fields.iter_mut().map(|f| &mut f.ordinal)),
-        Body::Enum(_, items) | Body::Flags(items) => {
+        Body::Enum(_, _, items) | Body::Flags(_, items) => {
             count_up(items.iter_mut().map(|i| &mut i.ordinal));
         }
         Body::Union(variants) => {

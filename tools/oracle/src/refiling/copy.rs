@@ -11,6 +11,7 @@ use crate::writer::image;
 pub fn refiled(rng: &mut Rng, schema: &Schema) -> Schema {
     let filing = Filing::of(rng, schema);
     let mut copy = Schema {
+        format: schema.format,
         namespace: schema.namespace.clone(),
         registry: vec![None; filing.entries as usize],
         declarations: schema.declarations.clone(),
@@ -107,7 +108,7 @@ fn empty_entries(rng: &mut Rng, schema: &Schema, full: usize) -> usize {
 fn reorder(rng: &mut Rng, body: &mut Body) {
     match body {
         Body::Message(_, fields) => rng.shuffle(fields),
-        Body::Enum(_, items) | Body::Flags(items) => rng.shuffle(items),
+        Body::Enum(_, _, items) | Body::Flags(_, items) => rng.shuffle(items),
         Body::Union(variants) => {
             rng.shuffle(variants);
             for variant in variants {

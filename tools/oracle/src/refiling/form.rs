@@ -117,8 +117,8 @@ fn declaration(declaration: &Declaration) -> Written {
     let head = format!("{} {:?}", declaration.kind(), declaration.name);
     match &declaration.body {
         Body::Message(marks, list) => Written::of(format!("{head} {marks:?}")).around(fields(list)),
-        Body::Enum(marks, list) => Written::of(format!("{head} {marks:?}")).around(items(list)),
-        Body::Flags(list) => Written::of(head).around(items(list)),
+        Body::Enum(marks, _, list) => Written::of(format!("{head} {marks:?}")).around(items(list)),
+        Body::Flags(_, list) => Written::of(head).around(items(list)),
         Body::Union(list) => {
             let variant =
                 |v: &Variant| Written::of(format!("{:?}", v.name)).around(fields(&v.fields));

@@ -100,7 +100,7 @@ fn mend_names(rng: &mut Rng, schema: &mut Schema) {
 fn mend_numbers(rng: &mut Rng, body: &mut Body) {
     match body {
         Body::Message(_, fields) => mend_list(rng, fields, |field| &mut field.ordinal),
-        Body::Enum(_, items) | Body::Flags(items) => {
+        Body::Enum(_, _, items) | Body::Flags(_, items) => {
             mend_list(rng, items, |item| &mut item.ordinal)
         }
         Body::Union(variants) => {

@@ -40,8 +40,8 @@ fn in_the_entries(schema: &Schema) -> Option<String> {
 fn in_a_body(body: &Body) -> Option<String> {
     match body {
         Body::Message(_, fields) => in_a_list("field", fields),
-        Body::Enum(_, variants) => in_a_list("variant", variants),
-        Body::Flags(bits) => in_a_list("bit", bits),
+        Body::Enum(_, _, variants) => in_a_list("variant", variants),
+        Body::Flags(_, bits) => in_a_list("bit", bits),
         Body::Union(variants) => in_a_list("variant", variants).or_else(|| {
             variants.iter().find_map(|variant| {
                 let what = in_a_list("field", &variant.fields)?;

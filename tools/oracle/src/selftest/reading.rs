@@ -3,7 +3,7 @@
 
 use super::Tests;
 use crate::answer::{judge, Side, SELECTORS};
-use crate::limits::REPORT_BYTES;
+use crate::limits::{FORMATS, REPORT_BYTES};
 use crate::make::*;
 use crate::random::random_schema;
 use crate::reader::read_image;
@@ -37,6 +37,7 @@ pub fn run(tests: &mut Tests) {
     front(tests);
     contents(tests);
     bodies(tests);
+    in_formats(tests);
     fields(tests);
     types(tests);
     answers(tests);
@@ -83,7 +84,12 @@ fn front(tests: &mut Tests) {
     tests.equal("2 of no byte", number(&[]), 2);
     tests.equal("2 before 3", number(&[9; 7]), 2);
     tests.equal("3 of 0", number(&head(0, [513, 0, 0])), 3);
-    tests.equal("3 of 2", number(&head(2, [0; 3])), 3);
+    tests.equal("format 2", number(&head(2, [0; 3])), 0);
+    for format in [3, 4, 256, 257, 512, 65_535] {
+        tests.equal("3 of a later one", number(&head(format, [0; 3])), 3);
+    }
+    tests.equal("3 before 4", number(&head(3, [513, 0, 0])), 3);
+    tests.equal("4 of format 2", number(&head(2, [513, 0, 0])), 4);
     tests.equal("N", number(&head(1, [513, 0, 0])), 4);
     tests.equal("M", number(&head(1, [0, 513, 0])), 4);
     tests.equal("S", number(&head(1, [0, 0, 17])), 4);
@@ -149,6 +155,26 @@ fn bodies(tests: &mut Tests) {
         &[3, 0, 1, 0, 7, 0, 0, 0, 0],
         8,
     );
+}
+
+/// A body of any kind in another format.
+fn in_formats(tests: &mut Tests) {
+    let widths = vec![
+        enumeration("E", 2, items(&[(0, "a"), (7, "b")])).of_width(16),
+        flags("F", items(&[(8, "i")])).of_width(2),
+    ];
+    let others = (0..9).map(|kind| of_kind(kind, "Name"));
+    let whole = schema(widths.into_iter().chain(others).collect());
+    for format in FORMATS {
+        let schema = whole.clone().in_format(format);
+        let bytes = image(&schema);
+        tests.equal(
+            "the format stands first",
+            bytes[..2].to_vec(),
+            format.to_le_bytes().to_vec(),
+        );
+        tests.equal("every kind in a format", read_image(&bytes), Ok(schema));
+    }
 }
 
 fn fields(tests: &mut Tests) {

@@ -95,7 +95,7 @@ impl Reading {
                 };
                 variant.fields.push(field(line, ordinal, name)?);
             }
-            Body::Enum(_, items) | Body::Flags(items) if !is_field => {
+            Body::Enum(_, _, items) | Body::Flags(_, items) if !is_field => {
                 items.push(Item { ordinal, name });
             }
             Body::Union(variants) if !is_field => variants.push(Variant {
@@ -156,8 +156,8 @@ fn declaration(line: &mut Scanner) -> Parsed<Declaration> {
     };
     let body = match kind as u8 {
         0 => Body::Message(marks(line), Vec::new()),
-        1 => Body::Enum(marks(line), Vec::new()),
-        2 => Body::Flags(Vec::new()),
+        1 => Body::Enum(marks(line), None, Vec::new()),
+        2 => Body::Flags(None, Vec::new()),
         3 => Body::Union(Vec::new()),
         4 => {
             line.expect(":")?;

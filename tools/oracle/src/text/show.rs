@@ -47,7 +47,7 @@ fn heading(schema: &Schema, declaration: &Declaration) -> String {
     let kind = KIND_NAMES[usize::from(declaration.kind())];
     let named = format!("{kind} {}", name(&declaration.name));
     match &declaration.body {
-        Body::Message(marks, _) | Body::Enum(marks, _) => named + &marked(*marks),
+        Body::Message(marks, _) | Body::Enum(marks, _, _) => named + &marked(*marks),
         Body::Newtype(inner) => format!("{named}: {}", ty(schema, inner)),
         Body::Impl => kind.to_string(),
         _ => named,
@@ -67,7 +67,7 @@ fn marked(marks: Marks) -> String {
 fn items(schema: &Schema, body: &Body) -> Vec<String> {
     match body {
         Body::Message(_, fields) => fields.iter().map(|f| field("  ", schema, f)).collect(),
-        Body::Enum(_, items) | Body::Flags(items) => items.iter().map(start).collect(),
+        Body::Enum(_, _, items) | Body::Flags(_, items) => items.iter().map(start).collect(),
         Body::Union(variants) => variants.iter().flat_map(|v| variant(schema, v)).collect(),
         _ => Vec::new(),
     }

@@ -4,7 +4,7 @@
 use super::ast::{PrimitiveType, SemanticType, SubByteType, TypeExpr};
 use super::ir::*;
 use super::span::Span;
-use crate::schema::{self, Body, Declaration, Label, Marks, Schema};
+use crate::schema::{self, Body, Declaration, Label, Marks, Schema, Width};
 use smol_str::SmolStr;
 use std::collections::HashMap;
 
@@ -56,8 +56,10 @@ fn type_def(declaration: &Declaration) -> TypeDef {
             annotations: annotations(*marks),
             wire_size: None,
         }),
-        Body::Enum(marks, variants) => TypeDef::Enum(enum_def(name, *marks, variants)),
-        Body::Flags(bits) => TypeDef::Flags(flags_def(name, bits)),
+        Body::Enum(marks, width, variants) => {
+            TypeDef::Enum(enum_def(name, *marks, *width, variants))
+        }
+        Body::Flags(width, bits) => TypeDef::Flags(flags_def(name, *width, bits)),
         Body::Union(variants) => TypeDef::Union(UnionDef {
             name,
             span: span(),
@@ -113,7 +115,7 @@ fn nameless(name: SmolStr, declaration: &Declaration) -> TypeDef {
     }
 }
 
-fn enum_def(name: SmolStr, marks: Marks, variants: &[schema::Item]) -> EnumDef {
+fn enum_def(name: SmolStr, marks: Marks, width: Width, variants: &[schema::Item]) -> EnumDef {
     let variant = |item: &schema::Item| EnumVariantDef {
         name: SmolStr::new(&item.name),
         span: span(),
@@ -127,11 +129,11 @@ fn enum_def(name: SmolStr, marks: Marks, variants: &[schema::Item]) -> EnumDef {
         variants: variants.iter().map(variant).collect(),
         tombstones: Vec::new(),
         annotations: annotations(marks),
-        wire_bits: 0,
+        wire_bits: width.unwrap_or(0),
     }
 }
 
-fn flags_def(name: SmolStr, bits: &[schema::Item]) -> FlagsDef {
+fn flags_def(name: SmolStr, width: Width, bits: &[schema::Item]) -> FlagsDef {
     let bit = |item: &schema::Item| FlagsBitDef {
         name: SmolStr::new(&item.name),
         span: span(),
@@ -144,7 +146,7 @@ fn flags_def(name: SmolStr, bits: &[schema::Item]) -> FlagsDef {
         bits: bits.iter().map(bit).collect(),
         tombstones: Vec::new(),
         annotations: ResolvedAnnotations::default(),
-        wire_bytes: 0,
+        wire_bytes: width.unwrap_or(0),
     }
 }
 

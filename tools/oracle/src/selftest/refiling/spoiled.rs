@@ -125,7 +125,7 @@ fn any_fields(schema: &mut Schema, mut spoil: impl FnMut(&mut Vec<Field>) -> boo
 fn any_items(schema: &mut Schema, mut spoil: impl FnMut(&mut Vec<Item>) -> bool) -> bool {
     let mut declarations = schema.registry.iter_mut().flatten();
     declarations.any(|declaration| match &mut declaration.body {
-        Body::Enum(_, items) | Body::Flags(items) => spoil(items),
+        Body::Enum(_, _, items) | Body::Flags(_, items) => spoil(items),
         _ => false,
     })
 }
