@@ -126,7 +126,7 @@ pub data EntryWithin (f : ℕ) : Option Decl → Type 0 where
   empty : EntryWithin f none
   full : {d : Decl} → DeclWithin f d → EntryWithin f (some d)
 
--- the formats that are read: "3 now means neither 1 nor 2"
+-- the formats that are read: "Refusal 3 now means neither 1 nor 2."
 pub data FormatWithin : ℕ → Type 0 where
   first : FormatWithin 1
   second : FormatWithin 2
