@@ -9,6 +9,7 @@ pub mod Walking
 pub mod Places
 pub mod Reorderings
 pub mod Alike
+pub mod Mapped
 pub mod Levels
 pub mod Sums
 pub mod Examples

@@ -6,6 +6,7 @@
 -- ReachedSets, Reached: what is computed is what is reached through named nodes. Standing: what stands with a set of ids. Imports: the
 -- verdict with imports. Agreed: readings that agree on the types that are compared. Mended: the three answers of the type comparison, and the
 -- mended verdict.
+-- Forgotten: what is read where a part of each declaration is forgotten. Ignored: the earlier verdicts ignore widths.
 -- Computed: what is unfolded to compute. Edges, ImportEdges, MendedEdges, Pinned, PinnedImports, PinnedMended: what is computed from the
 -- definitions alone.
 pub mod Equal
@@ -34,6 +35,8 @@ pub mod Bound
 pub mod Imports
 pub mod Agreed
 pub mod Mended
+pub mod Forgotten
+pub mod Ignored
 pub mod Computed
 pub mod Edges
 pub mod ImportEdges

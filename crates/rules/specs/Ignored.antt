@@ -1,6 +1,6 @@
 -- R-6: "The earlier verdicts accept both formats and ignore the width." What two images hold that differ in nothing else. Assumes nothing.
 use Rattle.std.specs.Prelude.{◌≡◌, List, map, ℕ}
-use Rattle.std.proofs.Math.Option.{Option, none, some}
+use Rattle.std.proofs.Math.Option.{none, map as map_option}
 use Rattle.image.specs.Schema.{Decl, decl, Schema}
 use Rattle.rules.specs.Outcome.{Outcome}
 use Rattle.rules.specs.Answer.{outcome, plain}
@@ -11,12 +11,8 @@ use Rattle.rules.specs.Refusals.{AcceptedPair}
 unfoldable pub unsized : Decl → Decl
 unsized d = decl d.kind d.name d.marks none d.fields d.variants d.inner
 
-unfoldable pub unsizedEntry : Option Decl → Option Decl
-unsizedEntry none = none
-unsizedEntry (some d) = some (unsized d)
-
 unfoldable pub unsizedSchema : Schema → Schema
-unsizedSchema s = record { format = 1; registry = map unsizedEntry s.registry; ids = s.ids; namespace = s.namespace }
+unsizedSchema s = record { format = 1; registry = map (map_option unsized) s.registry; ids = s.ids; namespace = s.namespace }
 
 -- two images that are accepted, and hold the same but for format and widths
 abbrev pub SameUnsized : List ℕ → List ℕ → Type 0
