@@ -6,7 +6,7 @@ ghost use Rattle.rules.specs.Verdict.{resultAt};
 ghost use Rattle.tally.specs.Tallies.{Countable, noChange, withChange};
 
 // How many kinds are counted.
-pub const KINDS: usize = 18;
+pub const KINDS: usize = 19;
 
 // The weight of a change.
 #[derive(Clone, Copy)]
