@@ -6,13 +6,13 @@ use Prim.Native.Nat.{ℕ, zero, suc, ◌+◌, ◌*◌, ◌≤◌, ◌<◌}
 use native.Mathlib.Omega.{arith}
 use borrow.Author.Tests.{leb-true, ne_eqb}
 use lib.ListN.{length, get_or, take, drop, get_or-eq_default}
-use Rattle.image.specs.Schema.{Decl, Schema}
+use Rattle.image.specs.Schema.{Decl, Schema, noSchema}
 use Rattle.image.specs.Parse.{ok, bind, pick, part, littleEndian, byteAt}
 use Rattle.image.specs.Names.{nameAt, namesAt}
 use Rattle.image.specs.Bodies.{bodyOf}
-use Rattle.image.specs.Image.{entryCount, idCount, segmentCount, entryOffset, entryLength, idsAt, segmentsAt, idsFrom, headOf, tablesOf, entryOf, entriesOf, readImage}
-use Rattle.image.specs.WellFormed.{Good, valueOr}
-use Rattle.image.proofs.Laws.Sure.{Head, head-sure}
+use Rattle.image.specs.Image.{format, entryCount, idCount, segmentCount, entryOffset, entryLength, idsAt, segmentsAt, idsFrom, headOf, tablesOf, entryOf, entriesOf, readImage}
+use Rattle.image.specs.WellFormed.{Good, valueOr, endOf}
+use Rattle.image.proofs.Laws.Sure.{head-sure}
 use Rattle.image.proofs.Laws.Good.{sure-good, good-first}
 use Rattle.image.proofs.Laws.Repeats.{ids-length}
 use Rattle.image.proofs.Laws.Names.{part_length}
@@ -21,17 +21,16 @@ use Rattle.parts.proofs.Laws.Kept.{kept-good, kept-value, part_of, part-self, na
 use Rattle.parts.proofs.Laws.Steps.{good-is, then_is, then-good, need-is, need-true, byte-is}
 use Rattle.parts.proofs.Laws.Places.{many-places}
 
-abbrev noSchema : Schema
-noSchema = record { registry = []; ids = []; namespace = [] }
-
 -- what an accepted image consists of
 pub record Whole (s : List ℕ) : Type 0 where
-  pub head : Head s
+  pub most : length s ≤ 32768
+  pub least : 8 ≤ length s
   pub tables : segmentsAt s ≤ length s
   pub names : Good (namesAt 2 (segmentCount s) s (segmentsAt s))
-  pub entries : Good (entriesOf (entryCount s) s 0)
+  pub entries : Good (entriesOf (format s) (entryCount s) s 0)
   pub is : schemaOf s ≡ record {
-    registry = valueOr [] (entriesOf (entryCount s) s 0);
+    format = format s;
+    registry = valueOr [] (entriesOf (format s) (entryCount s) s 0);
     ids = idsFrom (idCount s) s (idsAt s);
     namespace = valueOr [] (namesAt 2 (segmentCount s) s (segmentsAt s));
   }
@@ -39,8 +38,10 @@ pub record Whole (s : List ℕ) : Type 0 where
 pub whole : (s : List ℕ) → Accepted s → Whole s
 unfolding Accepted schemaOf readImage tablesOf valueOr
 whole s g =
-    let b₁ = good-first tt (headOf s) _ g in
-    let g₂ = then-good _ (good-is tt (headOf s) b₁) g in
+    let b₁ = good-first 0 (headOf s) _ g in
+    let h = sure-good 0 (head-sure s) b₁ in
+    let e₁ = good-is 0 (headOf s) b₁ ∙ ap (λ (f : ℕ). ok f (endOf (headOf s))) h.format in
+    let g₂ = then-good _ e₁ g in
     let b₂ = good-first [] (tablesOf s) _ g₂ in
     let e₂ = need-is 2 _ _ b₂ in
     let g₃ = then-good _ e₂ g₂ in
@@ -49,13 +50,14 @@ whole s g =
     let g₄ = then-good _ e₃ g₃ in
     let e₄ = need-is 5 _ _ g₄ in
     let g₅ = rw e₄ at g₄ in
-    let b₅ = good-first [] (entriesOf (entryCount s) s 0) _ g₅ in
+    let b₅ = good-first [] (entriesOf (format s) (entryCount s) s 0) _ g₅ in
     record {
-      head = sure-good tt (head-sure s) b₁;
+      most = h.most;
+      least = h.least;
       tables = leb-true (segmentsAt s) (length s) (need-true 2 _ _ b₂);
       names = b₃;
       entries = b₅;
-      is = ap (valueOr noSchema) (then_is _ (good-is tt (headOf s) b₁) ∙ then_is _ e₂ ∙ then_is _ e₃ ∙ e₄ ∙ then_is _ (good-is [] _ b₅));
+      is = ap (valueOr noSchema) (then_is _ e₁ ∙ then_is _ e₂ ∙ then_is _ e₃ ∙ e₄ ∙ then_is _ (good-is [] _ b₅));
     }
 
 -- the ids
@@ -70,28 +72,28 @@ module _ (s : List ℕ) where
       let z : at + 4 + 4 * k ≡ at + 4 * suc k = omega arith in
       ids_at c (at + 4) k (omega arith) ∙ ap (λ (i : ℕ). littleEndian 4 (drop i s)) z
 
--- the entries, one by one
-module _ (s : List ℕ) where
-  entries-more : (c i : ℕ) → Good (entriesOf (suc c) s i)
-      → Good (entryOf s i) × Good (entriesOf c s (i + 1)) × (valueOr [] (entriesOf (suc c) s i) ≡ valueOr none (entryOf s i) ∷ valueOr [] (entriesOf c s (i + 1)))
+-- the entries, one by one, in a format
+module _ (f : ℕ) (s : List ℕ) where
+  entries-more : (c i : ℕ) → Good (entriesOf f (suc c) s i)
+      → Good (entryOf f s i) × Good (entriesOf f c s (i + 1)) × (valueOr [] (entriesOf f (suc c) s i) ≡ valueOr none (entryOf f s i) ∷ valueOr [] (entriesOf f c s (i + 1)))
   unfolding entriesOf valueOr
   entries-more c i g =
-      let a = good-first none (entryOf s i) _ g in
-      let e = good-is none (entryOf s i) a in
-      let b = good-first [] (entriesOf c s (i + 1)) _ (then-good _ e g) in
+      let a = good-first none (entryOf f s i) _ g in
+      let e = good-is none (entryOf f s i) a in
+      let b = good-first [] (entriesOf f c s (i + 1)) _ (then-good _ e g) in
       (a, b, ap (valueOr []) (then_is _ e ∙ then_is _ (good-is [] _ b)))
 
-  entries_none : (i : ℕ) → valueOr [] (entriesOf 0 s i) ≡ []
+  entries_none : (i : ℕ) → valueOr [] (entriesOf f 0 s i) ≡ []
   unfolding entriesOf valueOr
   entries_none i = refl
 
-  entries-count : (c i : ℕ) → Good (entriesOf c s i) → length (valueOr [] (entriesOf c s i)) ≡ c
+  entries-count : (c i : ℕ) → Good (entriesOf f c s i) → length (valueOr [] (entriesOf f c s i)) ≡ c
   entries-count zero i g = ap length (entries_none i)
   entries-count (suc c) i g =
       let (a, b, e) = entries-more c i g in
       ap length e ∙ ap suc (entries-count c (i + 1) b)
 
-  entries_at : (c i j : ℕ) → j < c → Good (entriesOf c s i) → Good (entryOf s (i + j)) × (get_or (valueOr [] (entriesOf c s i)) j none ≡ valueOr none (entryOf s (i + j)))
+  entries_at : (c i j : ℕ) → j < c → Good (entriesOf f c s i) → Good (entryOf f s (i + j)) × (get_or (valueOr [] (entriesOf f c s i)) j none ≡ valueOr none (entryOf f s (i + j)))
   entries_at zero i j l g = absurd (omega arith)
   entries_at (suc c) i zero l g =
       let (a, b, e) = entries-more c i g in
@@ -104,39 +106,46 @@ module _ (s : List ℕ) where
       rw z (r.0, ap (λ (r : List (Option Decl)). get_or r (suc j) none) e ∙ r.1)
 
   -- an empty one, and one with a body
-  entry-empty : (i : ℕ) → entryLength s i ≡ 0 → valueOr none (entryOf s i) ≡ none
+  entry-empty : (i : ℕ) → entryLength s i ≡ 0 → valueOr none (entryOf f s i) ≡ none
   unfolding entryOf pick valueOr
   entry-empty i z = rw z
 
-  entry-is : (i : ℕ) → (entryLength s i ≡ 0 → ⊥) → entryOf s i ≡ bind (bodyOf (part (entryOffset s i) (entryLength s i) s)) (λ d n. ok (some d) n)
+  entry-is : (i : ℕ) → (entryLength s i ≡ 0 → ⊥) → entryOf f s i ≡ bind (bodyOf f (part (entryOffset s i) (entryLength s i) s)) (λ d n. ok (some d) n)
   unfolding entryOf pick
-  entry-is i f = rw (ne_eqb (entryLength s i) 0 f)
+  entry-is i n = rw (ne_eqb (entryLength s i) 0 n)
 
-  body-there : (from count : ℕ) → Good (bodyOf (part from count s)) → from ≤ length s
+  body-there : (from count : ℕ) → Good (bodyOf f (part from count s)) → from ≤ length s
   unfolding bodyOf part
   body-there from count g =
       let l = (byte-is (take count (drop from s)) 0 8 (good-first 0 (byteAt 8 (take count (drop from s)) 0) _ g)).1 in
       omega (arith, (part_length from count s).1)
 
-  entry-body : (i : ℕ) → (entryLength s i ≡ 0 → ⊥) → Good (entryOf s i) → DeclHere s (entryOffset s i) × (valueOr none (entryOf s i) ≡ some (declIn s (entryOffset s i)))
+-- a body's declaration stands in the image at the body's place
+module _ (s : List ℕ) where
+  entry-body : (i : ℕ) → (entryLength s i ≡ 0 → ⊥) → Good (entryOf (format s) s i)
+      → DeclHere s (entryOffset s i) × (valueOr none (entryOf (format s) s i) ≡ some (declIn s (entryOffset s i)))
   unfolding DeclHere declIn valueOr
-  entry-body i f g =
+  entry-body i n g =
       let t = part (entryOffset s i) (entryLength s i) s in
-      let b = good-first noDecl (bodyOf t) _ (rw (entry-is i f) at g) in
-      let k = body_kept (entryOffset s i) t s (part_of (entryOffset s i) (entryLength s i) s (body-there (entryOffset s i) (entryLength s i) b)) in
-      (kept-good k b, ap (valueOr none) (entry-is i f ∙ then_is _ (good-is noDecl (bodyOf t) b)) ∙ ap some (sym (kept-value noDecl k b)))
+      let e = entry-is (format s) s i n in
+      let b = good-first noDecl (bodyOf (format s) t) _ (rw e at g) in
+      let k = body_kept (entryOffset s i) t s (part_of (entryOffset s i) (entryLength s i) s (body-there (format s) s (entryOffset s i) (entryLength s i) b)) in
+      (kept-good k b, ap (valueOr none) (e ∙ then_is _ (good-is noDecl (bodyOf (format s) t) b)) ∙ ap some (sym (kept-value noDecl k b)))
 
 -- what an accepted image says of its tables
 module _ (s : List ℕ) (g : Accepted s) where
   pub accepted-most : length s ≤ 32768
-  accepted-most = (whole s g).head.most
+  accepted-most = (whole s g).most
 
   pub head-there : 8 ≤ length s
-  head-there = (whole s g).head.least
+  head-there = (whole s g).least
 
   tables-there : 8 + 4 * entryCount s + 4 * idCount s ≤ length s
   unfolding segmentsAt idsAt
   tables-there = (whole s g).tables
+
+  pub format-is : format s ≡ (schemaOf s).format
+  format-is = sym (ap (λ (c : Schema). c.format) (whole s g).is)
 
   ids-are : (schemaOf s).ids ≡ idsFrom (idCount s) s (idsAt s)
   ids-are = ap (λ (c : Schema). c.ids) (whole s g).is
@@ -152,11 +161,11 @@ module _ (s : List ℕ) (g : Accepted s) where
       let t = tables-there in
       (sym (ap (λ (i : List ℕ). get_or i k 0) ids-are ∙ ids_at s (idCount s) (idsAt s) k (omega arith)), omega arith)
 
-  entries-are : (schemaOf s).registry ≡ valueOr [] (entriesOf (entryCount s) s 0)
+  entries-are : (schemaOf s).registry ≡ valueOr [] (entriesOf (format s) (entryCount s) s 0)
   entries-are = ap (λ (c : Schema). c.registry) (whole s g).is
 
   pub entry-count-is : entryCount s ≡ length (schemaOf s).registry
-  entry-count-is = sym (ap length entries-are ∙ entries-count s (entryCount s) 0 (whole s g).entries)
+  entry-count-is = sym (ap length entries-are ∙ entries-count (format s) s (entryCount s) 0 (whole s g).entries)
 
   -- each has a pair in the contents
   pub entries-most : length (schemaOf s).registry ≤ length s
@@ -173,14 +182,14 @@ module _ (s : List ℕ) (g : Accepted s) where
     pub pair-there : 8 + 4 * id + 4 ≤ length s
     pair-there = let t = tables-there in omega arith
 
-    found : Good (entryOf s id) × (get_or (schemaOf s).registry id none ≡ valueOr none (entryOf s id))
+    found : Good (entryOf (format s) s id) × (get_or (schemaOf s).registry id none ≡ valueOr none (entryOf (format s) s id))
     found =
         let z : 0 + id ≡ id = omega arith in
-        let r = entries_at s (entryCount s) 0 id l (whole s g).entries in
-        (rw z at r.0, ap (λ (r : List (Option Decl)). get_or r id none) entries-are ∙ r.1 ∙ ap (λ (i : ℕ). valueOr none (entryOf s i)) z)
+        let r = entries_at (format s) s (entryCount s) 0 id l (whole s g).entries in
+        (rw z at r.0, ap (λ (r : List (Option Decl)). get_or r id none) entries-are ∙ r.1 ∙ ap (λ (i : ℕ). valueOr none (entryOf (format s) s i)) z)
 
     pub empty-entry : entryLength s id ≡ 0 → get_or (schemaOf s).registry id none ≡ none
-    empty-entry e = found.1 ∙ entry-empty s id e
+    empty-entry e = found.1 ∙ entry-empty (format s) s id e
 
     pub body_entry : (entryLength s id ≡ 0 → ⊥) → DeclHere s (entryOffset s id) × (get_or (schemaOf s).registry id none ≡ some (declIn s (entryOffset s id)))
     body_entry f = let r = entry-body s id f found.0 in (r.0, found.1 ∙ r.1)

@@ -1,9 +1,12 @@
 -- Declarations at places of the image. Assumes nothing.
 use mathlib.Core.Path.{◌≡◌, refl, sym, ap, ◌∙◌}
+use mathlib.Core.Bool.{Bool, true, false, cond, ◌&&◌, ◌||◌, false≢true}
+use mathlib.Core.Option.{Option, none, some}
 use mathlib.Core.List.{List, []}
 use Prim.Native.Nat.{ℕ, zero, suc, ◌+◌, ◌≤◌, ◌<◌}
 use native.Mathlib.Omega.{arith}
-use borrow.Author.Tests.{le-leb, lt-leb}
+use borrow.Author.Tests.{le-leb, lt-leb, eqb-true, eqb-false}
+use lib.Dec.{eqb}
 use lib.ListN.{length, get_or}
 use Rattle.image.specs.Kinds.{Kind, kindOf}
 use Rattle.image.specs.Codes.{number, messageKind, enumKind, flagsKind, unionKind, newtypeKind, configKind, aliasKind, traitKind, implKind}
@@ -12,26 +15,70 @@ use Rattle.image.specs.Parse.{Parsed, ok, no, bind, byteAt, many, counted}
 use Rattle.image.specs.Names.{nameAt}
 use Rattle.image.specs.Types.{typeAt}
 use Rattle.image.specs.Fields.{marksOf, marksAt, fieldAt, bareAt, variantAt}
+use Rattle.image.specs.Formats.{hasWidths}
+use Rattle.image.specs.Widths.{wireBitsAt, wireBytesAt, widthAt}
+use Rattle.image.specs.Image.{format}
 use Rattle.image.specs.Bodies.{messageAt, enumAt, flagsAt, unionAt, newtypeAt, otherAt, implAt, declAt}
 use Rattle.image.specs.WellFormed.{Good, valueOr, endOf}
-use Rattle.image.proofs.Laws.Sure.{Sure, sure-ok, sure-no, sure-bind, code-sure}
+use Rattle.image.proofs.Laws.Sure.{Sure, sure-ok, sure-no, sure-bind, sure-then, code-sure}
 use Rattle.image.proofs.Laws.Good.{sure-good, good-first}
 use Rattle.image.proofs.Laws.Kinds.{Says, message, enum, flags, union, newtype, config, alias, trait, impl, other, says}
-use Rattle.parts.specs.Promise.{noField, noVariant, noDecl, NameHere, nameIn, nameEnd, TypeHere, treeIn, itemAt, itemEnd, ItemsHere, ItemsListed, placesFrom, itemsAt, bareIn, variantIn, fieldIn, bodyAt, DeclHere, declIn, itemsIn, innerPlace}
+use Rattle.parts.specs.Promise.{noField, noVariant, noDecl, NameHere, nameIn, nameEnd, TypeHere, treeIn, itemAt, itemEnd, ItemsHere, ItemsListed, placesFrom, itemsAt, bareIn, variantIn, fieldIn, bodyAt, DeclHere, declIn, marksSize, widthPlace, measured, storesWidth, widthSize, itemsIn, innerPlace, startKind, startName}
 use Rattle.parts.specs.declared.Shape.TheVariants as shape
 use Rattle.parts.specs.declared.Run.{Run}
-use Rattle.parts.proofs.Laws.Steps.{good-is, then_is, then-good, byte-is, marks-is, name-is}
+use Rattle.parts.proofs.Laws.Steps.{good-is, then_is, then-good, byte-is, marks-is, Byte-read, wire-bits-is, wire-bytes-is, width-is, name-is, name-stands}
 use Rattle.parts.proofs.Laws.Places.{many-places}
+use Rattle.parts.proofs.Laws.Starts.{Started, start-nameless, start-named}
 use Rattle.parts.proofs.Laws.Items.{type-here, type-at-is, count-inside, counted_is, counted-good}
 
--- the head of a declaration: its kind, and by the kind a name and marks, from `at` on
-pub record Headed (kind : ℕ) (s : List ℕ) (at : ℕ) (d : Decl) : Type 0 where
+-- which kinds have a width, in a format
+and-true : (b : Bool) → (b && true) ≡ b
+and-true true = refl
+and-true false = refl
+
+and-false : (b : Bool) → (b && false) ≡ false
+and-false true = refl
+and-false false = refl
+
+measured-most : (kind : ℕ) → measured kind ≡ true → kind ≤ number flagsKind
+unfolding measured
+measured-most kind e = go (eqb kind 1) (eqb kind 2) refl refl e
+  where
+    go : (a b : Bool) → eqb kind 1 ≡ a → eqb kind 2 ≡ b → (a || b) ≡ true → kind ≤ 2
+    go true b p q e = omega (arith, eqb-true kind 1 p)
+    go false true p q e = omega (arith, eqb-true kind 2 q)
+    go false false p q e = absurd (false≢true e)
+
+module _ (f : ℕ) where
+  stores : (kind : ℕ) → measured kind ≡ true → storesWidth f kind ≡ hasWidths f
+  unfolding storesWidth
+  stores kind e = rw e (and-true (hasWidths f))
+
+  stores-not : (kind : ℕ) → measured kind ≡ false → storesWidth f kind ≡ false
+  unfolding storesWidth
+  stores-not kind e = rw e (and-false (hasWidths f))
+
+  stored-most : (kind : ℕ) → storesWidth f kind ≡ true → kind ≤ number flagsKind
+  stored-most kind e = go (measured kind) refl
+    where
+      go : (b : Bool) → measured kind ≡ b → kind ≤ 2
+      go true m = measured-most kind m
+      go false m = absurd (false≢true (sym (stores-not kind m) ∙ e))
+
+-- a width at a place, where one is stored
+pub record Stored (stored : Bool) (s : List ℕ) (at : ℕ) (w : Option ℕ) : Type 0 where
+  pub there : stored ≡ true → at < length s
+  pub is : w ≡ cond stored (some (get_or s at 0)) none
+
+-- the head of a declaration in a format: its kind, and by the kind a name, marks and a width, from `at` on
+pub record Headed (f kind : ℕ) (s : List ℕ) (at : ℕ) (d : Decl) : Type 0 where
   pub is : d.kind ≡ kind
   pub most : kind ≤ number implKind
   pub nameless : (number traitKind) < kind → d.name ≡ []
   pub named : kind < number implKind → NameHere s at × (d.name ≡ nameIn s at)
   pub marked : kind ≤ number enumKind → (nameEnd s at < length s) × (d.marks ≡ marksOf (get_or s (nameEnd s at) 0))
   pub plain : (number enumKind) < kind → d.marks ≡ unmarked
+  pub width : Stored (storesWidth f kind) s (nameEnd s at + marksSize kind) d.width
 
 -- what is known of every answer
 itself : {A : Type 0} (d : A) (p : Parsed A) → Sure (λ a n. Good p × (a ≡ valueOr d p) × (n ≡ endOf p)) p
@@ -39,59 +86,118 @@ unfolding Good valueOr endOf
 itself d (ok a n) = sure-ok (tt, refl, refl)
 itself d (no k) = sure-no
 
-marks-sure-here : (s : List ℕ) (at : ℕ) → Sure (λ m n. (at < length s) × (m ≡ marksOf (get_or s at 0))) (marksAt s at)
+marks-sure-here : (s : List ℕ) (at : ℕ) → Sure (λ m n. (at < length s) × (m ≡ marksOf (get_or s at 0)) × (n ≡ at + 1)) (marksAt s at)
 unfolding marksAt
 marks-sure-here s at =
-    sure-bind _ (code-sure 0 3 s at) (λ b n q. sure-ok ((let i = q.byte.inside in let j = q.byte.next in omega arith), ap marksOf q.byte.value))
+    sure-bind _ (code-sure 0 3 s at) (λ b n q. sure-ok ((let i = q.byte.inside in let j = q.byte.next in omega arith), ap marksOf q.byte.value, q.byte.next))
 
-module _ (s : List ℕ) (at : ℕ) where
+width-sure-here : (f : ℕ) (wire : List ℕ → ℕ → Parsed ℕ) (s : List ℕ) (at : ℕ) → (Good (wire s at) → Byte-read s at (wire s at))
+    → Sure (λ w n. Stored (hasWidths f) s at w) (widthAt f wire s at)
+unfolding valueOr
+width-sure-here f wire s at h =
+    sure-then (itself none (widthAt f wire s at)) (λ w n q.
+    let e = width-is s at f wire h q.0 in
+    record { there = e.1; is = q.1 ∙ ap (valueOr none) e.0 })
+
+module _ (f : ℕ) (s : List ℕ) (at : ℕ) where
   abbrev Name-at : Name → ℕ → Type 0
   Name-at x n = NameHere s at × (x ≡ nameIn s at) × (n ≡ nameEnd s at)
+
+  abbrev Marks-at : ℕ → Marks → ℕ → Type 0
+  Marks-at n m k = (n < length s) × (m ≡ marksOf (get_or s n 0)) × (k ≡ n + 1)
 
   name-sure-here : Sure Name-at (nameAt 8 s at)
   unfolding NameHere nameIn nameEnd
   name-sure-here = itself [] (nameAt 8 s at)
 
-  with-marks : (kind : ℕ) → kind ≤ 1 → {x : Name} {n : ℕ} → Name-at x n → {m : Marks} → (n < length s) × (m ≡ marksOf (get_or s n 0))
-      → (fs : List Field) (vs : List Variant) → Headed kind s at (decl kind x m fs vs noType)
-  with-marks kind l (h, e, q) (i, r) fs vs = record {
+  -- no width, and one where the format stores it
+  no-width : (kind n : ℕ) → measured kind ≡ false → Stored (storesWidth f kind) s n none
+  no-width kind n e = rw (stores-not f kind e) (record { there = λ z. absurd (false≢true z); is = refl })
+
+  its-width : (kind : ℕ) {n k : ℕ} {w : Option ℕ} → measured kind ≡ true → n ≡ k → Stored (hasWidths f) s n w → Stored (storesWidth f kind) s k w
+  its-width kind e q r = rw (stores f kind e) (rw q at r)
+
+  with-marks : (kind : ℕ) → kind ≤ 1 → {x : Name} {n : ℕ} → Name-at x n → {m : Marks} {k : ℕ} → Marks-at n m k → {w : Option ℕ}
+      → Stored (storesWidth f kind) s (nameEnd s at + marksSize kind) w → (fs : List Field) (vs : List Variant) → Headed f kind s at (decl kind x m w fs vs noType)
+  with-marks kind l (h, e, q) (i, r, _) v fs vs = record {
     is = refl;
     most = omega arith;
     nameless = λ z. absurd (omega arith);
     named = λ _. (h, e);
     marked = λ _. (rw q at i, r ∙ ap (λ (k : ℕ). marksOf (get_or s k 0)) q);
     plain = λ z. absurd (omega arith);
+    width = v;
   }
 
-  without : (kind : ℕ) → 1 < kind → kind < 8 → {x : Name} {n : ℕ} → Name-at x n → (fs : List Field) (vs : List Variant) (t : Ty)
-      → Headed kind s at (decl kind x unmarked fs vs t)
-  without kind l m (h, e, q) fs vs t = record {
+  without : (kind : ℕ) → 1 < kind → kind < 8 → {x : Name} {n : ℕ} → Name-at x n → {w : Option ℕ} → Stored (storesWidth f kind) s (nameEnd s at + marksSize kind) w
+      → (fs : List Field) (vs : List Variant) (t : Ty) → Headed f kind s at (decl kind x unmarked w fs vs t)
+  without kind l m (h, e, q) v fs vs t = record {
     is = refl;
     most = omega arith;
     nameless = λ z. absurd (omega arith);
     named = λ _. (h, e);
     marked = λ z. absurd (omega arith);
     plain = λ _. refl;
+    width = v;
   }
 
-  head-sure : {kind : ℕ} {k : Kind} → Says kind k → Sure (λ d n. Headed kind s at d) (declAt k s at)
-  unfolding declAt messageAt enumAt flagsAt unionAt newtypeAt otherAt implAt
+  pub head-sure : {kind : ℕ} {k : Kind} → Says kind k → Sure (λ d n. Headed f kind s at d) (declAt f k s at)
+  unfolding declAt messageAt enumAt flagsAt unionAt newtypeAt otherAt implAt measured marksSize
   head-sure message =
-      sure-bind _ name-sure-here (λ x n q. sure-bind _ (marks-sure-here s n) (λ m k r. sure-bind _ (itself [] (counted fieldAt s k)) (λ fs i _. sure-ok (with-marks (number messageKind) (omega arith) q r fs []))))
+      sure-bind _ name-sure-here (λ x n q.
+      sure-bind _ (marks-sure-here s n) (λ m k r.
+      sure-bind _ (itself [] (counted fieldAt s k)) (λ fs i _.
+      sure-ok (with-marks (number messageKind) (omega arith) q r (no-width _ _ refl) fs []))))
   head-sure enum =
-      sure-bind _ name-sure-here (λ x n q. sure-bind _ (marks-sure-here s n) (λ m k r. sure-bind _ (itself [] (counted bareAt s k)) (λ vs i _. sure-ok (with-marks (number enumKind) (omega arith) q r [] vs))))
+      sure-bind _ name-sure-here (λ x n q.
+      sure-bind _ (marks-sure-here s n) (λ m k r.
+      sure-bind _ (width-sure-here f wireBitsAt s k (wire-bits-is s k)) (λ w j v.
+      sure-bind _ (itself [] (counted bareAt s j)) (λ vs i _.
+      sure-ok (with-marks (number enumKind) (omega arith) q r (its-width _ refl (r.2 ∙ ap (λ (i : ℕ). i + 1) q.2) v) [] vs)))))
   head-sure flags =
-      sure-bind _ name-sure-here (λ x n q. sure-bind _ (itself [] (counted bareAt s n)) (λ vs i _. sure-ok (without (number flagsKind) (omega arith) (omega arith) q [] vs noType)))
+      sure-bind _ name-sure-here (λ x n q.
+      sure-bind _ (width-sure-here f wireBytesAt s n (wire-bytes-is s n)) (λ w j v.
+      sure-bind _ (itself [] (counted bareAt s j)) (λ vs i _.
+      sure-ok (without (number flagsKind) (omega arith) (omega arith) q (its-width _ refl (let z : nameEnd s at ≡ nameEnd s at + 0 = omega arith in q.2 ∙ z) v) [] vs noType))))
   head-sure union =
-      sure-bind _ name-sure-here (λ x n q. sure-bind _ (itself [] (counted variantAt s n)) (λ vs i _. sure-ok (without (number unionKind) (omega arith) (omega arith) q [] vs noType)))
+      sure-bind _ name-sure-here (λ x n q.
+      sure-bind _ (itself [] (counted variantAt s n)) (λ vs i _. sure-ok (without (number unionKind) (omega arith) (omega arith) q (no-width _ _ refl) [] vs noType)))
   head-sure newtype =
-      sure-bind _ name-sure-here (λ x n q. sure-bind _ (itself noType (typeAt s n)) (λ t i _. sure-ok (without (number newtypeKind) (omega arith) (omega arith) q [] [] t)))
-  head-sure config = sure-bind _ name-sure-here (λ x n q. sure-ok (without (number configKind) (omega arith) (omega arith) q [] [] noType))
-  head-sure alias = sure-bind _ name-sure-here (λ x n q. sure-ok (without (number aliasKind) (omega arith) (omega arith) q [] [] noType))
-  head-sure trait = sure-bind _ name-sure-here (λ x n q. sure-ok (without (number traitKind) (omega arith) (omega arith) q [] [] noType))
-  head-sure impl =
-      sure-ok (record { is = refl; most = omega arith; nameless = λ _. refl; named = λ z. absurd (omega arith); marked = λ z. absurd (omega arith); plain = λ _. refl })
+      sure-bind _ name-sure-here (λ x n q.
+      sure-bind _ (itself noType (typeAt s n)) (λ t i _. sure-ok (without (number newtypeKind) (omega arith) (omega arith) q (no-width _ _ refl) [] [] t)))
+  head-sure config = sure-bind _ name-sure-here (λ x n q. sure-ok (without (number configKind) (omega arith) (omega arith) q (no-width _ _ refl) [] [] noType))
+  head-sure alias = sure-bind _ name-sure-here (λ x n q. sure-ok (without (number aliasKind) (omega arith) (omega arith) q (no-width _ _ refl) [] [] noType))
+  head-sure trait = sure-bind _ name-sure-here (λ x n q. sure-ok (without (number traitKind) (omega arith) (omega arith) q (no-width _ _ refl) [] [] noType))
+  head-sure impl = sure-ok (record {
+    is = refl;
+    most = omega arith;
+    nameless = λ _. refl;
+    named = λ z. absurd (omega arith);
+    marked = λ z. absurd (omega arith);
+    plain = λ _. refl;
+    width = no-width _ _ refl;
+  })
   head-sure (other _ _) = sure-no
+
+-- it is what starts a declaration
+pub headed-start : {f : ℕ} (s : List ℕ) (at : ℕ) {d : Decl} → at < length s → Headed f (get_or s at 0) s (at + 1) d → Started s at d
+unfolding startKind
+headed-start s at {d} l h = record {
+  here = record { there = l; kind = h.most; name = λ n. (h.named (below n)).0 };
+  kind = sym h.is;
+  name = go (eqb (get_or s at 0) 8) refl;
+}
+  where
+    below : (get_or s at 0 ≡ 8 → ⊥) → get_or s at 0 < 8
+    below n = omega (arith, h.most, n)
+
+    go : (b : Bool) → eqb (get_or s at 0) 8 ≡ b → startName s at ≡ d.name
+    go true e =
+        let i = eqb-true (get_or s at 0) 8 e in
+        start-nameless s at i ∙ sym (h.nameless (omega arith))
+    go false e =
+        let n : get_or s at 0 ≡ 8 → ⊥ = eqb-false (get_or s at 0) 8 e in
+        start-named s at n ∙ sym (h.named (below n)).1
 
 -- a declaration is its kind, and what follows it
 module _ (s : List ℕ) (at : ℕ) (g : DeclHere s at) where
@@ -102,28 +208,73 @@ module _ (s : List ℕ) (at : ℕ) (g : DeclHere s at) where
   pub kind-there : at < length s
   kind-there = kind-byte.1
 
-  body_is : bodyAt s at ≡ declAt (kindOf (get_or s at 0)) s (at + 1)
+  body_is : bodyAt s at ≡ declAt (format s) (kindOf (get_or s at 0)) s (at + 1)
   unfolding bodyAt
   body_is = then_is _ kind-byte.0
 
-  pub decl-head : Headed (get_or s at 0) s (at + 1) (declIn s at)
+  pub decl-head : Headed (format s) (get_or s at 0) s (at + 1) (declIn s at)
   unfolding DeclHere declIn
-  decl-head = rw body_is (sure-good noDecl (head-sure s (at + 1) (says (get_or s at 0))) (rw body_is at g))
+  decl-head = rw body_is (sure-good noDecl (head-sure (format s) s (at + 1) (says (get_or s at 0))) (rw body_is at g))
 
   pub decl-kind : (declIn s at).kind ≡ get_or s at 0
   decl-kind = decl-head.is
 
-  module _ (k : ℕ) (e : (declIn s at).kind ≡ k) where
-    of-kind : bodyAt s at ≡ declAt (kindOf k) s (at + 1)
-    of-kind = body_is ∙ ap (λ (n : ℕ). declAt (kindOf n) s (at + 1)) (sym decl-kind ∙ e)
+  pub decl-started : Started s at (declIn s at)
+  decl-started = headed-start s at kind-there decl-head
 
-    kind-good : Good (declAt (kindOf k) s (at + 1))
+  -- what has a name has two bytes, so that the format can be read
+  pub name-there : (declIn s at).kind < number implKind → NameHere s (at + 1) × (2 ≤ length s)
+  name-there l =
+      let n = (decl-head.named (omega (arith, decl-kind))).0 in
+      let h = name-stands s (at + 1) n in
+      (n, omega arith)
+
+  -- whether a width is stored, by the kind's byte
+  pub width-never : measured (get_or s at 0) ≡ false → storesWidth (format s) (declIn s at).kind ≡ false
+  width-never e = stores-not (format s) _ (ap measured decl-kind ∙ e)
+
+  pub width-by-format : measured (get_or s at 0) ≡ true → (2 ≤ length s) × (storesWidth (format s) (declIn s at).kind ≡ hasWidths (format s))
+  width-by-format e =
+      let m = measured-most (get_or s at 0) e in
+      ((name-there (omega (arith, decl-kind))).1, stores (format s) _ (ap measured decl-kind ∙ e))
+
+  pub width-named : storesWidth (format s) (declIn s at).kind ≡ true → (declIn s at).kind < number implKind
+  width-named e = let m = stored-most (format s) (declIn s at).kind e in omega arith
+
+  -- the width
+  width-stored : Stored (storesWidth (format s) (declIn s at).kind) s (widthPlace s at) (declIn s at).width
+  unfolding widthPlace
+  width-stored = rw decl-kind decl-head.width
+
+  pub width-absent : storesWidth (format s) (declIn s at).kind ≡ false → (declIn s at).width ≡ none
+  width-absent e = width-stored.is ∙ rw e
+
+  pub width-at : storesWidth (format s) (declIn s at).kind ≡ true → (widthPlace s at < length s) × ((declIn s at).width ≡ some (get_or s (widthPlace s at) 0))
+  width-at e = (width-stored.there e, width-stored.is ∙ rw e)
+
+  module _ (k : ℕ) (e : (declIn s at).kind ≡ k) where
+    of-kind : bodyAt s at ≡ declAt (format s) (kindOf k) s (at + 1)
+    of-kind = body_is ∙ ap (λ (n : ℕ). declAt (format s) (kindOf n) s (at + 1)) (sym decl-kind ∙ e)
+
+    kind-good : Good (declAt (format s) (kindOf k) s (at + 1))
     unfolding DeclHere
     kind-good = rw of-kind at g
 
-    kind-value : declIn s at ≡ valueOr noDecl (declAt (kindOf k) s (at + 1))
+    kind-value : declIn s at ≡ valueOr noDecl (declAt (format s) (kindOf k) s (at + 1))
     unfolding declIn
     kind-value = ap (valueOr noDecl) of-kind
+
+-- where the width stands is after the marks, if the kind has them
+module _ (s : List ℕ) (at : ℕ) where
+  pub place-marked : (declIn s at).kind ≤ number enumKind → widthPlace s at ≡ nameEnd s (at + 1) + 1
+  unfolding widthPlace marksSize
+  place-marked l = rw (le-leb (declIn s at).kind 1 l)
+
+  pub place-plain : (number enumKind) < (declIn s at).kind → widthPlace s at ≡ nameEnd s (at + 1)
+  unfolding widthPlace marksSize
+  place-plain l =
+      let z : nameEnd s (at + 1) + 0 ≡ nameEnd s (at + 1) = omega arith in
+      rw (lt-leb (declIn s at).kind 1 l, z)
 
 -- a list of items stands at its place, and is this
 record Counted {A : Type 0} (p : List ℕ → ℕ → Parsed A) (s : List ℕ) (n : Run) (xs : List A) : Type 0 where
@@ -131,76 +282,121 @@ record Counted {A : Type 0} (p : List ℕ → ℕ → Parsed A) (s : List ℕ) (
   good : Good (many p n.count s n.start)
   are : xs ≡ valueOr [] (many p n.count s n.start)
 
-module _ {A : Type 0} (p : List ℕ → ℕ → Parsed A) (s : List ℕ) (at : ℕ) (list : Decl → List A) where
-  counted-there : (d : Decl) (n : ℕ) (b : Good (counted p s n)) → list d ≡ valueOr [] (many p (itemsAt s n).count s (itemsAt s n).start)
-      → Counted p s (itemsAt s n) (list d)
-  unfolding itemsAt
-  counted-there d n b e = record { inside = count-inside p s n b; good = counted-good p s n b; are = e }
+-- a count and as many, at a place after what stands before them
+module _ {A : Type 0} (p : List ℕ → ℕ → Parsed A) (s : List ℕ) (k : List A → Decl) (n : ℕ) where
+  listed : Parsed Decl
+  listed = bind (counted p s n) (λ xs m. ok (k xs) m)
 
-  -- name, marks and a count
-  module _ (k : Name → Marks → List A → Decl) (l : (x : Name) (m : Marks) (xs : List A) → list (k x m xs) ≡ xs) where
-    marked-list : Parsed Decl
-    marked-list = bind (nameAt 8 s at) (λ x n₁. bind (marksAt s n₁) (λ m n₂. bind (counted p s n₂) (λ xs n₃. ok (k x m xs) n₃)))
+  listed-counted : (list : Decl → List A) → ((xs : List A) → list (k xs) ≡ xs) → {q : Parsed Decl} → q ≡ listed → Good q
+      → Counted p s (itemsAt s n) (list (valueOr noDecl q))
+  unfolding listed itemsAt valueOr
+  listed-counted list l e g =
+      let b = good-first [] (counted p s n) _ (rw e at g) in
+      let r = counted_is p s n b ∙ good-is [] _ (counted-good p s n b) in
+      record {
+        inside = count-inside p s n b;
+        good = counted-good p s n b;
+        are = ap (λ (q : Parsed Decl). list (valueOr noDecl q)) (e ∙ then_is _ r) ∙ l _;
+      }
 
-    marked-counted : Good marked-list → Counted p s (itemsAt s (nameEnd s at + 1)) (list (valueOr noDecl marked-list))
-    unfolding marked-list NameHere valueOr
-    marked-counted g =
-        let n = name-is s at (good-first [] (nameAt 8 s at) _ g) in
-        let g₂ = then-good _ n g in
-        let m = (marks-is s (nameEnd s at) (good-first unmarked (marksAt s (nameEnd s at)) _ g₂)).0 in
-        let b = good-first [] (counted p s (nameEnd s at + 1)) _ (then-good _ m g₂) in
-        let e = counted_is p s _ b ∙ good-is [] _ (counted-good p s (nameEnd s at + 1) b) in
-        counted-there _ (nameEnd s at + 1) b (ap (λ (q : Parsed Decl). list (valueOr noDecl q)) (then_is _ n ∙ then_is _ m ∙ then_is _ e) ∙ l _ _ _)
+-- what stands before the count, by the kind
+module _ (f : ℕ) (s : List ℕ) (at : ℕ) where
+  abbrev its-marks : Marks
+  its-marks = marksOf (get_or s (nameEnd s at) 0)
 
-  -- name and a count
-  module _ (k : Name → List A → Decl) (l : (x : Name) (xs : List A) → list (k x xs) ≡ xs) where
-    plain-list : Parsed Decl
-    plain-list = bind (nameAt 8 s at) (λ x n₁. bind (counted p s n₁) (λ xs n₂. ok (k x xs) n₂))
+  abbrev width-from : ℕ → Option ℕ
+  width-from n = cond (hasWidths f) (some (get_or s n 0)) none
 
-    plain-counted : Good plain-list → Counted p s (itemsAt s (nameEnd s at)) (list (valueOr noDecl plain-list))
-    unfolding plain-list NameHere valueOr
-    plain-counted g =
-        let n = name-is s at (good-first [] (nameAt 8 s at) _ g) in
-        let b = good-first [] (counted p s (nameEnd s at)) _ (then-good _ n g) in
-        let e = counted_is p s _ b ∙ good-is [] _ (counted-good p s (nameEnd s at) b) in
-        counted-there _ (nameEnd s at) b (ap (λ (q : Parsed Decl). list (valueOr noDecl q)) (then_is _ n ∙ then_is _ e) ∙ l _ _)
+  module _ {A : Type 0} (h : Name → ℕ → Parsed A) where
+    name-read : Good (bind (nameAt 8 s at) h) → bind (nameAt 8 s at) h ≡ h (nameIn s at) (nameEnd s at)
+    unfolding NameHere
+    name-read g = then_is _ (name-is s at (good-first [] (nameAt 8 s at) _ g))
 
--- where a declaration's count stands, by its kind
-items-marked : (s : List ℕ) (at : ℕ) → (declIn s at).kind ≤ number enumKind → itemsIn s at ≡ itemsAt s (nameEnd s (at + 1) + 1)
-unfolding itemsIn
-items-marked s at l = rw (le-leb (declIn s at).kind 1 l)
+  module _ {A : Type 0} (h : Marks → ℕ → Parsed A) where
+    marks-read : (n : ℕ) → Good (bind (marksAt s n) h) → bind (marksAt s n) h ≡ h (marksOf (get_or s n 0)) (n + 1)
+    marks-read n g = then_is _ (marks-is s n (good-first unmarked (marksAt s n) _ g)).0
 
-items-plain : (s : List ℕ) (at : ℕ) → (number enumKind) < (declIn s at).kind → itemsIn s at ≡ itemsAt s (nameEnd s (at + 1))
-unfolding itemsIn
-items-plain s at l =
-    let z : nameEnd s (at + 1) + 0 ≡ nameEnd s (at + 1) = omega arith in
-    rw (lt-leb (declIn s at).kind 1 l, z)
+  module _ {A : Type 0} (h : Option ℕ → ℕ → Parsed A) where
+    width-read : (wire : List ℕ → ℕ → Parsed ℕ) (n : ℕ) → (Good (wire s n) → Byte-read s n (wire s n)) → Good (bind (widthAt f wire s n) h)
+        → bind (widthAt f wire s n) h ≡ h (width-from n) (n + cond (hasWidths f) 1 0)
+    width-read wire n w g = then_is _ (width-is s n f wire w (good-first none (widthAt f wire s n) _ g)).0
+
+  message-listing : Good (messageAt s at)
+      → messageAt s at ≡ listed fieldAt s (λ fs. decl (number messageKind) (nameIn s at) its-marks none fs [] noType) (nameEnd s at + 1)
+  unfolding messageAt listed
+  message-listing g =
+      let n = name-read _ g in
+      n ∙ marks-read _ _ (rw n at g)
+
+  enum-listing : Good (enumAt f s at)
+      → enumAt f s at ≡ listed bareAt s (λ vs. decl (number enumKind) (nameIn s at) its-marks (width-from (nameEnd s at + 1)) [] vs noType)
+      (nameEnd s at + 1 + cond (hasWidths f) 1 0)
+  unfolding enumAt listed
+  enum-listing g =
+      let n = name-read _ g in
+      let g₂ = rw n at g in
+      let m = marks-read _ _ g₂ in
+      n ∙ m ∙ width-read _ wireBitsAt _ (wire-bits-is s (nameEnd s at + 1)) (rw m at g₂)
+
+  flags-listing : Good (flagsAt f s at)
+      → flagsAt f s at ≡ listed bareAt s (λ vs. decl (number flagsKind) (nameIn s at) unmarked (width-from (nameEnd s at)) [] vs noType)
+      (nameEnd s at + cond (hasWidths f) 1 0)
+  unfolding flagsAt listed
+  flags-listing g =
+      let n = name-read _ g in
+      n ∙ width-read _ wireBytesAt _ (wire-bytes-is s (nameEnd s at)) (rw n at g)
+
+  union-listing : Good (unionAt s at) → unionAt s at ≡ listed variantAt s (λ vs. decl (number unionKind) (nameIn s at) unmarked none [] vs noType) (nameEnd s at)
+  unfolding unionAt listed
+  union-listing g = name-read _ g
+
+-- where a declaration's count stands
+module _ (s : List ℕ) (at : ℕ) where
+  items-plain : storesWidth (format s) (declIn s at).kind ≡ false → itemsIn s at ≡ itemsAt s (widthPlace s at)
+  unfolding itemsIn widthSize
+  items-plain e =
+      let z : widthPlace s at + 0 ≡ widthPlace s at = omega arith in
+      rw (e, z)
+
+  items-wide : storesWidth (format s) (declIn s at).kind ≡ hasWidths (format s) → itemsIn s at ≡ itemsAt s (widthPlace s at + cond (hasWidths (format s)) 1 0)
+  unfolding itemsIn widthSize
+  items-wide e = rw e
 
 -- the items of each kind
 module _ (s : List ℕ) (at : ℕ) (g : DeclHere s at) where
+  -- of a kind, at the place that its listing says
+  module _ {A : Type 0} (p : List ℕ → ℕ → Parsed A) (k : ℕ) (e : (declIn s at).kind ≡ k) (list : Decl → List A) where
+    counted-of : (d : List A → Decl) (n : ℕ) → ((xs : List A) → list (d xs) ≡ xs) → itemsIn s at ≡ itemsAt s n
+        → (Good (declAt (format s) (kindOf k) s (at + 1)) → declAt (format s) (kindOf k) s (at + 1) ≡ listed p s d n) → Counted p s (itemsIn s at) (list (declIn s at))
+    counted-of d n l q h = rw (q, kind-value s at g k e) (listed-counted p s d n list l (h (kind-good s at g k e)) (kind-good s at g k e))
+
   message-counted : (declIn s at).kind ≡ number messageKind → Counted fieldAt s (itemsIn s at) (declIn s at).fields
-  unfolding kindOf declAt messageAt marked-list
+  unfolding kindOf declAt measured
   message-counted e =
-      rw (items-marked s at (omega arith), kind-value s at g (number messageKind) e)
-      (marked-counted fieldAt s (at + 1) (λ d. d.fields) (λ x m fs. decl (number messageKind) x m fs [] noType) (λ x m fs. refl) (kind-good s at g (number messageKind) e))
+      counted-of fieldAt (number messageKind) e (λ d. d.fields) _ _ (λ fs. refl)
+      (items-plain s at (stores-not (format s) _ (ap measured e)) ∙ ap (itemsAt s) (place-marked s at (omega arith)))
+      (message-listing (format s) s (at + 1))
 
   enum-counted : (declIn s at).kind ≡ number enumKind → Counted bareAt s (itemsIn s at) (declIn s at).variants
-  unfolding kindOf declAt enumAt marked-list
+  unfolding kindOf declAt measured
   enum-counted e =
-      rw (items-marked s at (omega arith), kind-value s at g (number enumKind) e)
-      (marked-counted bareAt s (at + 1) (λ d. d.variants) (λ x m vs. decl (number enumKind) x m [] vs noType) (λ x m vs. refl) (kind-good s at g (number enumKind) e))
+      counted-of bareAt (number enumKind) e (λ d. d.variants) _ _ (λ vs. refl)
+      (items-wide s at (stores (format s) _ (ap measured e)) ∙ ap (λ (n : ℕ). itemsAt s (n + cond (hasWidths (format s)) 1 0)) (place-marked s at (omega arith)))
+      (enum-listing (format s) s (at + 1))
 
   flags-counted : (declIn s at).kind ≡ number flagsKind → Counted bareAt s (itemsIn s at) (declIn s at).variants
-  unfolding kindOf declAt flagsAt plain-list
+  unfolding kindOf declAt measured
   flags-counted e =
-      rw (items-plain s at (omega arith), kind-value s at g (number flagsKind) e)
-      (plain-counted bareAt s (at + 1) (λ d. d.variants) (λ x vs. decl (number flagsKind) x unmarked [] vs noType) (λ x vs. refl) (kind-good s at g (number flagsKind) e))
+      counted-of bareAt (number flagsKind) e (λ d. d.variants) _ _ (λ vs. refl)
+      (items-wide s at (stores (format s) _ (ap measured e)) ∙ ap (λ (n : ℕ). itemsAt s (n + cond (hasWidths (format s)) 1 0)) (place-plain s at (omega arith)))
+      (flags-listing (format s) s (at + 1))
 
   union-counted : (declIn s at).kind ≡ number unionKind → Counted variantAt s (itemsIn s at) (declIn s at).variants
-  unfolding kindOf declAt unionAt plain-list
+  unfolding kindOf declAt measured
   union-counted e =
-      rw (items-plain s at (omega arith), kind-value s at g (number unionKind) e)
-      (plain-counted variantAt s (at + 1) (λ d. d.variants) (λ x vs. decl (number unionKind) x unmarked [] vs noType) (λ x vs. refl) (kind-good s at g (number unionKind) e))
+      counted-of variantAt (number unionKind) e (λ d. d.variants) _ _ (λ vs. refl)
+      (items-plain s at (stores-not (format s) _ (ap measured e)) ∙ ap (itemsAt s) (place-plain s at (omega arith)))
+      (union-listing (format s) s (at + 1))
 
   items-inside : (declIn s at).kind ≤ number unionKind → (itemsIn s at).start ≤ length s
   items-inside l = go (declIn s at).kind refl l
@@ -212,7 +408,7 @@ module _ (s : List ℕ) (at : ℕ) (g : DeclHere s at) where
       go (suc (suc (suc zero))) e l = (union-counted e).inside
       go (suc (suc (suc (suc k)))) e l = absurd (omega arith)
 
-  -- where the code reads the count, after a name that ends at e
+  -- where the code reads the count, after the place of the width
   module _ (l : (declIn s at).kind ≤ number unionKind) where
     count-there : (n : ℕ) → itemsAt s n ≡ itemsIn s at → n + 2 ≤ length s
     unfolding itemsAt
@@ -221,16 +417,17 @@ module _ (s : List ℕ) (at : ℕ) (g : DeclHere s at) where
         let w = items-inside l in
         omega arith
 
-    module _ {e : ℕ} (q : e ≡ nameEnd s (at + 1)) where
-      pub items-after : 1 < get_or s at 0 → (e + 2 ≤ length s) × (itemsAt s e ≡ itemsIn s at)
-      items-after k =
-          let y = ap (itemsAt s) q ∙ sym (items-plain s at (let d = decl-kind s at g in omega arith)) in
-          (count-there e y, y)
+    module _ {p : ℕ} (q : p ≡ widthPlace s at) where
+      pub items-after : storesWidth (format s) (declIn s at).kind ≡ false → (p + 2 ≤ length s) × (itemsAt s p ≡ itemsIn s at)
+      items-after e =
+          let y = ap (itemsAt s) q ∙ sym (items-plain s at e) in
+          (count-there p y, y)
 
-      pub items-after-marks : get_or s at 0 ≤ 1 → (e + 1 + 2 ≤ length s) × (itemsAt s (e + 1) ≡ itemsIn s at)
-      items-after-marks k =
-          let y = ap (λ (n : ℕ). itemsAt s (n + 1)) q ∙ sym (items-marked s at (let d = decl-kind s at g in omega arith)) in
-          (count-there (e + 1) y, y)
+      pub items-after-width : storesWidth (format s) (declIn s at).kind ≡ true → (p + 1 + 2 ≤ length s) × (itemsAt s (p + 1) ≡ itemsIn s at)
+      unfolding itemsIn widthSize
+      items-after-width e =
+          let y : itemsAt s (p + 1) ≡ itemsIn s at = rw (q, e) in
+          (count-there (p + 1) y, y)
 
 -- the same, said of the shapes
 module _ (s : List ℕ) (n : Run) where
@@ -261,7 +458,7 @@ module _ (s : List ℕ) (at : ℕ) (g : DeclHere s at) where
 
   -- a newtype's type
   module _ (e : (declIn s at).kind ≡ number newtypeKind) where
-    newtype-parts : (Good (typeAt s (innerPlace s at))) × (newtypeAt s (at + 1) ≡ bind (typeAt s (innerPlace s at)) (λ t n. ok (decl (number newtypeKind) (nameIn s (at + 1)) unmarked [] [] t) n))
+    newtype-parts : (Good (typeAt s (innerPlace s at))) × (newtypeAt s (at + 1) ≡ bind (typeAt s (innerPlace s at)) (λ t n. ok (decl (number newtypeKind) (nameIn s (at + 1)) unmarked none [] [] t) n))
     unfolding kindOf declAt newtypeAt NameHere innerPlace
     newtype-parts =
         let b = kind-good s at g (number newtypeKind) e in

@@ -1,5 +1,5 @@
 -- What is read in a part of a list is read at the same place of the whole: the same value, and the end moved by the part's start.
--- The refusals may differ, and so may the depth that is left to a type, if the whole's is no less. Assumes nothing.
+-- The refusals may differ, and so may the depth that is left to a type, if the whole's is no less. The format is the whole's. Assumes nothing.
 use mathlib.Core.Path.{◌≡◌, refl, sym, ap, ap₂, ◌∙◌}
 use mathlib.Core.Bool.{Bool, true, false}
 use mathlib.Core.List.{List}
@@ -16,6 +16,8 @@ use Rattle.image.specs.Types.{Follows, code, subByte, identity, size, nothing, b
 use Rattle.image.specs.Fields.{marksAt, encodingOf, encodingAt, limitAt, fieldAt, bareAt, variantAt}
 use Rattle.image.specs.Kinds.{Kind, message, enum, flags, union, newtype, config, alias, trait, impl, other, kindOf}
 use Rattle.image.specs.Codes.{number, configKind, aliasKind, traitKind}
+use Rattle.image.specs.Widths.{wireBitsAt, wireBytesAt, widthAt}
+use Rattle.image.specs.Image.{format}
 use Rattle.image.specs.Bodies.{messageAt, enumAt, flagsAt, unionAt, newtypeAt, otherAt, implAt, declAt, bodyOf}
 use Rattle.parts.specs.Promise.{bodyAt}
 use Rattle.image.specs.WellFormed.{Good, valueOr, endOf}
@@ -257,20 +259,42 @@ module _ {by : ℕ} {t s : List ℕ} (h : Part by t s) where
       kept-bind _ _ (counted-kept h fieldAt field-kept n₂) (λ fs n₃.
       kept-ok refl)))
 
-  -- declarations
+  -- widths
+  wire-bits-kept : (at : ℕ) → Kept by (wireBitsAt t at) (wireBitsAt s (by + at))
+  unfolding wireBitsAt
+  wire-bits-kept at = byte-kept h 8 8 at
+
+  wire-bytes-kept : (at : ℕ) → Kept by (wireBytesAt t at) (wireBytesAt s (by + at))
+  unfolding wireBytesAt
+  wire-bytes-kept at = kept-bind _ _ (byte-kept h 8 8 at) (λ b n. kept-need _ _ _ _ (λ e. e) (λ _. kept-ok refl))
+
+  width-kept : (f : ℕ) (wire : List ℕ → ℕ → Parsed ℕ) → ((at : ℕ) → Kept by (wire t at) (wire s (by + at))) → (at : ℕ)
+      → Kept by (widthAt f wire t at) (widthAt f wire s (by + at))
+  unfolding widthAt
+  width-kept f wire k at = kept-pick _ (kept-bind _ _ (k at) (λ w n. kept-ok refl)) (kept-ok refl)
+
+  -- declarations, in a format
   message-kept : (at : ℕ) → Kept by (messageAt t at) (messageAt s (by + at))
   unfolding messageAt
   message-kept at =
       kept-bind _ _ (name-kept h 8 8 at) (λ x n₁. kept-bind _ _ (marks-kept n₁) (λ m n₂. kept-bind _ _ (counted-kept h fieldAt field-kept n₂) (λ fs n₃. kept-ok refl)))
 
-  enum-kept : (at : ℕ) → Kept by (enumAt t at) (enumAt s (by + at))
+  enum-kept : (f at : ℕ) → Kept by (enumAt f t at) (enumAt f s (by + at))
   unfolding enumAt
-  enum-kept at =
-      kept-bind _ _ (name-kept h 8 8 at) (λ x n₁. kept-bind _ _ (marks-kept n₁) (λ m n₂. kept-bind _ _ (counted-kept h bareAt bare-kept n₂) (λ vs n₃. kept-ok refl)))
+  enum-kept f at =
+      kept-bind _ _ (name-kept h 8 8 at) (λ x n₁.
+      kept-bind _ _ (marks-kept n₁) (λ m n₂.
+      kept-bind _ _ (width-kept f wireBitsAt wire-bits-kept n₂) (λ w n₃.
+      kept-bind _ _ (counted-kept h bareAt bare-kept n₃) (λ vs n₄.
+      kept-ok refl))))
 
-  flags-kept : (at : ℕ) → Kept by (flagsAt t at) (flagsAt s (by + at))
+  flags-kept : (f at : ℕ) → Kept by (flagsAt f t at) (flagsAt f s (by + at))
   unfolding flagsAt
-  flags-kept at = kept-bind _ _ (name-kept h 8 8 at) (λ x n₁. kept-bind _ _ (counted-kept h bareAt bare-kept n₁) (λ vs n₂. kept-ok refl))
+  flags-kept f at =
+      kept-bind _ _ (name-kept h 8 8 at) (λ x n₁.
+      kept-bind _ _ (width-kept f wireBytesAt wire-bytes-kept n₁) (λ w n₂.
+      kept-bind _ _ (counted-kept h bareAt bare-kept n₂) (λ vs n₃.
+      kept-ok refl)))
 
   union-kept : (at : ℕ) → Kept by (unionAt t at) (unionAt s (by + at))
   unfolding unionAt
@@ -284,18 +308,18 @@ module _ {by : ℕ} {t s : List ℕ} (h : Part by t s) where
   unfolding otherAt
   other-kept kind at = kept-bind _ _ (name-kept h 8 8 at) (λ x n. kept-ok refl)
 
-  decl-kept : (kind : Kind) (at : ℕ) → Kept by (declAt kind t at) (declAt kind s (by + at))
+  decl-kept : (f : ℕ) (kind : Kind) (at : ℕ) → Kept by (declAt f kind t at) (declAt f kind s (by + at))
   unfolding declAt implAt
-  decl-kept message at = message-kept at
-  decl-kept enum at = enum-kept at
-  decl-kept flags at = flags-kept at
-  decl-kept union at = union-kept at
-  decl-kept newtype at = newtype-kept at
-  decl-kept config at = other-kept (number configKind) at
-  decl-kept alias at = other-kept (number aliasKind) at
-  decl-kept trait at = other-kept (number traitKind) at
-  decl-kept impl at = kept-ok refl
-  decl-kept other at = kept-no
+  decl-kept f message at = message-kept at
+  decl-kept f enum at = enum-kept f at
+  decl-kept f flags at = flags-kept f at
+  decl-kept f union at = union-kept at
+  decl-kept f newtype at = newtype-kept at
+  decl-kept f config at = other-kept (number configKind) at
+  decl-kept f alias at = other-kept (number aliasKind) at
+  decl-kept f trait at = other-kept (number traitKind) at
+  decl-kept f impl at = kept-ok refl
+  decl-kept f other at = kept-no
 
 -- a test of the end that the whole does not make
 tested : {A : Type 0} {by : ℕ} (b : Bool) (k : ℕ) {x y : Parsed A} → Kept by x y → Kept by (pick b x (no k)) y
@@ -308,9 +332,9 @@ unfolding bind
 kept_test test k (kept-ok {n = n} e) = tested (test n) k (kept-ok e)
 kept_test test k kept-no = kept-no
 
--- a whole body
-pub body_kept : (by : ℕ) (t s : List ℕ) → Part by t s → Kept by (bodyOf t) (bodyAt s by)
+-- a whole body, in the format of the list that it is a part of
+pub body_kept : (by : ℕ) (t s : List ℕ) → Part by t s → Kept by (bodyOf (format s) t) (bodyAt s by)
 unfolding bodyOf bodyAt
 body_kept by t s h =
     let z : by + 0 ≡ by = omega arith in
-    kept-bind _ _ (rw z at (byte-kept h 8 8 0)) (λ kind n. kept_test (λ m. eqb m (length t)) 8 (decl-kept h (kindOf kind) n))
+    kept-bind _ _ (rw z at (byte-kept h 8 8 0)) (λ kind n. kept_test (λ m. eqb m (length t)) 8 (decl-kept h (format s) (kindOf kind) n))

@@ -1,6 +1,7 @@
 -- Reads that were good, one after the other: each is good, and its value and its end are known. Assumes nothing.
 use mathlib.Core.Path.{◌≡◌, refl, sym, ap₂, ◌∙◌}
-use mathlib.Core.Bool.{Bool, true, false}
+use mathlib.Core.Bool.{Bool, true, false, cond, false≢true}
+use mathlib.Core.Option.{none, some}
 use mathlib.Core.List.{List, []}
 use Prim.Native.Nat.{ℕ, ◌+◌, ◌-◌, ◌≤◌, ◌<◌}
 use native.Mathlib.Omega.{arith}
@@ -10,6 +11,8 @@ use lib.ListN.{length, get_or, take, drop}
 use Rattle.image.specs.Parse.{Parsed, ok, no, bind, pick, part, littleEndian, byteAt, codeAt, numberAt}
 use Rattle.image.specs.Names.{nameAt}
 use Rattle.image.specs.Fields.{marksOf, marksAt}
+use Rattle.image.specs.Formats.{hasWidths}
+use Rattle.image.specs.Widths.{wireBitsAt, wireBytesAt, widthAt}
 use Rattle.image.specs.WellFormed.{Good, valueOr, endOf}
 use Rattle.image.proofs.Laws.Sure.{Named, byte-sure, code-sure, number-sure, name-sure}
 use Rattle.image.proofs.Laws.Good.{sure-good, good-first}
@@ -41,7 +44,7 @@ module _ {A : Type 0} (k : ℕ) where
   need-is true x g = refl
   need-is false x g = absurd g
 
--- bytes, numbers, marks, names
+-- bytes, numbers, marks, widths, names
 module _ (s : List ℕ) (at : ℕ) where
   pub byte-is : (short : ℕ) → Good (byteAt short s at) → (byteAt short s at ≡ ok (get_or s at 0) (at + 1)) × (at < length s)
   byte-is short g =
@@ -68,6 +71,31 @@ module _ (s : List ℕ) (at : ℕ) where
   marks-is g =
       let h = code_is 0 3 (good-first 0 (codeAt 0 3 s at) _ g) in
       (then_is _ h.0, h.1)
+
+  -- a byte that was read, and where
+  abbrev pub Byte-read : Parsed ℕ → Type 0
+  Byte-read p = (p ≡ ok (get_or s at 0) (at + 1)) × (at < length s)
+
+  pub wire-bits-is : Good (wireBitsAt s at) → Byte-read (wireBitsAt s at)
+  unfolding wireBitsAt
+  wire-bits-is g = byte-is 8 g
+
+  pub wire-bytes-is : Good (wireBytesAt s at) → Byte-read (wireBytesAt s at)
+  unfolding wireBytesAt
+  wire-bytes-is g =
+      let h = byte-is 8 (good-first 0 (byteAt 8 s at) _ g) in
+      (then_is _ h.0 ∙ need-is 9 _ _ (then-good _ h.0 g), h.1)
+
+  -- in a format that stores no width nothing is read
+  pub width-is : (f : ℕ) (wire : List ℕ → ℕ → Parsed ℕ) → (Good (wire s at) → Byte-read (wire s at)) → Good (widthAt f wire s at)
+      → (widthAt f wire s at ≡ ok (cond (hasWidths f) (some (get_or s at 0)) none) (at + cond (hasWidths f) 1 0)) × (hasWidths f ≡ true → at < length s)
+  unfolding widthAt pick
+  width-is f wire h g = go (hasWidths f) g
+    where
+      go : (b : Bool) → Good (pick b (bind (wire s at) (λ w n. ok (some w) n)) (ok none at))
+          → (pick b (bind (wire s at) (λ w n. ok (some w) n)) (ok none at) ≡ ok (cond b (some (get_or s at 0)) none) (at + cond b 1 0)) × (b ≡ true → at < length s)
+      go true g = let r = h (good-first 0 (wire s at) _ g) in (then_is _ r.0, λ _. r.1)
+      go false g = let z : at ≡ at + 0 = omega arith in (ap₂ ok refl z, λ e. absurd (false≢true e))
 
   pub name-is : NameHere s at → nameAt 8 s at ≡ ok (nameIn s at) (nameEnd s at)
   unfolding NameHere nameIn nameEnd

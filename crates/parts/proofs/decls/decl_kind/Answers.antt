@@ -1,10 +1,10 @@
 -- `parts::decls::decl_kind` meets its contract. Assumes nothing.
-use Rattle.std.proofs.Common.{sym}
-use Rattle.parts.proofs.Laws.Decls.{kind-there, decl-kind}
+use Rattle.std.proofs.Common.{◌∙◌}
+use Rattle.parts.proofs.Laws.Decls.{decl-started}
 use Rattle.parts.proofs.decls.decl_kind.Goals as goal
 
-pub bounds-image-at : goal.bounds-image-at
-bounds-image-at c = kind-there _ _ c.requires
+pub start_kind-requires : goal.start_kind-requires
+start_kind-requires c = (decl-started _ _ c.requires).here
 
 pub returns : goal.returns
-returns c = sym (decl-kind _ _ c.requires)
+returns c = c.start_kind.ensures ∙ (decl-started _ _ c.requires).kind
