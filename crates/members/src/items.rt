@@ -4,8 +4,8 @@ ghost use Rattle.image.specs.Codes.{number, unionKind};
 ghost use Rattle.parts.specs.Promise.{DeclHere, declIn, itemsIn, ItemHere, itemEnd, ItemsHere, itemsEnd, ordinalIn, itemName, itemsAt, variantItems};
 
 use crate::fields::field_end;
-use image::kinds::ENUM;
 use image::numbers::{u16_at, u32_at};
+use parts::decls::{stores_width, width_place};
 use parts::names::{name_at, name_end};
 use parts::{Run, Shape};
 
@@ -41,11 +41,11 @@ pub fn decl_items(image: &[u8], at: usize) -> Run
     requires { DeclHere image.now at × ((declIn image.now at).kind ≤ number unionKind) }
     ensures { result ≡ itemsIn image.now at }
 {
-    let end = name_end(image, at + 1);
-    if ENUM < image[at] {
-        return items_at(image, end);
+    let place = width_place(image, at);
+    if stores_width(image, at) {
+        return items_at(image, place + 1);
     }
-    items_at(image, end + 1)
+    items_at(image, place)
 }
 
 // The fields of a union's variant.

@@ -1,33 +1,27 @@
-use Rattle.std.proofs.Common.{arith, ◌∙◌}
-use Rattle.parts.proofs.Laws.Decls.{kind-there, decl-kind, decl-head, items-after, items-after-marks}
+use Rattle.std.proofs.Common.{arith, sym, ◌∙◌}
+use Rattle.parts.proofs.Laws.Decls.{items-after, items-after-width}
 use Rattle.members.proofs.items.decl_items.Goals as goal
 
-pub overflow_add-at : goal.overflow_add-at
-overflow_add-at c = let t = kind-there _ _ c.requires.0 in omega arith
+pub width_place-place-requires : goal.width_place-place-requires
+width_place-place-requires c = (c.requires.0, omega (arith, c.requires.1))
 
-pub name_end-end-requires : goal.name_end-end-requires
-name_end-end-requires c =
-    let d = decl-kind _ _ c.requires.0 in
-    ((decl-head _ _ c.requires.0).named (omega arith)).0
-
-pub bounds-image-at : goal.bounds-image-at
-bounds-image-at c = kind-there _ _ c.requires.0
-
-pub items_at-requires : goal.items_at-requires
-items_at-requires c = (items-after _ _ c.requires.0 c.requires.1 c.name_end-end.ensures (omega arith)).0
-
-pub overflow_add-end : goal.overflow_add-end
-overflow_add-end c =
-    let t = (items-after-marks _ _ c.requires.0 c.requires.1 c.name_end-end.ensures (omega arith)).0 in
+pub overflow_add-place : goal.overflow_add-place
+overflow_add-place c =
+    let t = (items-after-width _ _ c.requires.0 c.requires.1 c.width_place-place.ensures (sym c.stores_width.ensures ∙ c.if-stores_width.true)).0 in
     omega arith
 
+pub items_at-requires : goal.items_at-requires
+items_at-requires c = (items-after-width _ _ c.requires.0 c.requires.1 c.width_place-place.ensures (sym c.stores_width.ensures ∙ c.if-stores_width.true)).0
+
+pub returns-then-stores_width : goal.returns-then-stores_width
+returns-then-stores_width c =
+    c.items_at.ensures
+    ∙ (items-after-width _ _ c.requires.0 c.requires.1 c.width_place-place.ensures (sym c.stores_width.ensures ∙ c.if-stores_width.true)).1
+
 pub items_at-requires-2 : goal.items_at-requires-2
-items_at-requires-2 c = (items-after-marks _ _ c.requires.0 c.requires.1 c.name_end-end.ensures (omega arith)).0
+items_at-requires-2 c = (items-after _ _ c.requires.0 c.requires.1 c.width_place-place.ensures (sym c.stores_width.ensures ∙ c.if-stores_width.false)).0
 
 pub returns : goal.returns
 returns c =
-    c.items_at-2.ensures ∙ (items-after-marks _ _ c.requires.0 c.requires.1 c.name_end-end.ensures (omega arith)).1
-
-pub returns-then-image-at-gt-ENUM : goal.returns-then-image-at-gt-ENUM
-returns-then-image-at-gt-ENUM c =
-    c.items_at.ensures ∙ (items-after _ _ c.requires.0 c.requires.1 c.name_end-end.ensures (omega arith)).1
+    c.items_at-2.ensures
+    ∙ (items-after _ _ c.requires.0 c.requires.1 c.width_place-place.ensures (sym c.stores_width.ensures ∙ c.if-stores_width.false)).1
