@@ -25,7 +25,7 @@ use Rattle.rules.specs.Clauses.{Reading, clausesBy, changes}
 use Rattle.rules.specs.Verdict.{bumpOf, resultAt, resultOf, countOf}
 use Rattle.rules.specs.Report.{bumpWord, resultWord, line, lastLine, report}
 use Rattle.rules.specs.Outcome.{Outcome, refused, selected, select}
-use Rattle.rules.specs.Answer.{Fault, Policy, compared, counts, firstFault, verdictBy, usual, plain}
+use Rattle.rules.specs.Answer.{Fault, Policy, compared, counts, firstFault, verdictBy, usual, plainReading, plain}
 use Rattle.rules.specs.Reached.{IdSet}
 use Rattle.rules.specs.Imports.{markedIds, standingWith, viewWith}
 use Rattle.rules.specs.Refusals.{Decided, oldRefused, oldAlone, newRefused, newAlone, pairRefused, verdict}
@@ -129,12 +129,16 @@ pub record Sized (v : View) : Type 0 where
   pub size : total declSize v.standing ≤ 2 ^ 40
   pub registry : Short v.registry
 
+-- a fault that a selector can tell
+abbrev pub Low : Fault → Type 0
+Low f = (f.number < 2 ^ 62) × (f.side < 2 ^ 62)
+
 -- what is asked of a policy
 pub record Bounded (p : Policy) : Type 0 where
   pub view : (x : Schema) → Held x → Sized (p.view x)
   pub light : Light p.reading
   pub alone : (x : Schema) (k : ℕ) → p.alone x ≡ some k → k < 2 ^ 62
-  pub pair : (x y : Schema) (f : Fault) → firstFault p.pair x y ≡ some f → (f.number < 2 ^ 62) × (f.side < 2 ^ 62)
+  pub pair : (x y : Schema) (f : Fault) → firstFault p.pair x y ≡ some f → Low f
 
 module _ (p : Policy) (b : Bounded p) where
   held-bound : (x y : Schema) → Held x → Held y → length (report (changes p.reading (p.view x) (p.view y))) < 2 ^ 62
@@ -235,11 +239,10 @@ with-sized m l x h = record {
   registry = held-short x h;
 }
 
--- ---- of the survivors by the clauses alone, however types are read; and so of the verdict of document 01
+pub survivors-sized : (x : Schema) → Held x → Sized (viewOf x)
+survivors-sized x h = rw (← view-none x) (with-sized [] (omega arith) x h)
 
-pub survivors-bounded : (same : Ty → Ty → Bool) → Bounded (usual viewOf (clausesBy same))
-survivors-bounded same =
-    usual-bounded viewOf (clausesBy same) (λ x h. rw (← view-none x) (with-sized [] (omega arith) x h)) (clauses-light same)
+-- ---- of the verdict of document 01
 
 pub plain-bounded : Bounded plain
-plain-bounded = survivors-bounded sameType
+plain-bounded = usual-bounded viewOf plainReading survivors-sized (clauses-light sameType)

@@ -48,7 +48,7 @@ second-major {zs = zs} h = chained (λ κ i j l. omega (arith, largest-two zs))
 -- ---- a test that reports a change
 
 -- of bump Major: if the test passes for two pairs it passes for the first and the third
-test-chained : {A : Type 0} {same : A → A → Bool} {odd : A → Bool} → Sound same odd → (b : ℕ) (x y z : A) (c d e : Change)
+pub test-chained : {A : Type 0} {same : A → A → Bool} {odd : A → Bool} → Sound same odd → (b : ℕ) (x y z : A) (c d e : Change)
     → c.bump ≡ major → d.bump ≡ major → Chained levelOf b (only (not (same x y)) c) (only (not (same y z)) d) (only (not (same x z)) e)
 unfolding only largest level
 test-chained {same = same} S b x y z c d e m n = go (same x y) (same y z) refl refl

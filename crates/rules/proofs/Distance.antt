@@ -12,16 +12,17 @@ use Rattle.maps.specs.Orders.{before}
 use Rattle.maps.specs.Walk.{Rising}
 use Rattle.maps.proofs.Lists.{all_map}
 use Rattle.image.specs.Schema.{Schema, Ty}
+use Rattle.image.specs.Parse.{Parsed, ok}
 use Rattle.image.specs.Image.{readImage}
 use Rattle.maps.proofs.Tests.{both}
-use Rattle.rules.specs.Equal.{Sound, never}
+use Rattle.rules.specs.Equal.{never}
 use Rattle.rules.specs.Survivors.{nameOf, View, viewOf}
 use Rattle.rules.specs.Types.{resolve, holdsVector}
 use Rattle.rules.specs.Changes.{kindCount, kindAt, FieldAdded, FieldRemoved, FieldDeprecated, VariantAdded, VariantRemoved, DeclarationAdded, DeclarationRemoved, FlagsBitAdded, FlagsBitRemoved}
-use Rattle.rules.specs.Clauses.{clausesBy, comparedTypes}
+use Rattle.rules.specs.Clauses.{comparedTypes}
 use Rattle.rules.specs.Verdict.{bumpOf, countOf, any}
 use Rattle.rules.specs.Outcome.{selected, select}
-use Rattle.rules.specs.Answer.{Policy, verdictBy, usual, plainReading, verdictOf}
+use Rattle.rules.specs.Answer.{Policy, verdictBy, plain, verdictOf}
 use Rattle.rules.specs.Refusals.{Numbered}
 use Rattle.rules.specs.Distance.{Image, vectorCompared, last, otherKinds, Verdict, distance, countBetween, Steps, largestStep, Swapped, DistanceRule, holdsVectors}
 use Rattle.rules.proofs.Types.{types, holds-resolved}
@@ -30,7 +31,7 @@ use Rattle.rules.proofs.Self.{changes-self}
 use Rattle.rules.proofs.Mirror.{mirror}
 use Rattle.rules.proofs.Readings.{Lawful, clauses-lawful}
 use Rattle.rules.proofs.Swap.{changes-swap}
-use Rattle.rules.proofs.Answer.{schemaOf, settled, changesOf, compared-of, count-selected, usual-numbered}
+use Rattle.rules.proofs.Answer.{schemaOf, settled, changesOf, compared-of, count-selected, plain-numbered}
 use Rattle.rules.proofs.Standing.{view-rises}
 
 -- whether the count of one kind is that of another the other way
@@ -89,7 +90,7 @@ module _ (p : Policy) (numbered : Numbered p) (rise : (s : Schema) → Rising na
       fields = count-swap (kindAt FieldRemoved) (kindAt FieldAdded) refl;
       variants = count-swap (kindAt VariantRemoved) (kindAt VariantAdded) refl;
       bits = count-swap (kindAt FlagsBitRemoved) (kindAt FlagsBitAdded) refl;
-      others = all_map (λ kind. count-swap kind kind) otherKinds (refl, (refl, (refl, (refl, (refl, (refl, (refl, (refl, (refl, tt)))))))));
+      others = all_map (λ kind. count-swap kind kind) otherKinds (refl, (refl, (refl, (refl, (refl, (refl, (refl, (refl, (refl, (refl, tt))))))))));
     }
 
   pub distance-rule-of : DistanceRule (verdictBy p) oddIn
@@ -115,33 +116,27 @@ unfolding any
 any-never [] = refl
 any-never (a ∷ l) = any-never l
 
--- ---- a verdict whose one check is 11, over any rising view
+-- ---- of a reading in whose eyes a type is odd if it holds a vector, quaternion or matrix node, as document 01 reads types; and of one for
+-- which none is
 
-module _ (view : Schema → View) (rise : (s : Schema) → Rising nameOf before (view s).standing) where
-  -- that reads types as document 01 says: an odd type is one that holds a vector, quaternion or matrix node
-  module _ where
-    abbrev policy : Policy
-    policy = usual view plainReading
+module _ (p : Policy) (numbered : Numbered p) (rise : (s : Schema) → Rising nameOf before (p.view s).standing) where
+  module _ (lawful : Lawful p.reading holdsVector) where
+    odd-read : (r : Parsed Schema) (s : Schema) (n : ℕ) → r ≡ ok s n
+        → any (λ t. holdsVector (resolve (p.view (schemaOf r)).registry t)) (comparedTypes (p.view (schemaOf r))) ≡ vectorCompared p.view r
+    unfolding vectorCompared schemaOf
+    odd-read r s n e = rw e (any_same _ holdsVector (holds-resolved (p.view s).registry) (comparedTypes (p.view s)))
 
-    abbrev numbered : Numbered policy
-    numbered = usual-numbered view plainReading
+    odd-vectors : (a : Image) → Verdict (verdictBy p) a a → oddIn p numbered rise lawful a ≡ holdsVectors p.view a
+    unfolding Verdict verdictBy holdsVectors
+    odd-vectors a v = let t = settled p numbered a a v in odd-read (readImage a) t.oldSchema t.old.end t.old.read
 
-    odd-vectors : (a : Image) → Verdict (verdictBy policy) a a → oddIn policy numbered rise (clauses-lawful types) a ≡ holdsVectors view a
-    unfolding Verdict verdictBy holdsVectors vectorCompared schemaOf
-    odd-vectors a v =
-        let t = settled policy numbered a a v in
-        let x = view t.oldSchema in
-        rw t.old.read (any_same _ holdsVector (holds-resolved x.registry) (comparedTypes x))
+    pub vector-distance-rule : DistanceRule (verdictBy p) (holdsVectors p.view)
+    vector-distance-rule = odd-alike (distance-rule-of p numbered rise lawful) odd-vectors
 
-    pub usual-distance-rule : DistanceRule (verdictBy policy) (holdsVectors view)
-    usual-distance-rule = odd-alike (distance-rule-of policy numbered rise (clauses-lawful types)) odd-vectors
-
-  -- by whose reading no type is odd
-  pub even-distance-rule : {same : Ty → Ty → Bool} → Sound same never → DistanceRule (verdictBy (usual view (clausesBy same))) never
-  even-distance-rule {same} sound =
-      odd-alike (distance-rule-of (usual view (clausesBy same)) (usual-numbered view (clausesBy same)) rise (clauses-lawful sound)) λ a v. any-never _
+  pub even-distance-rule : Lawful p.reading never → DistanceRule (verdictBy p) never
+  even-distance-rule lawful = odd-alike (distance-rule-of p numbered rise lawful) λ a v. any-never _
 
 -- ---- the verdict call of document 01
 
 pub distance-rule : DistanceRule verdictOf (holdsVectors viewOf)
-distance-rule = usual-distance-rule viewOf view-rises
+distance-rule = vector-distance-rule plain plain-numbered view-rises (clauses-lawful types)

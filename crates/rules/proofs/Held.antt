@@ -15,6 +15,7 @@ use Rattle.image.specs.Names.{nameAt, namesAt}
 use Rattle.image.specs.Types.{Follows, code, subByte, identity, size, nothing, bits, unknown, followsTag, innerTypes, afterTag, labelOf, innerAt, typeOf, typeAt}
 use Rattle.image.specs.Fields.{plain, delta, marksAt, encodingOf, encodingAt, limitAt, fieldAt, bareAt, variantAt}
 use Rattle.image.specs.Kinds.{kindOf}
+use Rattle.image.specs.Widths.{wireBitsAt, wireBytesAt, widthAt}
 use Rattle.image.specs.Bodies.{messageAt, enumAt, flagsAt, unionAt, newtypeAt, otherAt, implAt, declAt, bodyOf}
 use Rattle.image.specs.Image.{entryCount, idCount, segmentCount, segmentsAt, idsAt, tablesOf, entryOffset, entryLength, entryOf, entriesOf, readImage}
 use Rattle.image.proofs.Laws.Sure.{Sure, sure-ok, sure-no, sure-bind, sure-pick, sure-need, sure-then, byte-sure, code-sure, number-sure, name-sure, names-sure, Head, head-sure}
@@ -151,41 +152,58 @@ variant-takes s at =
     sure-bind _ (counted-take fieldAt fieldSize s (field-takes s) n₂) (λ fs n₃ q₃.
     yields _ n₃ (omega (arith, q₁.next)))))
 
+-- ---- widths, in any format
+
+bits-take : (s : List ℕ) (at : ℕ) → Sure (λ w n. at ≤ n) (wireBitsAt s at)
+unfolding wireBitsAt
+bits-take s at = sure-then (byte-sure 8 s at) (λ b n q. omega (arith, q.next))
+
+bytes-take : (s : List ℕ) (at : ℕ) → Sure (λ w n. at ≤ n) (wireBytesAt s at)
+unfolding wireBytesAt
+bytes-take s at = sure-bind _ (byte-sure 8 s at) (λ b n q. sure-need _ _ (λ h. yields b n (omega (arith, q.next))))
+
+width-takes : (f : ℕ) (wire : List ℕ → ℕ → Parsed ℕ) (s : List ℕ) → ((at : ℕ) → Sure (λ w n. at ≤ n) (wire s at)) → (at : ℕ)
+    → Sure (λ w n. at ≤ n) (widthAt f wire s at)
+unfolding widthAt
+width-takes f wire s h at = sure-pick _ (λ e. sure-bind _ (h at) (λ w n q. yields (some w) n q)) (λ e. yields none at (omega arith))
+
 -- ---- bodies: with the kind, at least a byte each
 
-decl-takes : (kind : ℕ) (s : List ℕ) (at : ℕ) → Sure (λ d n. at + declSize d ≤ n + 1) (declAt (kindOf kind) s at)
+decl-takes : (f kind : ℕ) (s : List ℕ) (at : ℕ) → Sure (λ d n. at + declSize d ≤ n + 1) (declAt f (kindOf kind) s at)
 unfolding kindOf declAt messageAt enumAt flagsAt unionAt newtypeAt otherAt implAt declSize typeSize namesSize total
-decl-takes zero s at =
+decl-takes f zero s at =
     sure-bind _ (name-takes 8 s at) (λ x n₁ q₁.
     sure-bind _ (marks-take s n₁) (λ m n₂ q₂.
     sure-bind _ (counted-take fieldAt fieldSize s (field-takes s) n₂) (λ fs n₃ q₃.
     yields _ n₃ (omega arith))))
-decl-takes (suc zero) s at =
+decl-takes f (suc zero) s at =
     sure-bind _ (name-takes 8 s at) (λ x n₁ q₁.
     sure-bind _ (marks-take s n₁) (λ m n₂ q₂.
+    sure-bind _ (width-takes f wireBitsAt s (bits-take s) n₂) (λ w n₃ q₃.
+    sure-bind _ (counted-take bareAt variantSize s (bare-takes s) n₃) (λ vs n₄ q₄.
+    yields _ n₄ (omega arith)))))
+decl-takes f (suc (suc zero)) s at =
+    sure-bind _ (name-takes 8 s at) (λ x n₁ q₁.
+    sure-bind _ (width-takes f wireBytesAt s (bytes-take s) n₁) (λ w n₂ q₂.
     sure-bind _ (counted-take bareAt variantSize s (bare-takes s) n₂) (λ vs n₃ q₃.
     yields _ n₃ (omega arith))))
-decl-takes (suc (suc zero)) s at =
-    sure-bind _ (name-takes 8 s at) (λ x n₁ q₁.
-    sure-bind _ (counted-take bareAt variantSize s (bare-takes s) n₁) (λ vs n₂ q₂.
-    yields _ n₂ (omega arith)))
-decl-takes (suc (suc (suc zero))) s at =
+decl-takes f (suc (suc (suc zero))) s at =
     sure-bind _ (name-takes 8 s at) (λ x n₁ q₁.
     sure-bind _ (counted-take variantAt variantSize s (variant-takes s) n₁) (λ vs n₂ q₂.
     yields _ n₂ (omega arith)))
-decl-takes (suc (suc (suc (suc zero)))) s at =
+decl-takes f (suc (suc (suc (suc zero)))) s at =
     sure-bind _ (name-takes 8 s at) (λ x n₁ q₁. sure-bind _ (type-at-takes s n₁) (λ t n₂ q₂. yields _ n₂ (omega arith)))
-decl-takes (suc (suc (suc (suc (suc zero))))) s at = sure-bind _ (name-takes 8 s at) (λ x n q. yields _ n (omega arith))
-decl-takes (suc (suc (suc (suc (suc (suc zero)))))) s at = sure-bind _ (name-takes 8 s at) (λ x n q. yields _ n (omega arith))
-decl-takes (suc (suc (suc (suc (suc (suc (suc zero))))))) s at = sure-bind _ (name-takes 8 s at) (λ x n q. yields _ n (omega arith))
-decl-takes (suc (suc (suc (suc (suc (suc (suc (suc zero)))))))) s at = yields _ at (omega arith)
-decl-takes (suc (suc (suc (suc (suc (suc (suc (suc (suc k))))))))) s at = sure-no
+decl-takes f (suc (suc (suc (suc (suc zero))))) s at = sure-bind _ (name-takes 8 s at) (λ x n q. yields _ n (omega arith))
+decl-takes f (suc (suc (suc (suc (suc (suc zero)))))) s at = sure-bind _ (name-takes 8 s at) (λ x n q. yields _ n (omega arith))
+decl-takes f (suc (suc (suc (suc (suc (suc (suc zero))))))) s at = sure-bind _ (name-takes 8 s at) (λ x n q. yields _ n (omega arith))
+decl-takes f (suc (suc (suc (suc (suc (suc (suc (suc zero)))))))) s at = yields _ at (omega arith)
+decl-takes f (suc (suc (suc (suc (suc (suc (suc (suc (suc k))))))))) s at = sure-no
 
-body-takes : (s : List ℕ) → Sure (λ d n. declSize d ≤ length s) (bodyOf s)
+body-takes : (f : ℕ) (s : List ℕ) → Sure (λ d n. declSize d ≤ length s) (bodyOf f s)
 unfolding bodyOf
-body-takes s =
+body-takes f s =
     sure-bind _ (byte-sure 8 s 0) (λ kind n₁ q₁.
-    sure-bind _ (decl-takes kind s n₁) (λ d n₂ q₂.
+    sure-bind _ (decl-takes f kind s n₁) (λ d n₂ q₂.
     sure-need _ _ (λ h. yields _ n₂ (omega (arith, q₁.next, eqb-true n₂ (length s) h)))))
 
 -- ---- images
@@ -195,15 +213,15 @@ unfoldable pub Small : Option Decl → Type 0
 Small none = Unit {0}
 Small (some d) = declSize d ≤ 32768
 
-module _ (s : List ℕ) (l : length s ≤ 32768) where
-  entry-small : (i : ℕ) → Sure (λ e n. Small e) (entryOf s i)
+module _ (f : ℕ) (s : List ℕ) (l : length s ≤ 32768) where
+  entry-small : (i : ℕ) → Sure (λ e n. Small e) (entryOf f s i)
   unfolding entryOf Small
   entry-small i =
       sure-pick _ (λ h. yields none 0 tt)
-      (λ h. sure-bind _ (body-takes (part (entryOffset s i) (entryLength s i) s))
+      (λ h. sure-bind _ (body-takes f (part (entryOffset s i) (entryLength s i) s))
       (λ d n q. yields (some d) n (omega (arith, q, (part_length (entryOffset s i) (entryLength s i) s).1))))
 
-  entries-small : (count i : ℕ) → Sure (λ es n. All Small es × (length es ≡ count)) (entriesOf count s i)
+  entries-small : (count i : ℕ) → Sure (λ es n. All Small es × (length es ≡ count)) (entriesOf f count s i)
   unfolding entriesOf All
   entries-small zero i = yields [] (length s) (tt, refl)
   entries-small (suc count) i =
@@ -217,7 +235,7 @@ pub record Held (x : Schema) : Type 0 where
   pub segments : namesSize x.namespace ≤ 32768
 
 -- the head says how many entries and ids there are at most
-few : (s : List ℕ) → Head s → (entryCount s ≤ 512) × (idCount s ≤ 512)
+few : (s : List ℕ) {f n : ℕ} → Head s f n → (entryCount s ≤ 512) × (idCount s ≤ 512)
 few s h =
     let p = both (leb (entryCount s) 512) (leb (idCount s) 512 && leb (segmentCount s) 16) h.counts in
     (leb-true (entryCount s) 512 p.0, leb-true (idCount s) 512 (both (leb (idCount s) 512) (leb (segmentCount s) 16) p.1).0)
@@ -229,11 +247,11 @@ tables-sure s = sure-need _ _ (λ h. sure-ok (ids-length (idCount s) s (idsAt s)
 image-held : (s : List ℕ) → Sure (λ x n. Held x) (readImage s)
 unfolding readImage
 image-held s =
-    sure-bind _ (head-sure s) (λ h n₁ q₁.
+    sure-bind _ (head-sure s) (λ f n₁ q₁.
     sure-bind _ (tables-sure s) (λ ids n₂ q₂.
     sure-bind _ (sure-both (names-take 2 (segmentCount s) s n₂) (names-sure 2 (segmentCount s) s n₂ q₂.1)) (λ names n₃ q₃.
     sure-need _ _ (λ l.
-    sure-bind _ (entries-small s q₁.most (entryCount s) 0) (λ es n₄ q₄.
+    sure-bind _ (entries-small f s q₁.most (entryCount s) 0) (λ es n₄ q₄.
     yields _ n₄ (record {
       entries = q₄.0;
       registry = omega (arith, q₄.1, (few s q₁).0);

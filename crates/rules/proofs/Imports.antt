@@ -30,11 +30,13 @@ use Rattle.rules.specs.Distance.{holdsVectors, DistanceRule}
 use Rattle.rules.specs.Reached.{member, Reached, reachedSet}
 use Rattle.rules.specs.Imports.{markedIds, viewWith, importsView, imports, Stands, survivor, imported, absent, OnlyListed, Imported}
 use Rattle.rules.proofs.Equal.{names}
+use Rattle.rules.proofs.Types.{types}
+use Rattle.rules.proofs.Readings.{clauses-lawful}
 use Rattle.rules.proofs.Answer.{usual-numbered}
 use Rattle.rules.proofs.Weights.{clauses-light}
 use Rattle.rules.proofs.Bound.{Bounded, usual-bounded, with-sized}
 use Rattle.rules.proofs.Refusals.{verdict-refusals}
-use Rattle.rules.proofs.Distance.{usual-distance-rule}
+use Rattle.rules.proofs.Distance.{vector-distance-rule}
 use Rattle.rules.proofs.ReachedSets.{member-cons, member-none}
 use Rattle.rules.proofs.Reached.{reached-is}
 use Rattle.rules.proofs.Standing.{with-rises, view-rises, setEntries, lookup-with, ids-has, ids-rise, Highest, highest, nowhere, highest-found}
@@ -163,4 +165,4 @@ pub imports-refusals : (old new : List ℕ) → VerdictRefusals importsView plai
 imports-refusals = verdict-refusals importsView imports-rise plainReading
 
 pub imports-distance-rule : DistanceRule (verdictBy imports) (holdsVectors importsView)
-imports-distance-rule = usual-distance-rule importsView imports-rise
+imports-distance-rule = vector-distance-rule imports imports-numbered imports-rise (clauses-lawful types)

@@ -4,8 +4,8 @@
 -- Calls: what both calls say together.
 -- Ordinals: the counts that are always 0. Sizes, Texts, Scales, Weights, Held, Bound: how long a report can be.
 -- ReachedSets, Reached: what is computed is what is reached through named nodes. Standing: what stands with a set of ids. Imports: the
--- verdict with imports. Agreed: readings that agree on the types that are compared. Mended: the three answers of the type comparison, and the
--- mended verdict.
+-- verdict with imports. Agreed: readings that agree on the types that are compared. Widths: a reading that reports widths. Mended: the three
+-- answers of the type comparison, and the mended verdict.
 -- Forgotten: what is read where a part of each declaration is forgotten. Ignored: the earlier verdicts ignore widths.
 -- Computed: what is unfolded to compute. Edges, ImportEdges, MendedEdges, Pinned, PinnedImports, PinnedMended: what is computed from the
 -- definitions alone.
@@ -34,6 +34,7 @@ pub mod Held
 pub mod Bound
 pub mod Imports
 pub mod Agreed
+pub mod Widths
 pub mod Mended
 pub mod Forgotten
 pub mod Ignored

@@ -1,30 +1,41 @@
--- R-5: the three answers of the type comparison, and the mended verdict: where it is that of document 01, and its bound and distance rule, by
--- the laws over any reading. Assumes nothing.
+-- R-5: the three answers of the type comparison, and the mended verdict, which R-6 adds to: where it is that of document 01, and its bound and
+-- distance rule, by the laws over any reading. Assumes nothing.
 use mathlib.Core.Path.{◌≡◌, refl, sym, ap, ◌∙◌, subst}
 use mathlib.Core.Bool.{Bool, true, false, not, ◌&&◌, ◌||◌, and-false, false≢true}
-use mathlib.Core.Logic.{◌↔◌}
+use mathlib.Core.Logic.{⊎_elim, ◌↔◌}
 use mathlib.Core.List.Memᴰ
 use mathlib.Core.List.{List, [], ◌∷◌}
+use mathlib.Core.Option.{Option, none, some, none-ne-some}
+use Prim.Native.Nat.{ℕ, ◌+◌}
+use native.Mathlib.Omega.{arith}
+use Rattle.maps.specs.Lists.{All}
 use Rattle.image.specs.Schema.{Ty, Schema}
+use Rattle.image.specs.Codes.{number, mixedRefusal, bothSides}
 use Rattle.image.specs.Parse.{Parsed, ok, no}
 use Rattle.image.specs.Image.{readImage}
+use Rattle.std.proofs.lemmas.Bool.{false_from_ne_true}
 use Rattle.maps.proofs.Tests.{no_both}
 use Rattle.maps.proofs.Reorderings.{In}
 use Rattle.rules.specs.Equal.{Sound, never}
 use Rattle.rules.specs.Survivors.{View, viewOf}
 use Rattle.rules.specs.Types.{resolve, sameLabel, sameType, holdsVector}
-use Rattle.rules.specs.Clauses.{changes, comparedTypes}
+use Rattle.rules.specs.Changes.{kindAt, WidthChanged}
+use Rattle.rules.specs.Clauses.{clausesBy, changes, comparedTypes}
 use Rattle.rules.specs.Verdict.{any}
-use Rattle.rules.specs.Answer.{plainReading, plain, firstFault, aliasCheck, comparePair, acceptNew, acceptOld, outcome, verdictBy}
-use Rattle.rules.specs.Refusals.{Numbered}
+use Rattle.rules.specs.Outcome.{selected, select}
+use Rattle.rules.specs.Answer.{Fault, fault, plainReading, plain, compared, firstFault, judged, onSide, aliasCheck, comparePair, acceptNew, acceptOld, outcome, verdictBy}
 use Rattle.rules.specs.Distance.{vectorCompared, holdsVectors, DistanceRule}
+use Rattle.rules.specs.Widths.{mixed}
 use Rattle.rules.specs.Mended.{equal, alike, different, equalTrees, likenessBy, likeness, readAs, ThreeAnswers, mendedType, mendedReading, mended, Otherwise}
 use Rattle.rules.proofs.Types.{labels, tree-equal, tree-self, types, holds-resolved}
 use Rattle.rules.proofs.Agreed.{changes-agree}
-use Rattle.rules.proofs.Answer.{usual-numbered}
+use Rattle.rules.proofs.Answer.{count-selected}
 use Rattle.rules.proofs.Standing.{view-rises}
-use Rattle.rules.proofs.Bound.{Bounded, survivors-bounded}
+use Rattle.rules.proofs.MendedRefusals.{mixed-fault, unmixed_checks, mended-numbers, mended-numbered}
+use Rattle.rules.proofs.Bound.{Bounded, survivors-sized}
 use Rattle.rules.proofs.Distance.{even-distance-rule}
+use Rattle.rules.proofs.Ordinals.{Ordinary, ordinalKinds}
+use Rattle.rules.proofs.Widths.{widths-lawful, widths-ordinary, widths-light, without-widths}
 
 -- ---- the answers
 
@@ -124,7 +135,7 @@ none_in p {l = b ∷ l} e (Memᴰ.head q) = rw q (either-false (p b) e).0
 none_in p {l = b ∷ l} e (Memᴰ.tail m) = none_in p (either-false (p b) e).1 m
 
 views-agree : (x y : View) → (any holdsVector (comparedTypes x) && any holdsVector (comparedTypes y)) ≡ false
-    → changes mendedReading x y ≡ changes plainReading x y
+    → changes (clausesBy mendedType) x y ≡ changes plainReading x y
 views-agree x y e =
     changes-agree mendedType sameType x y λ t u i j.
     without (resolve x.registry t) (resolve y.registry u)
@@ -135,23 +146,57 @@ views-agree x y e =
     go true p {t} i j = rw (none_in holdsVector (rw p at e) j) (and-false (holdsVector t))
     go false p i j = rw (none_in holdsVector p i)
 
-pub otherwise : Otherwise
-unfolding holdsVectors vectorCompared outcome acceptOld acceptNew comparePair firstFault aliasCheck
-otherwise old new e = go (readImage old) (readImage new) e
+-- and where no width has changed, all that is reported is the same
+changes-otherwise : (x y : View) → (any holdsVector (comparedTypes x) && any holdsVector (comparedTypes y)) ≡ false
+    → select (compared (changes mendedReading x y)) (5 + kindAt WidthChanged) ≡ 0 → changes mendedReading x y ≡ changes plainReading x y
+changes-otherwise x y e w =
+    without-widths mendedType x y (sym (count-selected (kindAt WidthChanged) (omega arith) (changes mendedReading x y)) ∙ w) ∙ views-agree x y e
+
+-- of two images of which 16 is not given
+pair-otherwise : (x y : Schema) → (select (comparePair mended x y) 0 ≡ number mixedRefusal → ⊥)
+    → select (comparePair mended x y) (5 + kindAt WidthChanged) ≡ 0
+    → (any holdsVector (comparedTypes (viewOf x)) && any holdsVector (comparedTypes (viewOf y))) ≡ false → comparePair mended x y ≡ comparePair plain x y
+unfolding comparePair judged select selected
+pair-otherwise x y n w e =
+    let p = false_from_ne_true (mixed x y) (λ m. n (given (mixed-fault x y m))) in
+    rw (unmixed_checks x y p) (go (firstFault (aliasCheck viewOf ∷ []) x y) (unmixed_checks x y p))
   where
-    go : (r q : Parsed Schema) → (vectorCompared viewOf r && vectorCompared viewOf q) ≡ false → acceptOld mended r q ≡ acceptOld plain r q
-    go (ok x m) (ok y n) f = rw (views-agree (viewOf x) (viewOf y) f)
-    go (ok x m) (no k) f = refl
-    go (no k) q f = refl
+    given : firstFault mended.pair x y ≡ some (fault 16 (number bothSides)) → select (judged (firstFault mended.pair x y) (compared (changes mendedReading (viewOf x) (viewOf y)))) 0 ≡ 16
+    given q = rw q
+
+    go : (o : Option Fault) → firstFault mended.pair x y ≡ o
+        → judged o (compared (changes mendedReading (viewOf x) (viewOf y))) ≡ judged o (compared (changes plainReading (viewOf x) (viewOf y)))
+    go none q = ap compared (changes-otherwise (viewOf x) (viewOf y) e (rw q at w))
+    go (some f) q = refl
+
+pub otherwise : Otherwise
+unfolding holdsVectors vectorCompared verdictBy outcome acceptOld acceptNew onSide judged
+otherwise old new = go (readImage old) (readImage new)
+  where
+    go : (r q : Parsed Schema) → (select (acceptOld mended r q) 0 ≡ number mixedRefusal → ⊥)
+        → select (acceptOld mended r q) (5 + kindAt WidthChanged) ≡ 0
+        → (vectorCompared viewOf r && vectorCompared viewOf q) ≡ false → acceptOld mended r q ≡ acceptOld plain r q
+    go (ok x m) (ok y n) f w e = pair-otherwise x y f w e
+    go (ok x m) (no k) f w e = refl
+    go (no k) q f w e = refl
 
 -- ---- the mended verdict
 
-pub mended-numbered : Numbered mended
-mended-numbered = usual-numbered viewOf mendedReading
-
 pub mended-bounded : Bounded mended
-mended-bounded = survivors-bounded mendedType
+mended-bounded = record {
+  view = survivors-sized;
+  light = widths-light mendedType;
+  alone = λ x k e. absurd (none-ne-some k e);
+  pair = λ x y f e.
+      let q = mended-numbers x y f e in
+      (⊎_elim (λ z. omega (arith, z)) (λ z. omega (arith, z)) q.0, omega (arith, q.1));
+}
+
+-- the three counts that are always 0
+pub mended-ordinary : All (λ j. Ordinary j mendedReading) ordinalKinds
+unfolding All
+mended-ordinary = (widths-ordinary mendedType _ refl, (widths-ordinary mendedType _ refl, (widths-ordinary mendedType _ refl, tt)))
 
 -- "there every image that gets a verdict against itself is at distance 0 from itself. The chain rule covers the mended verdict as well."
 pub mended-distance-rule : DistanceRule (verdictBy mended) never
-mended-distance-rule = even-distance-rule viewOf view-rises mended-types
+mended-distance-rule = even-distance-rule mended mended-numbered view-rises (widths-lawful mended-types)

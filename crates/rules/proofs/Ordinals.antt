@@ -1,5 +1,5 @@
--- "The three `..OrdinalChanged` counts are 0.": the clauses report no such change, whatever they compare, and so does no verdict
--- that reports none besides. Assumes nothing.
+-- "The three `..OrdinalChanged` counts are 0.", and so is that of WidthChanged "in the earlier verdicts": the clauses report no such change,
+-- whatever they compare, and so does no verdict that reports none besides. Assumes nothing.
 use mathlib.Core.Path.{◌≡◌, refl, ◌∙◌}
 use mathlib.Core.Bool.{Bool, true, false, cond, ◌||◌}
 use mathlib.Core.Option.{Option, none, some}
@@ -16,7 +16,7 @@ use Rattle.maps.specs.Compare.{Rules, unmatched, matched, between, compare}
 use Rattle.image.specs.Schema.{Name, Marks, Ty, Field, Variant, Decl, Schema}
 use Rattle.image.specs.Kinds.{Kind, kindOf, message, enum, flags, union, newtype, config, alias, trait, impl, other}
 use Rattle.rules.specs.Survivors.{nameOf, ordinalOf, fieldMap, variantOrdinal, variantMap, View}
-use Rattle.rules.specs.Changes.{Bump, Change, only, kindCount, kindAt, FieldOrdinalChanged, VariantOrdinalChanged, FlagsBitOrdinalChanged}
+use Rattle.rules.specs.Changes.{Bump, Change, only, kindCount, kindAt, FieldOrdinalChanged, VariantOrdinalChanged, FlagsBitOrdinalChanged, WidthChanged}
 use Rattle.rules.specs.Clauses.{compareNamespaces, Reading, clausesBy, Context, context, compareTypes, compareFieldNames, compareEncodings, compareDeprecated, compareFields, fieldRules, compareFieldSets, compareMessages, variantGone, variantCame, enumRules, compareNonExhaustive, compareEnums, flagsRules, compareFlags, unionRules, compareUnions, compareNewtypes, compareKind, kindChanged, compareAlike, compareDecls, declRules, changes}
 use Rattle.rules.specs.Verdict.{countOf}
 use Rattle.rules.specs.Outcome.{Outcome, select}
@@ -60,150 +60,162 @@ module _ {C : Type 0} (P : C → Type 0) where
 
 -- ---- the clauses
 
--- the three kinds
-unfoldable pub ordinalChanged : ℕ → Bool
-ordinalChanged kind = eqb kind (kindAt FieldOrdinalChanged) || (eqb kind (kindAt VariantOrdinalChanged) || eqb kind (kindAt FlagsBitOrdinalChanged))
+-- the kinds that no clause reports: the three, and R-6's
+unfoldable pub outside : ℕ → Bool
+outside kind =
+    eqb kind (kindAt FieldOrdinalChanged) || (eqb kind (kindAt VariantOrdinalChanged) || (eqb kind (kindAt FlagsBitOrdinalChanged) || eqb kind (kindAt WidthChanged)))
 
-abbrev pub Other : Change → Type 0
-Other c = ordinalChanged c.kind ≡ false
+-- a change of another kind than j
+abbrev pub Other : ℕ → Change → Type 0
+Other j c = eqb c.kind j ≡ false
 
-only-other : (test : Bool) (c : Change) → Other c → All Other (only test c)
-unfolding only All
-only-other true c h = (h, tt)
-only-other false c h = tt
+module _ (j : ℕ) where
+  pub only-other : (test : Bool) (c : Change) → Other j c → All (Other j) (only test c)
+  unfolding only All
+  only-other true c h = (h, tt)
+  only-other false c h = tt
 
-single-other : (c : Change) → Other c → All Other (c ∷ [])
-unfolding All
-single-other c h = (h, tt)
-
-nothing-other : All Other []
-unfolding All
-nothing-other = tt
-
-deprecated-other : (d : Name) (field : Option Name) (target : List ℕ) (m n : Marks) → All Other (compareDeprecated d field target m n)
-unfolding compareDeprecated ordinalChanged
-deprecated-other d field target m n = only-other _ _ refl
-
-types-other : (r : Context) (d : Name) (field : Option Name) (what : List ℕ) (t u : Ty) → All Other (compareTypes r d field what t u)
-unfolding compareTypes ordinalChanged
-types-other r d field what t u = only-other _ _ refl
-
-fields-other : (r : Context) (d : Name) (f g : Field) → All Other (compareFields r d f g)
-unfolding compareFields compareFieldNames compareEncodings ordinalChanged
-fields-other r d f g =
-    all_append Other _ _ (only-other _ _ refl)
-    (all_append Other _ _ (types-other r d _ _ f.type g.type)
-    (all_append Other _ _ (only-other _ _ refl) (deprecated-other d _ _ f.marks g.marks)))
-
-sets-other : (r : Context) (d : Name) (m n : List Field) → All Other (compareFieldSets r d m n)
-unfolding compareFieldSets fieldRules ordinalChanged
-sets-other r d m n =
-    all-compare Other ordinalOf ltb (fieldRules r d) (λ f. single-other _ refl) (λ f. single-other _ refl) (fields-other r d) (fieldMap m)
-    (fieldMap n)
-
-variants-other : (r : Rules Variant Change) → ((v : Variant) → All Other (r.gone v)) → ((v : Variant) → All Other (r.came v))
-    → ((v w : Variant) → All Other (r.kept v w))
-    → (m n : List Variant) → All Other (compare variantOrdinal ltb r (variantMap m) (variantMap n))
-variants-other r gone came kept m n = all-compare Other variantOrdinal ltb r gone came kept (variantMap m) (variantMap n)
-
-gone-other : (d : Name) (v : Variant) → All Other (variantGone d v)
-unfolding variantGone ordinalChanged
-gone-other d v = single-other _ refl
-
-came-other : (b : Bump) (d : Name) (v : Variant) → All Other (variantCame b d v)
-unfolding variantCame ordinalChanged
-came-other b d v = single-other _ refl
+  pub nothing-other : All (Other j) []
+  unfolding All
+  nothing-other = tt
 
 -- no such change is reported besides
-pub record Ordinary (r : Reading) : Type 0 where
-  pub first : (x y : Decl) → All Other (r.first x y)
-  pub last : (x y : Decl) → All Other (r.last x y)
-  pub lastIn : (d : Name) (v w : Variant) → All Other (r.lastIn d v w)
+pub record Ordinary (j : ℕ) (r : Reading) : Type 0 where
+  pub first : (x y : Decl) → All (Other j) (r.first x y)
+  pub last : (x y : Decl) → All (Other j) (r.last x y)
+  pub lastIn : (d : Name) (v w : Variant) → All (Other j) (r.lastIn d v w)
 
-pub clauses-ordinary : (same : Ty → Ty → Bool) → Ordinary (clausesBy same)
-clauses-ordinary same = record { first = λ x y. nothing-other; last = λ x y. nothing-other; lastIn = λ d v w. nothing-other }
+pub clauses-ordinary : (same : Ty → Ty → Bool) (j : ℕ) → Ordinary j (clausesBy same)
+clauses-ordinary same j = record { first = λ x y. nothing-other j; last = λ x y. nothing-other j; lastIn = λ d v w. nothing-other j }
 
-module _ (r : Context) (o : Ordinary r.reading) where
-  kinds-other : (k : Kind) (x y : Decl) → All Other (compareKind k r x y)
-  unfolding compareKind compareMessages compareEnums enumRules compareNonExhaustive compareFlags flagsRules compareUnions unionRules compareNewtypes ordinalChanged
-  kinds-other message x y =
-      all_append Other _ _ (sets-other r x.name x.fields y.fields) (deprecated-other x.name _ _ x.marks y.marks)
-  kinds-other enum x y =
-      all_append Other _ _ (only-other _ _ refl)
-      (variants-other (enumRules x.name y.marks) (gone-other x.name) (came-other _ x.name) (λ v w. nothing-other) x.variants
-      y.variants)
-  kinds-other flags x y =
-      variants-other (flagsRules x.name) (λ v. single-other _ refl) (λ v. single-other _ refl) (λ v w. nothing-other) x.variants
-      y.variants
-  kinds-other union x y =
-      variants-other (unionRules r x.name) (gone-other x.name) (came-other _ x.name) (λ v w. all_append Other _ _ (sets-other r _ v.fields w.fields) (o.lastIn _ v w))
-      x.variants y.variants
-  kinds-other newtype x y = types-other r x.name none _ x.inner y.inner
-  kinds-other config x y = nothing-other
-  kinds-other alias x y = nothing-other
-  kinds-other trait x y = nothing-other
-  kinds-other impl x y = nothing-other
-  kinds-other other x y = nothing-other
-
-  decls-other : (x y : Decl) → All Other (compareDecls r x y)
-  unfolding compareDecls compareAlike kindChanged ordinalChanged
-  decls-other x y = go (eqb x.kind y.kind)
+module _ (j : ℕ) (out : outside j ≡ true) where
+  -- a kind that is not among them is another
+  apart : (k : ℕ) → outside k ≡ false → eqb k j ≡ false
+  apart k e = go (eqb k j) refl
     where
-      go : (u : Bool) → All Other (cond u (compareAlike r x y) (kindChanged x y))
-      go true = all_append Other _ _ (o.first x y) (all_append Other _ _ (kinds-other (kindOf x.kind) x y) (o.last x y))
-      go false = single-other _ refl
+      go : (b : Bool) → eqb k j ≡ b → b ≡ false
+      go true p = no_both out (rw (eqb-true k j p) at e)
+      go false p = refl
 
-changes-other : (r : Reading) → Ordinary r → (x y : View) → All Other (changes r x y)
-unfolding changes compareNamespaces declRules ordinalChanged
-changes-other r o x y =
-    all_append Other _ _ (only-other _ _ refl)
-    (all-compare Other nameOf before (declRules (context r x.registry y.registry))
-    (λ d. single-other _ refl) (λ d. single-other _ refl) (decls-other (context r x.registry y.registry) o) x.standing
-    y.standing)
+  test-other : (test : Bool) (c : Change) → outside c.kind ≡ false → All (Other j) (only test c)
+  test-other test c e = only-other j test c (apart c.kind e)
 
--- ---- the counts
+  one-other : (c : Change) → outside c.kind ≡ false → All (Other j) (c ∷ [])
+  unfolding All
+  one-other c e = (apart c.kind e, tt)
 
-none-counted : (kind : ℕ) → ordinalChanged kind ≡ true → (cs : List Change) → All Other cs → countOf kind cs ≡ 0
-unfolding countOf count total All
-none-counted kind e [] h = refl
-none-counted kind e (c ∷ cs) h = go (eqb c.kind kind) refl (none-counted kind e cs h.1)
-  where
-    go : (u : Bool) → eqb c.kind kind ≡ u → total (λ c. cond (eqb c.kind kind) 1 0) cs ≡ 0
-        → cond u 1 0 + total (λ c. cond (eqb c.kind kind) 1 0) cs ≡ 0
-    go true p ih = no_both e (rw (eqb-true c.kind kind p) at h.0)
-    go false p ih = omega (arith, ih)
+  deprecated-other : (d : Name) (field : Option Name) (target : List ℕ) (m n : Marks) → All (Other j) (compareDeprecated d field target m n)
+  unfolding compareDeprecated outside
+  deprecated-other d field target m n = test-other _ _ refl
 
--- of any verdict
-module _ (p : Policy) (o : Ordinary p.reading) (old new : List ℕ) where
-  none-selected : (kind : ℕ) → kind < kindCount → ordinalChanged kind ≡ true → verdictBy p old new (5 + kind) ≡ 0
-  unfolding verdictBy
-  none-selected kind l e = go (decided p old new)
+  types-other : (r : Context) (d : Name) (field : Option Name) (what : List ℕ) (t u : Ty) → All (Other j) (compareTypes r d field what t u)
+  unfolding compareTypes outside
+  types-other r d field what t u = test-other _ _ refl
+
+  fields-other : (r : Context) (d : Name) (f g : Field) → All (Other j) (compareFields r d f g)
+  unfolding compareFields compareFieldNames compareEncodings outside
+  fields-other r d f g =
+      all_append (Other j) _ _ (test-other _ _ refl)
+      (all_append (Other j) _ _ (types-other r d _ _ f.type g.type)
+      (all_append (Other j) _ _ (test-other _ _ refl) (deprecated-other d _ _ f.marks g.marks)))
+
+  sets-other : (r : Context) (d : Name) (m n : List Field) → All (Other j) (compareFieldSets r d m n)
+  unfolding compareFieldSets fieldRules outside
+  sets-other r d m n =
+      all-compare (Other j) ordinalOf ltb (fieldRules r d) (λ f. one-other _ refl) (λ f. one-other _ refl) (fields-other r d) (fieldMap m)
+      (fieldMap n)
+
+  variants-other : (r : Rules Variant Change) → ((v : Variant) → All (Other j) (r.gone v)) → ((v : Variant) → All (Other j) (r.came v))
+      → ((v w : Variant) → All (Other j) (r.kept v w))
+      → (m n : List Variant) → All (Other j) (compare variantOrdinal ltb r (variantMap m) (variantMap n))
+  variants-other r gone came kept m n = all-compare (Other j) variantOrdinal ltb r gone came kept (variantMap m) (variantMap n)
+
+  gone-other : (d : Name) (v : Variant) → All (Other j) (variantGone d v)
+  unfolding variantGone outside
+  gone-other d v = one-other _ refl
+
+  came-other : (b : Bump) (d : Name) (v : Variant) → All (Other j) (variantCame b d v)
+  unfolding variantCame outside
+  came-other b d v = one-other _ refl
+
+  module _ (r : Context) (o : Ordinary j r.reading) where
+    kinds-other : (k : Kind) (x y : Decl) → All (Other j) (compareKind k r x y)
+    unfolding compareKind compareMessages compareEnums enumRules compareNonExhaustive compareFlags flagsRules compareUnions unionRules compareNewtypes outside
+    kinds-other message x y =
+        all_append (Other j) _ _ (sets-other r x.name x.fields y.fields) (deprecated-other x.name _ _ x.marks y.marks)
+    kinds-other enum x y =
+        all_append (Other j) _ _ (test-other _ _ refl)
+        (variants-other (enumRules x.name y.marks) (gone-other x.name) (came-other _ x.name) (λ v w. nothing-other j) x.variants
+        y.variants)
+    kinds-other flags x y =
+        variants-other (flagsRules x.name) (λ v. one-other _ refl) (λ v. one-other _ refl) (λ v w. nothing-other j) x.variants
+        y.variants
+    kinds-other union x y =
+        variants-other (unionRules r x.name) (gone-other x.name) (came-other _ x.name) (λ v w. all_append (Other j) _ _ (sets-other r _ v.fields w.fields) (o.lastIn _ v w))
+        x.variants y.variants
+    kinds-other newtype x y = types-other r x.name none _ x.inner y.inner
+    kinds-other config x y = nothing-other j
+    kinds-other alias x y = nothing-other j
+    kinds-other trait x y = nothing-other j
+    kinds-other impl x y = nothing-other j
+    kinds-other other x y = nothing-other j
+
+    decls-other : (x y : Decl) → All (Other j) (compareDecls r x y)
+    unfolding compareDecls compareAlike kindChanged outside
+    decls-other x y = go (eqb x.kind y.kind)
+      where
+        go : (u : Bool) → All (Other j) (cond u (compareAlike r x y) (kindChanged x y))
+        go true = all_append (Other j) _ _ (o.first x y) (all_append (Other j) _ _ (kinds-other (kindOf x.kind) x y) (o.last x y))
+        go false = one-other _ refl
+
+  changes-other : (r : Reading) → Ordinary j r → (x y : View) → All (Other j) (changes r x y)
+  unfolding changes compareNamespaces declRules outside
+  changes-other r o x y =
+      all_append (Other j) _ _ (test-other _ _ refl)
+      (all-compare (Other j) nameOf before (declRules (context r x.registry y.registry))
+      (λ d. one-other _ refl) (λ d. one-other _ refl) (decls-other (context r x.registry y.registry) o) x.standing
+      y.standing)
+
+  -- ---- the counts
+
+  none-counted : (cs : List Change) → All (Other j) cs → countOf j cs ≡ 0
+  unfolding countOf count total All
+  none-counted [] h = refl
+  none-counted (c ∷ cs) h = rw h.0 (omega (arith, none-counted cs h.1))
+
+  -- of any verdict
+  pub none-selected : j < kindCount → (p : Policy) → Ordinary j p.reading → (old new : List ℕ) → countBetween (verdictBy p) j old new ≡ 0
+  unfolding countBetween verdictBy
+  none-selected l p o old new = go (decided p old new)
     where
-      go : {u : Outcome} → Decided p old new u → select u (5 + kind) ≡ 0
-      go (oldRefused l q) = (refusal_is _ _).rest (5 + kind) (omega arith)
-      go (oldAlone q i) = (refusal_is _ _).rest (5 + kind) (omega arith)
-      go (newRefused a l q) = (refusal_is _ _).rest (5 + kind) (omega arith)
-      go (newAlone a q i) = (refusal_is _ _).rest (5 + kind) (omega arith)
-      go (pairRefused a b i) = (refusal_is _ _).rest (5 + kind) (omega arith)
+      go : {u : Outcome} → Decided p old new u → select u (5 + j) ≡ 0
+      go (oldRefused l q) = (refusal_is _ _).rest (5 + j) (omega arith)
+      go (oldAlone q i) = (refusal_is _ _).rest (5 + j) (omega arith)
+      go (newRefused a l q) = (refusal_is _ _).rest (5 + j) (omega arith)
+      go (newAlone a q i) = (refusal_is _ _).rest (5 + j) (omega arith)
+      go (pairRefused a b i) = (refusal_is _ _).rest (5 + j) (omega arith)
       go (verdict {x = x} {y = y} a b i) =
-          count-selected kind l (changes p.reading (p.view x) (p.view y))
-          ∙ none-counted kind e _ (changes-other p.reading o (p.view x) (p.view y))
+          count-selected j l (changes p.reading (p.view x) (p.view y)) ∙ none-counted _ (changes-other p.reading o (p.view x) (p.view y))
 
-  pub none-ordinal : All (λ kind. countBetween (verdictBy p) kind old new ≡ 0)
-      ((kindAt FieldOrdinalChanged) ∷ kindAt VariantOrdinalChanged ∷ kindAt FlagsBitOrdinalChanged ∷ [])
-  unfolding All countBetween ordinalChanged
-  none-ordinal = (
-    none-selected (kindAt FieldOrdinalChanged)
-        (omega arith) refl,
-    (
-      none-selected (kindAt VariantOrdinalChanged)
-          (omega arith) refl,
-      (none-selected (kindAt FlagsBitOrdinalChanged) (omega arith) refl, tt),
-    ),
-  )
+-- the three
+abbrev pub ordinalKinds : List ℕ
+ordinalKinds = (kindAt FieldOrdinalChanged) ∷ kindAt VariantOrdinalChanged ∷ kindAt FlagsBitOrdinalChanged ∷ []
 
--- and so of one that reports the clauses alone, over any view and however types are read
-pub no-ordinal-changed : (view : Schema → View) (same : Ty → Ty → Bool) (old new : List ℕ)
-    → All (λ kind. countBetween (verdictBy (usual view (clausesBy same))) kind old new ≡ 0)
-    ((kindAt FieldOrdinalChanged) ∷ kindAt VariantOrdinalChanged ∷ kindAt FlagsBitOrdinalChanged ∷ [])
-no-ordinal-changed view same old new = none-ordinal (usual view (clausesBy same)) (clauses-ordinary same) old new
+-- of any verdict that reports none of them besides
+pub no-ordinal-changed : (p : Policy) → All (λ j. Ordinary j p.reading) ordinalKinds → (old new : List ℕ)
+    → All (λ kind. countBetween (verdictBy p) kind old new ≡ 0) ordinalKinds
+unfolding All outside
+no-ordinal-changed p o old new = (
+  none-selected (kindAt FieldOrdinalChanged) refl (omega arith) p o.0 old new,
+  (
+    none-selected (kindAt VariantOrdinalChanged) refl (omega arith) p o.1.0 old new,
+    (none-selected (kindAt FlagsBitOrdinalChanged) refl (omega arith) p o.1.1.0 old new, tt),
+  ),
+)
+
+-- "always 0 in the earlier verdicts", which report the clauses alone, over any view and however types are read
+pub no-width-changed : (view : Schema → View) (same : Ty → Ty → Bool) (old new : List ℕ)
+    → countBetween (verdictBy (usual view (clausesBy same))) (kindAt WidthChanged) old new ≡ 0
+unfolding outside
+no-width-changed view same old new =
+    none-selected (kindAt WidthChanged) refl (omega arith) (usual view (clausesBy same)) (clauses-ordinary same (kindAt WidthChanged)) old new

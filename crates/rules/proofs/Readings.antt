@@ -42,7 +42,7 @@ pub record Lawful (r : Reading) (odd : Ty → Bool) : Type 0 where
   pub last : Besides OneKind (λ d. r.last)
   pub lastIn : Besides AnyTwo r.lastIn
 
-nothing-besides : {E : Type 0} {Go : E → E → Type 0} → Besides Go (λ d x y. [])
+pub nothing-besides : {E : Type 0} {Go : E → E → Type 0} → Besides Go (λ d x y. [])
 unfolding largest countOf count total
 nothing-besides = record { chained = λ b c d e x y z p q. chained-small (omega arith); self = λ d x. refl; swap = λ j o d e x y p. refl }
 

@@ -41,7 +41,7 @@ alone n = omega arith
 
 -- ---- a test of a thing against itself
 
-test-self : {A : Type 0} {same : A → A → Bool} {odd : A → Bool} → Sound same odd → (a : A) (c : Change)
+pub test-self : {A : Type 0} {same : A → A → Bool} {odd : A → Bool} → Sound same odd → (a : A) (c : Change)
     → largest levelOf (only (not (same a a)) c) ≡ cond (odd a) (levelOf c) 0
 unfolding only largest
 test-self {odd = odd} S a c = rw (S.self a) (go (odd a))

@@ -49,7 +49,7 @@ module _ (j : ℕ) where
   unfolding countOf count total
   single-swap c d m = rw (mirror-test c.kind j, m)
 
-  test-swap : {A : Type 0} {same : A → A → Bool} {odd : A → Bool} → Sound same odd → (x y : A) (c d : Change) → mirror c.kind ≡ d.kind
+  pub test-swap : {A : Type 0} {same : A → A → Bool} {odd : A → Bool} → Sound same odd → (x y : A) (c d : Change) → mirror c.kind ≡ d.kind
       → Opposed (only (not (same x y)) c) (only (not (same y x)) d)
   unfolding only countOf count total
   test-swap {same = same} S x y c d m = rw (same-sym S y x) (go (same x y))

@@ -14,14 +14,15 @@ use Rattle.rules.specs.Answer.{plainReading}
 unfoldable pub told : Schema → Schema → List ℕ
 told old new = report (changes plainReading (viewOf old) (viewOf new))
 
--- no namespace; entry 0 is declared, under the name A; a second entry may follow it
+-- of format 2, which the mended verdict asks for and the others ignore; no namespace; entry 0 is declared, under the name A; a second entry
+-- may follow it
 abbrev pub schema : Decl → List (Option Decl) → Schema
-schema d more = record { registry = some d ∷ more; ids = 0 ∷ []; namespace = [] }
+schema d more = record { format = 2; registry = some d ∷ more; ids = 0 ∷ []; namespace = [] }
 
 -- ---- newtypes
 
 abbrev pub newtype : Ty → List (Option Decl) → Schema
-newtype t more = schema (decl (number newtypeKind) (bytes "A") unmarked [] [] t) more
+newtype t more = schema (decl (number newtypeKind) (bytes "A") unmarked none [] [] t) more
 
 abbrev pub primitive : ℕ → Ty
 primitive code = leaf (label (number primitiveTag) code 0 [])
@@ -45,7 +46,7 @@ abbrev pub f32 : Ty
 f32 = primitive 9
 
 abbrev pub impl : Decl
-impl = decl (number implKind) [] unmarked [] [] noType
+impl = decl (number implKind) [] unmarked none [] [] noType
 
 -- ---- messages, enums, unions
 
@@ -54,7 +55,7 @@ field ordinal name marks limit t =
     record { ordinal = ordinal; name = bytes name; marks = marks; encoding = record { deltas = 0; base = 0 }; limit = limit; type = t }
 
 abbrev pub message : List Field → Schema
-message fs = schema (decl (number messageKind) (bytes "A") unmarked fs [] noType) []
+message fs = schema (decl (number messageKind) (bytes "A") unmarked none fs [] noType) []
 
 abbrev pub deprecated : Marks
 deprecated = record { deprecated = true; nonExhaustive = false }
@@ -65,11 +66,15 @@ nonExhaustive = record { deprecated = false; nonExhaustive = true }
 abbrev pub variant : ℕ → String → Variant
 variant ordinal name = record { ordinal = ordinal; name = bytes name; fields = [] }
 
+-- with a width in wire bits
+abbrev pub enumOf : ℕ → Marks → List Variant → Schema
+enumOf width marks vs = schema (decl (number enumKind) (bytes "A") marks (some width) [] vs noType) []
+
 abbrev pub enum : Marks → List Variant → Schema
-enum marks vs = schema (decl (number enumKind) (bytes "A") marks [] vs noType) []
+enum marks vs = enumOf 8 marks vs
 
 abbrev pub union : List Variant → Schema
-union vs = schema (decl (number unionKind) (bytes "A") unmarked [] vs noType) []
+union vs = schema (decl (number unionKind) (bytes "A") unmarked none [] vs noType) []
 
 -- ---- "Held of the clauses as one proved group"
 

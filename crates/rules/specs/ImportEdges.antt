@@ -21,10 +21,10 @@ told p old new = written (comparePair p old new) []
 
 -- a newtype of a name, and a generic alias
 abbrev pub entry : String → Ty → Option Decl
-entry name t = some (decl (number newtypeKind) (bytes name) unmarked [] [] t)
+entry name t = some (decl (number newtypeKind) (bytes name) unmarked none [] [] t)
 
 abbrev pub alias : String → Option Decl
-alias name = some (decl (number aliasKind) (bytes name) unmarked [] [] noType)
+alias name = some (decl (number aliasKind) (bytes name) unmarked none [] [] noType)
 
 -- A names entry 1; the entries from 1 on
 abbrev pub naming : List (Option Decl) → Schema
@@ -32,10 +32,10 @@ naming more = newtype (named 1) more
 
 -- further entries, and further ids in the list
 abbrev pub holding : Schema → List (Option Decl) → Schema
-holding s more = record { registry = s.registry ++ more; ids = s.ids; namespace = s.namespace }
+holding s more = record { format = s.format; registry = s.registry ++ more; ids = s.ids; namespace = s.namespace }
 
 abbrev pub listing : Schema → List ℕ → Schema
-listing s more = record { registry = s.registry; ids = s.ids ++ more; namespace = s.namespace }
+listing s more = record { format = s.format; registry = s.registry; ids = s.ids ++ more; namespace = s.namespace }
 
 abbrev pub optional : Ty → Ty
 optional t = around (number optionalTag) t
@@ -76,7 +76,7 @@ seen = bytes "FieldTypeChanged;Major;B;-;newtype 'B' inner type changed from u8 
 
 -- an entry is a newtype of the next; and so many entries from an id on
 abbrev pub link : ℕ → Decl
-link id = decl (number newtypeKind) (bytes "A" ++ decimal id) unmarked [] [] (named (suc id))
+link id = decl (number newtypeKind) (bytes "A" ++ decimal id) unmarked none [] [] (named (suc id))
 
 unfoldable pub links : ℕ → ℕ → List (Option Decl)
 links from zero = []
@@ -84,7 +84,7 @@ links from (suc n) = some (link from) ∷ links (suc from) n
 
 -- entries 0 to n, of which 0 is listed; what n names is unresolvable
 unfoldable pub chain : ℕ → Schema
-chain n = record { registry = links 0 (suc n); ids = 0 ∷ []; namespace = [] }
+chain n = record { format = 2; registry = links 0 (suc n); ids = 0 ∷ []; namespace = [] }
 
 pub record ImportEdges : Type 0 where
   -- what is imported has changed
