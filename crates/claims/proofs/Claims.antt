@@ -1,56 +1,65 @@
 -- The claims hold: each is proved in the crate that it is about. Assumes nothing.
-use mathlib.Core.Bool.{Bool}
-use Rattle.maps.specs.Orders.{before}
-use Rattle.maps.specs.Walk.{Rising}
-use Rattle.image.specs.Schema.{Ty, Schema}
+use mathlib.Core.Path.{◌≡◌}
+use Rattle.maps.specs.Lists.{All}
+use Rattle.image.specs.Schema.{Schema}
 use Rattle.refusals.proofs.Refusals.{only-ten, exactly-if}
 use Rattle.written.proofs.Accepted.{accepted-exactly}
-use Rattle.rules.specs.Survivors.{nameOf, View, viewOf}
+use Rattle.rules.specs.Survivors.{viewOf}
 use Rattle.rules.specs.Types.{sameType}
-use Rattle.rules.specs.Clauses.{clausesBy}
-use Rattle.rules.specs.Answer.{usual}
-use Rattle.rules.specs.Imports.{importsView}
-use Rattle.rules.specs.Mended.{mendedType}
-use Rattle.rules.proofs.Answer.{usual-numbered}
+use Rattle.rules.specs.Clauses.{changes}
+use Rattle.rules.specs.Answer.{Policy, compared, outcome, plainReading, plain}
+use Rattle.rules.specs.Refusals.{Numbered, AcceptedPair}
+use Rattle.rules.specs.Distance.{Image}
+use Rattle.rules.specs.Imports.{importsView, imports}
+use Rattle.rules.specs.Mended.{mended}
+use Rattle.rules.proofs.Answer.{plain-numbered}
 use Rattle.rules.proofs.Refusals.{policy-refusals, report-refusals, clauses-told, verdict-refusals}
 use Rattle.rules.proofs.Bound.{Bounded, selector-bound, plain-bounded}
-use Rattle.rules.proofs.Ordinals.{no-ordinal-changed}
+use Rattle.rules.proofs.Ordinals.{Ordinary, clauses-ordinary, ordinalKinds, no-ordinal-changed, no-width-changed}
 use Rattle.rules.proofs.Calls.{room-enough, same_text, rest-stays}
 use Rattle.rules.proofs.Edges.{edges}
 use Rattle.rules.proofs.Pinned.{pinned}
 use Rattle.rules.proofs.Distance.{distance-rule}
 use Rattle.rules.proofs.Reached.{reached-is}
 use Rattle.rules.proofs.Standing.{view-rises}
-use Rattle.rules.proofs.Imports.{imports-rise, imported-holds, imports-bounded, imports-distance-rule}
+use Rattle.rules.proofs.Imports.{imports-rise, imported-holds, imports-numbered, imports-bounded, imports-refusals, imports-distance-rule}
 use Rattle.rules.proofs.ImportEdges.{import-edges}
 use Rattle.rules.proofs.PinnedImports.{pinned-imports}
-use Rattle.rules.proofs.Mended.{three-answers, mended-bounded, otherwise, mended-distance-rule}
+use Rattle.rules.proofs.Ignored.{earlier-ignore}
+use Rattle.rules.proofs.Mended.{three-answers, mended-bounded, mended-ordinary, otherwise, mended-distance-rule}
+use Rattle.rules.proofs.MendedRefusals.{mended-numbered, mended-told, mended-refusals}
 use Rattle.rules.proofs.MendedEdges.{mended-edges}
 use Rattle.rules.proofs.PinnedMended.{pinned-mended}
 use Rattle.listing.proofs.Refusals.{listing-refusals}
 use Rattle.refiling.proofs.FilingOrder.{filing-order}
 use Rattle.refiling.proofs.Relation.{refilings}
-use Rattle.claims.specs.Claims.{RefusingTwo, ComparingTwo, Refusing, Comparing, Importing, Mending, Claims}
+use Rattle.claims.specs.Claims.{RefusingTwo, ComparingTwo, Refusing, Comparing, Importing, Mending, Widening, Claims}
 
--- ---- of two images, over any rising view, however types are read
+-- ---- of two images, by any verdict
 
-module _ (view : Schema → View) (rise : (s : Schema) → Rising nameOf before (view s).standing) (same : Ty → Ty → Bool) where
-  refusing-two : Bounded (usual view (clausesBy same)) → RefusingTwo view same
-  refusing-two bounded = record {
-    stages = policy-refusals (usual view (clausesBy same)) (usual-numbered view (clausesBy same));
-    verdict = verdict-refusals view rise (clausesBy same);
-    report = report-refusals (usual view (clausesBy same)) (usual-numbered view (clausesBy same));
-    values = selector-bound (usual view (clausesBy same)) bounded;
+module _ (p : Policy) (numbered : Numbered p) where
+  refusing-two : {Numbers : Image → Image → Type 0} → Bounded p → ((old new : Image) → Numbers old new) → RefusingTwo p Numbers
+  refusing-two bounded numbers = record {
+    stages = policy-refusals p numbered;
+    verdict = numbers;
+    report = report-refusals p numbered;
+    values = selector-bound p bounded;
   }
 
-  comparing-two : ComparingTwo view same
-  comparing-two = record {
-    clauses = clauses-told view rise (clausesBy same);
-    ordinals = no-ordinal-changed view same;
-    roomEnough = room-enough (usual view (clausesBy same)) (usual-numbered view (clausesBy same));
-    sameText = same_text (usual view (clausesBy same)) (usual-numbered view (clausesBy same));
-    restStays = rest-stays (usual view (clausesBy same)) (usual-numbered view (clausesBy same));
+  comparing-two : {Get : Schema → Schema → Type 0} → All (λ j. Ordinary j p.reading) ordinalKinds
+      → ((old new : Image) (a : AcceptedPair old new Get) → outcome p old new ≡ compared (changes p.reading (p.view a.oldSchema) (p.view a.newSchema)))
+      → ComparingTwo p Get
+  comparing-two ordinary told = record {
+    clauses = told;
+    ordinals = no-ordinal-changed p ordinary;
+    roomEnough = room-enough p numbered;
+    sameText = same_text p numbered;
+    restStays = rest-stays p numbered;
   }
+
+plain-ordinary : All (λ j. Ordinary j plainReading) ordinalKinds
+unfolding All
+plain-ordinary = (clauses-ordinary sameType _, (clauses-ordinary sameType _, (clauses-ordinary sameType _, tt)))
 
 -- ---- the demands
 
@@ -59,19 +68,23 @@ refusing = record {
   accepted = accepted-exactly;
   ten = only-ten;
   five = exactly-if;
-  two = refusing-two viewOf view-rises sameType plain-bounded;
+  two = refusing-two plain plain-numbered plain-bounded (verdict-refusals viewOf view-rises plainReading);
   listing = listing-refusals;
 }
 
 comparing : Comparing
-comparing = record { two = comparing-two viewOf view-rises sameType; edges = edges; pinned = pinned }
+comparing = record {
+  two = comparing-two plain plain-numbered plain-ordinary (clauses-told viewOf view-rises plainReading);
+  edges = edges;
+  pinned = pinned;
+}
 
 importing : Importing
 importing = record {
   reached = reached-is;
   imported = imported-holds;
-  refusing = refusing-two importsView imports-rise sameType imports-bounded;
-  comparing = comparing-two importsView imports-rise sameType;
+  refusing = refusing-two imports imports-numbered imports-bounded imports-refusals;
+  comparing = comparing-two imports imports-numbered plain-ordinary (clauses-told importsView imports-rise plainReading);
   distance = imports-distance-rule;
   edges = import-edges;
   pinned = pinned-imports;
@@ -80,13 +93,16 @@ importing = record {
 mending : Mending
 mending = record {
   answers = three-answers;
-  refusing = refusing-two viewOf view-rises mendedType mended-bounded;
-  comparing = comparing-two viewOf view-rises mendedType;
+  refusing = refusing-two mended mended-numbered mended-bounded mended-refusals;
+  comparing = comparing-two mended mended-numbered mended-ordinary mended-told;
   otherwise = otherwise;
   distance = mended-distance-rule;
   edges = mended-edges;
   pinned = pinned-mended;
 }
+
+widening : Widening
+widening = record { ignored = earlier-ignore; plainCount = no-width-changed viewOf sameType; importsCount = no-width-changed importsView sameType }
 
 pub claims : Claims
 claims = record {
@@ -95,6 +111,7 @@ claims = record {
   distance = distance-rule;
   importing = importing;
   mending = mending;
+  widening = widening;
   filing = filing-order;
   filings = refilings;
 }

@@ -14,46 +14,43 @@ use Rattle.image.specs.Image.{readImage}
 use Rattle.refusals.specs.Refusals.{ExactlyIf}
 use Rattle.written.specs.Limits.{Each, Byte, Within}
 use Rattle.written.specs.Writer.{write}
-use Rattle.rules.specs.Survivors.{View, viewOf}
-use Rattle.rules.specs.Changes.{kindAt, FieldOrdinalChanged, VariantOrdinalChanged, FlagsBitOrdinalChanged}
-use Rattle.rules.specs.Types.{sameType}
-use Rattle.rules.specs.Clauses.{clausesBy, changes}
-use Rattle.rules.specs.Answer.{Policy, compared, outcome, verdictBy, returnedBy, leavesBy, usual}
+use Rattle.rules.specs.Survivors.{viewOf}
+use Rattle.rules.specs.Changes.{kindAt, FieldOrdinalChanged, VariantOrdinalChanged, FlagsBitOrdinalChanged, WidthChanged}
+use Rattle.rules.specs.Clauses.{changes}
+use Rattle.rules.specs.Answer.{Policy, compared, outcome, verdictBy, returnedBy, leavesBy, plainReading, plain}
 use Rattle.rules.specs.Refusals.{AcceptedPair, AliasPair, PolicyRefusals, ReportRefusals, VerdictRefusals}
 use Rattle.rules.specs.Distance.{Image, holdsVectors, countBetween, DistanceRule}
 use Rattle.rules.specs.Edges.{Edges}
 use Rattle.rules.specs.Pinned.{Pinned}
 use Rattle.rules.specs.Reached.{ReachedIs}
-use Rattle.rules.specs.Imports.{importsView, Imported}
+use Rattle.rules.specs.Imports.{importsView, imports, Imported}
 use Rattle.rules.specs.ImportEdges.{ImportEdges}
 use Rattle.rules.specs.PinnedImports.{PinnedImports}
-use Rattle.rules.specs.Mended.{ThreeAnswers, mendedType, mended, Otherwise}
+use Rattle.rules.specs.Mended.{ThreeAnswers, mended, Otherwise}
+use Rattle.rules.specs.MendedRefusals.{Mixed, MendedRefusals}
+use Rattle.rules.specs.Ignored.{EarlierIgnore}
 use Rattle.rules.specs.MendedEdges.{MendedEdges}
 use Rattle.rules.specs.PinnedMended.{PinnedMended}
 use Rattle.listing.specs.Refusals.{ListingRefusals}
 use Rattle.refiling.specs.Refiling.{Refilings, FilingOrder}
 
--- ---- of a verdict on two images by the clauses of 01, over what stands, `viewOf` the survivors, `importsView` also what is reached; and by
--- how types are read, `sameType` as 01 says, `mendedType` mended
+-- ---- of a verdict on two images, by what it is made of: `plain` is that of 01, `imports` the one with imports, `mended` the mended one
 
-module _ (view : Schema → View) (same : Ty → Ty → Bool) where
-  abbrev policy : Policy
-  policy = usual view (clausesBy same)
-
-  -- demand 1
-  pub record RefusingTwo : Type 0 where
-    -- when each number is given, with which side, what a refusal is, and that it leaves the buffer as it was
+module _ (policy : Policy) where
+  -- demand 1, where `Numbers` says when each number is given and with which side
+  pub record RefusingTwo (Numbers : Image → Image → Type 0) : Type 0 where
+    -- by which stage two images are decided, what a refusal is, and that it leaves the buffer as it was
     pub stages : (old new : Image) → PolicyRefusals policy old new
-    pub verdict : (old new : Image) → VerdictRefusals view (clausesBy same) old new
+    pub verdict : (old new : Image) → Numbers old new
     pub report : (old new : Image) (room : ℕ) → ReportRefusals policy old new room
     -- no value that is told is cut off
     pub values : (old new : Image) (selector : ℕ) → verdictBy policy old new selector < 2 ^ 62
 
-  -- demand 2
-  pub record ComparingTwo : Type 0 where
+  -- demand 2, where two accepted images get a verdict if `Get` holds of what they hold
+  pub record ComparingTwo (Get : Schema → Schema → Type 0) : Type 0 where
     -- all that is told of two images that get a verdict is made of the changes of the clauses
-    pub clauses : (old new : Image) (a : AcceptedPair old new (λ x y. AliasPair view x y → ⊥))
-        → outcome policy old new ≡ compared (changes (clausesBy same) (view a.oldSchema) (view a.newSchema))
+    pub clauses : (old new : Image) (a : AcceptedPair old new Get)
+        → outcome policy old new ≡ compared (changes policy.reading (policy.view a.oldSchema) (policy.view a.newSchema))
     -- "The three `..OrdinalChanged` counts are 0."
     pub ordinals : (old new : Image)
         → All (λ kind. countBetween (verdictBy policy) kind old new ≡ 0) ((kindAt FieldOrdinalChanged) ∷ kindAt VariantOrdinalChanged ∷ kindAt FlagsBitOrdinalChanged ∷ [])
@@ -63,9 +60,9 @@ module _ (view : Schema → View) (same : Ty → Ty → Bool) where
         → take (returnedBy policy old new out) (leavesBy policy old new out) ≡ take (returnedBy policy old new out') (leavesBy policy old new out')
     pub restStays : (old new out : Image) → drop (returnedBy policy old new out) (leavesBy policy old new out) ≡ drop (returnedBy policy old new out) out
 
--- demand 3, as 01 reads types: chain, self and swap
-abbrev pub Distances : (Schema → View) → Type 0
-Distances view = DistanceRule (verdictBy (policy view sameType)) (holdsVectors view)
+  -- demand 3, as 01 reads types: chain, self and swap
+  abbrev Distances : Type 0
+  Distances = DistanceRule (verdictBy policy) (holdsVectors policy.view)
 
 -- ---- the demands
 
@@ -76,13 +73,13 @@ pub record Refusing : Type 0 where
   pub accepted : (s : Image) → Each Byte s → (x : Schema) (n : ℕ) → (readImage s ≡ ok x n) ↔ (Within x × (s ≡ write x) × (n ≡ length s))
   pub ten : (s : Image) (k : ℕ) → readImage s ≡ no k → (1 ≤ k) × (k ≤ 10)
   pub five : (s : Image) → ExactlyIf s
-  pub two : RefusingTwo viewOf sameType
+  pub two : RefusingTwo plain (VerdictRefusals viewOf plainReading)
   -- and of the listing of one
   pub listing : (image : Image) (room : ℕ) → ListingRefusals image room
 
 -- Demand 2: "For every pair of images that 01 accepts, the changes, result and bump .. are proved equal to the clauses as 01 writes them."
 pub record Comparing : Type 0 where
-  pub two : ComparingTwo viewOf sameType
+  pub two : ComparingTwo plain (λ x y. ¬ AliasPair viewOf x y)
   -- the edges of 01, and what the Rust answered on whole pairs, by computation
   pub edges : Edges
   pub pinned : Pinned
@@ -95,10 +92,10 @@ pub record Importing : Type 0 where
   -- verdict is that of 01
   pub imported : Imported
   -- "A second verdict, with a report": the demands hold of it, over what stands then
-  pub refusing : RefusingTwo importsView sameType
-  pub comparing : ComparingTwo importsView sameType
+  pub refusing : RefusingTwo imports (VerdictRefusals importsView plainReading)
+  pub comparing : ComparingTwo imports (λ x y. ¬ AliasPair importsView x y)
   -- "the distance rule covers it as well, its compared types being those of all entries that stand"
-  pub distance : Distances importsView
+  pub distance : Distances imports
   -- its edges, and pairs of images on which it and the verdict of 01 differ, by computation
   pub edges : ImportEdges
   pub pinned : PinnedImports
@@ -107,10 +104,11 @@ pub record Importing : Type 0 where
 pub record Mending : Type 0 where
   -- when each answer is given, and that the verdict of 01, and so the one with imports, reads the third as different
   pub answers : (t u : Ty) → ThreeAnswers t u
-  -- "A mended verdict, otherwise by the clauses of 01 and with its own report, reads it as equal": the demands hold of it, and where one
-  -- image has no vector, quaternion or matrix in a compared type, it is that of 01
-  pub refusing : RefusingTwo viewOf mendedType
-  pub comparing : ComparingTwo viewOf mendedType
+  -- "A mended verdict, otherwise by the clauses of 01 and with its own report, reads it as equal": the demands hold of it, with R-6's 16 and
+  -- WidthChanged; and where it does not refuse by 16, no width has changed, and one image has no vector, quaternion or matrix in a compared
+  -- type, it is that of 01
+  pub refusing : RefusingTwo mended MendedRefusals
+  pub comparing : ComparingTwo mended (λ x y. ¬ Mixed x y × ¬ AliasPair viewOf x y)
   pub otherwise : Otherwise
   -- "there every image that gets a verdict against itself is at distance 0 from itself. The chain rule covers the mended verdict as well.";
   -- and the swap of counts
@@ -119,12 +117,21 @@ pub record Mending : Type 0 where
   pub edges : MendedEdges
   pub pinned : PinnedMended
 
+-- R-6: "Widths written out." What the mended verdict makes of widths is above.
+pub record Widening : Type 0 where
+  -- "The earlier verdicts accept both formats and ignore the width."
+  pub ignored : EarlierIgnore
+  -- "The list of counts gains this name at its end, always 0 in the earlier verdicts."
+  pub plainCount : (old new : Image) → countBetween (verdictBy plain) (kindAt WidthChanged) old new ≡ 0
+  pub importsCount : (old new : Image) → countBetween (verdictBy imports) (kindAt WidthChanged) old new ≡ 0
+
 pub record Claims : Type 0 where
   pub refusing : Refusing
   pub comparing : Comparing
-  pub distance : Distances viewOf
+  pub distance : Distances plain
   pub importing : Importing
   pub mending : Mending
+  pub widening : Widening
   -- R-13: filing order must not matter; and filing anew is an equivalence
   pub filing : FilingOrder
   pub filings : Refilings
