@@ -7,8 +7,8 @@
 -- verdict with imports. Agreed: readings that agree on the types that are compared. Widths: a reading that reports widths. Mended: the three
 -- answers of the type comparison, and the mended verdict.
 -- Forgotten: what is read where a part of each declaration is forgotten. Ignored: the earlier verdicts ignore widths.
--- Computed: what is unfolded to compute. Edges, ImportEdges, MendedEdges, Pinned, PinnedImports, PinnedMended: what is computed from the
--- definitions alone.
+-- Computed: what is unfolded to compute. Edges, ImportEdges, MendedEdges, Pinned, PinnedImports, PinnedMended, PinnedIgnored: what is
+-- computed from the definitions alone.
 pub mod Equal
 pub mod Types
 pub mod Mirror
@@ -45,3 +45,4 @@ pub mod MendedEdges
 pub mod Pinned
 pub mod PinnedImports
 pub mod PinnedMended
+pub mod PinnedIgnored

@@ -4,7 +4,8 @@
 -- of the type comparison, and the mended verdict.
 -- Statements that are proved of them: Refusals (when each number is given), Distance (demand 3), Edges (document 01's edges), Pinned (what
 -- the Rust answered), ImportEdges and PinnedImports (R-2, on small schemas and over byte lists), MendedEdges and PinnedMended (R-5 and R-6, the
--- same), MendedRefusals (R-6, when each number is given by the mended verdict), Ignored (R-6, that the earlier verdicts ignore widths).
+-- same), MendedRefusals (R-6, when each number is given by the mended verdict), Ignored and PinnedIgnored (R-6, that the earlier
+-- verdicts ignore widths, and images on which the mended one does not).
 pub mod Equal
 pub mod Survivors
 pub mod Types
@@ -29,3 +30,4 @@ pub mod MendedEdges
 pub mod Pinned
 pub mod PinnedImports
 pub mod PinnedMended
+pub mod PinnedIgnored
