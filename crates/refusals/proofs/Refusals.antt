@@ -62,23 +62,23 @@ over-told s e = go (leb (entryCount s) 512) (leb (idCount s) 512) refl refl e
     go false b p q r = entries (leb-false _ _ p)
 
 -- 1 or 2, and nothing else
-known-is : (s : List ℕ) → known (format s) ≡ true → Known s
+known-is : (n : ℕ) → known n ≡ true → Known n
 unfolding known
-known-is s e = go (eqb (format s) 1) refl
+known-is n e = go (eqb n 1) refl
   where
-    go : (b : Bool) → eqb (format s) 1 ≡ b → Known s
+    go : (b : Bool) → eqb n 1 ≡ b → Known n
     go true q = one (eqb-true _ _ q)
     go false q =
         let x = both _ _ e in
-        let l = leb-true 1 (format s) x.0 in
-        let m = leb-true (format s) 2 x.1 in
-        let n = eqb-false (format s) 1 q in
+        let l = leb-true 1 n x.0 in
+        let m = leb-true n 2 x.1 in
+        let d = eqb-false n 1 q in
         two (omega arith)
 
-is-known : (s : List ℕ) → Known s → known (format s) ≡ true
+is-known : (n : ℕ) → Known n → known n ≡ true
 unfolding known
-is-known s (one e) = rw e
-is-known s (two e) = rw e
+is-known n (one e) = rw e
+is-known n (two e) = rw e
 
 pub head-told : (s : List ℕ) → Told (λ h n. Head s) (Given s) (headOf s)
 unfolding headOf Given
@@ -88,9 +88,9 @@ head-told s =
     (λ b. told-pick _
     (λ c. told-pick _
     (λ d. told-ok (let x = both _ _ d in let y = both _ _ x.1 in
-    record { eight = eight a b; known = known-is s c; entries = leb-true _ _ x.0; ids = leb-true _ _ y.0; segments = leb-true _ _ y.1 }))
-    (λ d. told-no (record { eight = eight a b; known = known-is s c; over = over-told s d })))
-    (λ c. told-no (record { eight = eight a b; other = λ k. no_both (is-known s k) c })))
+    record { eight = eight a b; known = known-is (format s) c; entries = leb-true _ _ x.0; ids = leb-true _ _ y.0; segments = leb-true _ _ y.1 }))
+    (λ d. told-no (record { eight = eight a b; known = known-is (format s) c; over = over-told s d })))
+    (λ c. told-no (record { eight = eight a b; other = λ k. no_both (is-known (format s) k) c })))
     (λ b. told-no (head (leb-false _ _ b))))
     (λ a. told-no (leb-false _ _ a))
   where
@@ -174,12 +174,12 @@ unfolding headOf pick
 format-given s f = from-head s 3 (simp (le-leb _ _ f.eight.fits, le-leb _ _ f.eight.there, unknown (known (format s)) refl))
   where
     unknown : (b : Bool) → known (format s) ≡ b → known (format s) ≡ false
-    unknown true q = absurd (f.other (known-is s q))
+    unknown true q = absurd (f.other (known-is (format s) q))
     unknown false q = q
 
 crowded-given : (s : List ℕ) → Crowded s → readImage s ≡ no 4
 unfolding headOf pick
-crowded-given s c = from-head s 4 (simp (le-leb _ _ c.eight.fits, le-leb _ _ c.eight.there, is-known s c.known, crowd c.over))
+crowded-given s c = from-head s 4 (simp (le-leb _ _ c.eight.fits, le-leb _ _ c.eight.there, is-known (format s) c.known, crowd c.over))
   where
     crowd : Over s → leb (entryCount s) 512 && (leb (idCount s) 512 && leb (segmentCount s) 16) ≡ false
     crowd (entries l) = simp (lt-leb _ _ l)
@@ -190,7 +190,7 @@ pub head_passed : (s : List ℕ) → Head s → headOf s ≡ ok (format s) 8
 unfolding headOf pick
 head_passed s h =
     let eight = h.eight in
-    simp (le-leb _ _ eight.fits, le-leb _ _ eight.there, is-known s h.known, le-leb _ _ h.entries, le-leb _ _ h.ids, le-leb _ _ h.segments)
+    simp (le-leb _ _ eight.fits, le-leb _ _ eight.there, is-known (format s) h.known, le-leb _ _ h.entries, le-leb _ _ h.ids, le-leb _ _ h.segments)
 
 -- then the tables
 tables-given : (s : List ℕ) → Head s → length s < segmentsAt s → readImage s ≡ no 2

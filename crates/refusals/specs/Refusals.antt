@@ -16,14 +16,14 @@ pub record Eight (s : List ℕ) : Type 0 where
   pub there : 8 ≤ length s
 
 -- the formats: "Refusal 3 now means neither 1 nor 2."
-pub data Known (s : List ℕ) : Type 0 where
-  one : format s ≡ 1 → Known s
-  two : format s ≡ 2 → Known s
+pub data Known (n : ℕ) : Type 0 where
+  one : n ≡ 1 → Known n
+  two : n ≡ 2 → Known n
 
 -- 3 format: "neither 1 nor 2"
 pub record Format (s : List ℕ) : Type 0 where
   pub eight : Eight s
-  pub other : ¬ Known s
+  pub other : ¬ Known (format s)
 
 -- 4 crowded: "N or M over 512, S over 16"
 pub data Over (s : List ℕ) : Type 0 where
@@ -33,13 +33,13 @@ pub data Over (s : List ℕ) : Type 0 where
 
 pub record Crowded (s : List ℕ) : Type 0 where
   pub eight : Eight s
-  pub known : Known s
+  pub known : Known (format s)
   pub over : Over s
 
 -- the head is there and as it should be
 pub record Head (s : List ℕ) : Type 0 where
   pub eight : Eight s
-  pub known : Known s
+  pub known : Known (format s)
   pub entries : entryCount s ≤ 512
   pub ids : idCount s ≤ 512
   pub segments : segmentCount s ≤ 16

@@ -23,7 +23,6 @@ use Rattle.refusals.proofs.Places.{Laid, good, wrong, placed-empty, placed-full}
 use Rattle.refusals.proofs.Refusals.{head-told, names-told, fits_told}
 use Rattle.written.proofs.Runs.{Run, run_none, run_join, run-whole, Free, Keeps, each_part, part_length, part-run, number-run, number_is, name-keeps, each_keeps}
 use Rattle.written.proofs.ItemRuns.{body-keeps}
-use Rattle.written.proofs.Formats.{format-known}
 use Rattle.written.proofs.Whole.{written_read}
 
 -- an entry as the contents have it
@@ -209,7 +208,7 @@ module _ (s : List ℕ) (bytes : Each Byte s) where
     unfolding held
     is_within =
         record {
-          format = format-known r.head.known;
+          format = r.head.known;
           entryCount = rw entries-all r.head.entries;
           idCount = rw (ids-count (idCount s) (idsAt s)) r.head.ids;
           segmentCount = rw r.count r.head.segments;

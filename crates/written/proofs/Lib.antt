@@ -1,7 +1,7 @@
 -- Whole: every schema within the limits is read back from what is written of it. Octets: what is written are bytes. Accepted: no
 -- other list of bytes is accepted. Ride: document 01's image, and one of format 2, by computation.
 -- Written, then read: Here, bytes at a place; Pieces, numbers, names and lists; Trees, types; Items, widths, fields, variants and bodies.
--- Read, then written: Runs, TreeRuns, ItemRuns, in the same order. Formats: those within the limits.
+-- Read, then written: Runs, TreeRuns, ItemRuns, in the same order.
 pub mod Whole
 pub mod Octets
 pub mod Accepted
@@ -13,4 +13,3 @@ pub mod Items
 pub mod Runs
 pub mod TreeRuns
 pub mod ItemRuns
-pub mod Formats

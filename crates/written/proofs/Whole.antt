@@ -13,11 +13,11 @@ use Rattle.image.specs.Names.{namesAt}
 use Rattle.image.specs.Image.{u16At, format, entryCount, idCount, segmentCount, entryOffset, entryLength, idsAt, segmentsAt, idsFrom, headOf, tablesOf, laid, entryOf, entriesOf, readImage}
 use Rattle.written.specs.Writer.{digits, writeEach, writeName, writeBody, writeEntry, writeContents, writeHead, bodiesAt, write}
 use Rattle.written.specs.Limits.{Each, end, also, U32, DeclWithin, EntryWithin, empty, full, Within}
+use Rattle.refusals.specs.Refusals.{Known, one, two}
 use Rattle.refusals.proofs.Refusals.{head_passed}
 use Rattle.written.proofs.Here.{Here, here-all, here-fits, here-first, here-next, here-part}
 use Rattle.written.proofs.Pieces.{got, here-number, names-back}
 use Rattle.written.proofs.Items.{body_back}
-use Rattle.written.proofs.Formats.{format-few, known-format}
 
 -- a u16, as the head and the contents have it
 u16-back : {s : List ℕ} {at : ℕ} (v : ℕ) → v < 2 ^ 16 → Here s at (digits 2 v) → u16At s at ≡ v
@@ -112,6 +112,11 @@ record Front (s : Schema) : Type 0 where
   pub ids : idCount (write s) ≡ length s.ids
   pub segments : segmentCount (write s) ≡ length s.namespace
 
+-- a format that is read is a u16
+format-few : {n : ℕ} → Known n → n < 2 ^ 16
+format-few (one e) = omega arith
+format-few (two e) = omega arith
+
 front : (s : Schema) → Within s → Front s
 unfolding write writeHead format entryCount idCount segmentCount digits
 front s q =
@@ -193,7 +198,7 @@ head-back s q =
     head_passed (write s)
     (record {
       eight = record { fits = q.whole; there = (back s).contents.from };
-      known = known-format f.stored q.format;
+      known = rw f.stored q.format;
       entries = rw f.entries q.entryCount;
       ids = rw f.ids q.idCount;
       segments = rw f.segments q.segmentCount;

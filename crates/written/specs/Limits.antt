@@ -5,6 +5,7 @@ use Rattle.image.specs.Codes.{number, messageKind, enumKind, flagsKind, unionKin
 use Rattle.image.specs.Schema.{Name, Marks, unmarked, Encoding, Label, label, Ty, leaf, one, two, Field, Variant, Decl, decl, noType, Schema}
 use Rattle.image.specs.Formats.{hasWidths}
 use Rattle.image.specs.Names.{nameBytes}
+use Rattle.refusals.specs.Refusals.{Known}
 use Rattle.written.specs.Writer.{write}
 
 -- of every element of a list
@@ -126,14 +127,9 @@ pub data EntryWithin (f : ℕ) : Option Decl → Type 0 where
   empty : EntryWithin f none
   full : {d : Decl} → DeclWithin f d → EntryWithin f (some d)
 
--- the formats that are read: "Refusal 3 now means neither 1 nor 2."
-pub data FormatWithin : ℕ → Type 0 where
-  first : FormatWithin 1
-  second : FormatWithin 2
-
 -- "N or M over 512, S over 16" is crowded; "image over 32,768 bytes" is long
 pub record Within (s : Schema) : Type 0 where
-  pub format : FormatWithin s.format
+  pub format : Known s.format
   pub entryCount : length s.registry ≤ 512
   pub idCount : length s.ids ≤ 512
   pub segmentCount : length s.namespace ≤ 16
