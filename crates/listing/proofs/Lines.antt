@@ -1,5 +1,5 @@
 -- The lines of a registry, one entry after the other: what a writer at an id still owes. Assumes nothing.
-use mathlib.Core.Path.{◌≡◌, refl, sym, ap, ◌∙◌}
+use mathlib.Core.Path.{◌≡◌, refl, sym, ap, ap₂, ◌∙◌}
 use mathlib.Core.Option.{Option, none}
 use mathlib.Core.List.{List, [], ◌∷◌, ◌++◌}
 use Prim.Native.Nat.{ℕ, zero, suc, ◌+◌, ◌≤◌, ◌<◌}
@@ -7,8 +7,7 @@ use native.Mathlib.Numerals.{add-one}
 use native.Mathlib.Omega.{arith}
 use lib.ListN.{length, get_or, drop, drop_of_length-le}
 use Rattle.image.specs.Schema.{Name, Decl}
-use Rattle.parts.specs.Promise.{schemaOf, DeclHere, declIn, BodyIn, bytesIn}
-use Rattle.parts.proofs.Promise.{decl-most}
+use Rattle.parts.specs.Promise.{schemaOf, StartHere, startKind, startName, BodyIn, bytesIn}
 use Rattle.text.specs.Text.{Space, Puts, startIn}
 use Rattle.text.specs.declared.Mode.{Mode}
 use Rattle.text.proofs.Writing.{in-nil}
@@ -18,14 +17,13 @@ use Rattle.listing.specs.Listing.{lineOf, entryLine, entryText, linesFrom}
 
 -- ---- one entry
 
--- the line of a kind and a name that are those of the declaration at the start of a body
-module _ (s : List ℕ) (id : ℕ) {m : Mode} {d : List ℕ} {k : ℕ} {n : Name} (p : k ≡ (declIn s 0).kind) (q : n ≡ (declIn s 0).name) where
-  pub line-ready : DeclHere s 0 → Space m d 0 (length (entryLine id (declIn s 0))) → (k ≤ 8) × Space m d 0 (length (lineOf id k n))
-  unfolding entryLine
-  line-ready here space = (omega (arith, decl-most s 0 here), rw (p, q) space)
+-- the line of a kind and a name that are those of the start of a body
+module _ (s : List ℕ) (id : ℕ) {m : Mode} {d : List ℕ} {k : ℕ} {n : Name} (p : k ≡ startKind s 0) (q : n ≡ startName s 0) where
+  pub line-ready : StartHere s 0 → Space m d 0 (length (lineOf id (startKind s 0) (startName s 0))) → (k ≤ 8) × Space m d 0 (length (lineOf id k n))
+  unfolding startKind
+  line-ready here space = (rw p here.kind, rw (p, q) space)
 
-  pub line-puts : {r : ℕ} {d' : List ℕ} → Puts m d 0 (lineOf id k n) r d' → Puts m d 0 (entryLine id (declIn s 0)) r d'
-  unfolding entryLine
+  pub line-puts : {r : ℕ} {d' : List ℕ} → Puts m d 0 (lineOf id k n) r d' → Puts m d 0 (lineOf id (startKind s 0) (startName s 0)) r d'
   line-puts w = rw (p, q) at w
 
 -- an empty one
@@ -36,15 +34,17 @@ none-puts {m} {d} {at} id e = rw e record { end = omega arith; bytes = sym (in-n
 -- one with a body, whose line's writer is lent the part of the buffer from a on
 module _ {m : Mode} {s d : List ℕ} {at id from count a : ℕ} (b : BodyIn s id from count)
     (space : Space m d at (length (entryText id (get_or (schemaOf s).registry id none)))) (e : a ≡ startIn m at) where
-  is : entryText id (get_or (schemaOf s).registry id none) ≡ entryLine id (declIn (bytesIn s from count) 0)
-  unfolding entryText
-  is = ap (entryText id) b.is
+  abbrev line : List ℕ
+  line = lineOf id (startKind (bytesIn s from count) 0) (startName (bytesIn s from count) 0)
 
-  pub body-lent : Lent m d at (entryLine id (declIn (bytesIn s from count) 0)) a
-  body-lent = lent (entryLine id (declIn (bytesIn s from count) 0)) (rw is at space) e
+  is : entryText id (get_or (schemaOf s).registry id none) ≡ line
+  unfolding entryText entryLine
+  is = ap (entryText id) b.is ∙ sym (ap₂ (lineOf id) b.kind b.name)
 
-  pub body-puts : {n : ℕ} {ys : List ℕ} → Puts m (part d a) 0 (entryLine id (declIn (bytesIn s from count) 0)) n ys
-      → Puts m d at (entryText id (get_or (schemaOf s).registry id none)) (at + n) (withPart d a ys)
+  pub body-lent : Lent m d at line a
+  body-lent = lent line (rw is at space) e
+
+  pub body-puts : {n : ℕ} {ys : List ℕ} → Puts m (part d a) 0 line n ys → Puts m d at (entryText id (get_or (schemaOf s).registry id none)) (at + n) (withPart d a ys)
   body-puts p = rw is (body-lent.whole p)
 
 -- ---- all entries

@@ -12,7 +12,8 @@ use Rattle.listing.specs.Listing.{lineOf, entryLine, entryText, linesFrom, listi
 pub two : Schema
 unfolding bytes
 two = record {
-  registry = none ∷ some (decl 0 (bytes "Drive") unmarked [] [] noType) ∷ none ∷ some (decl 8 [] unmarked [] [] noType) ∷ none ∷ [];
+  format = 1;
+  registry = none ∷ some (decl 0 (bytes "Drive") unmarked none [] [] noType) ∷ none ∷ some (decl 8 [] unmarked none [] [] noType) ∷ none ∷ [];
   ids = 3 ∷ 1 ∷ [];
   namespace = [];
 }
@@ -21,6 +22,6 @@ pub two-lines : listing two ≡ bytes "1;message;Drive\n3;impl;\n"
 unfolding two listing linesFrom entryText entryLine lineOf decimal digits kindOf kindWord bytes
 two-lines = refl
 
-pub no_line : listing (record { registry = none ∷ none ∷ []; ids = []; namespace = [] }) ≡ []
+pub no_line : listing (record { format = 1; registry = none ∷ none ∷ []; ids = []; namespace = [] }) ≡ []
 unfolding listing linesFrom entryText
 no_line = refl

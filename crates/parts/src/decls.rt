@@ -83,10 +83,10 @@ pub fn width_place(image: &[u8], at: usize) -> usize
     ensures { result ≡ widthPlace image.now at }
 {
     let end = name_end(image, at + 1);
-    if ENUM < image[at] {
-        return end;
+    if image[at] <= ENUM {
+        return end + 1;
     }
-    end + 1
+    end
 }
 
 // The width of a declaration.
@@ -97,7 +97,8 @@ pub fn width(image: &[u8], at: usize) -> Width
     if !stores_width(image, at) {
         return Width::Absent;
     }
-    Width::Wire(image[width_place(image, at)])
+    let place = width_place(image, at);
+    Width::Wire(image[place])
 }
 
 // Where a newtype's type stands.

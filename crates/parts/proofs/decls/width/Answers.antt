@@ -9,14 +9,14 @@ pub returns-then-not-stores_width : goal.returns-then-not-stores_width
 unfolding widthOf
 returns-then-not-stores_width c = sym (width-absent _ _ c.requires (sym c.stores_width.ensures ∙ c.if-not-stores_width.true))
 
-pub width_place-requires : goal.width_place-requires
-width_place-requires c = (c.requires, width-named _ _ c.requires (sym c.stores_width.ensures ∙ c.if-not-stores_width.false))
+pub width_place-place-requires : goal.width_place-place-requires
+width_place-place-requires c = (c.requires, width-named _ _ c.requires (sym c.stores_width.ensures ∙ c.if-not-stores_width.false))
 
-pub bounds-image-width_place : goal.bounds-image-width_place
-bounds-image-width_place c = rw c.width_place.ensures (width-at _ _ c.requires (sym c.stores_width.ensures ∙ c.if-not-stores_width.false)).0
+pub bounds-image-place : goal.bounds-image-place
+bounds-image-place c = rw c.width_place-place.ensures (width-at _ _ c.requires (sym c.stores_width.ensures ∙ c.if-not-stores_width.false)).0
 
 pub returns : goal.returns
 unfolding widthOf
 returns c =
-    ap (λ (n : ℕ). some (get_or c.args.image.now n 0)) c.width_place.ensures
+    ap (λ (n : ℕ). some (get_or c.args.image.now n 0)) c.width_place-place.ensures
     ∙ sym (width-at _ _ c.requires (sym c.stores_width.ensures ∙ c.if-not-stores_width.false)).1

@@ -12,17 +12,17 @@ name_end-end-requires c = (name-there _ _ c.requires.0 c.requires.1).0
 pub bounds-image-at : goal.bounds-image-at
 bounds-image-at c = kind-there _ _ c.requires.0
 
-pub returns-then-image-at-gt-ENUM : goal.returns-then-image-at-gt-ENUM
-returns-then-image-at-gt-ENUM c =
-    let d = decl-kind _ _ c.requires.0 in
-    c.name_end-end.ensures ∙ sym (place-plain _ _ (omega arith))
-
 pub overflow_add-result : goal.overflow_add-result
 overflow_add-result c =
-    let t = ((decl-head _ _ c.requires.0).marked c.if-image-at-gt-ENUM.false).0 in
+    let t = ((decl-head _ _ c.requires.0).marked c.if-image-at-le-ENUM.true).0 in
     omega arith
+
+pub returns-then-image-at-le-ENUM : goal.returns-then-image-at-le-ENUM
+returns-then-image-at-le-ENUM c =
+    let d = decl-kind _ _ c.requires.0 in
+    ap (λ (n : ℕ). n + 1) c.name_end-end.ensures ∙ sym (place-marked _ _ (omega arith))
 
 pub returns : goal.returns
 returns c =
     let d = decl-kind _ _ c.requires.0 in
-    ap (λ (n : ℕ). n + 1) c.name_end-end.ensures ∙ sym (place-marked _ _ (omega arith))
+    c.name_end-end.ensures ∙ sym (place-plain _ _ (omega arith))
