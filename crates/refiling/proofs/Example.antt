@@ -1,7 +1,7 @@
 -- The worked example holds: what the images hold by computation, their reports by the theorem and by computation. Assumes nothing.
 use mathlib.Core.Path.{◌≡◌, refl, sym, ap}
 use mathlib.Core.Bool.{false}
-use mathlib.Core.Option.{none, some}
+use mathlib.Core.Option.{Option, none, some}
 use mathlib.Core.List.{List, [], ◌∷◌}
 use Prim.Native.Nat.{ℕ}
 use native.Mathlib.Omega.{arith}
@@ -28,22 +28,22 @@ use Rattle.refiling.proofs.Relation.{refilings}
 -- ---- what the images hold; the bytes of the names are their numbers: M 77, U 85, F 70, E 69, N 78, K 75, and a 97
 
 abbrev message : List Field → Decl
-message fs = decl 0 (77 ∷ []) unmarked fs [] noType
+message fs = decl 0 (77 ∷ []) unmarked none fs [] noType
 
 abbrev union : List Variant → Decl
-union vs = decl 3 (85 ∷ []) unmarked [] vs noType
+union vs = decl 3 (85 ∷ []) unmarked none [] vs noType
 
-abbrev flags : List Variant → Decl
-flags vs = decl 2 (70 ∷ []) unmarked [] vs noType
+abbrev flags : Option ℕ → List Variant → Decl
+flags width vs = decl 2 (70 ∷ []) unmarked width [] vs noType
 
-abbrev enum : List Variant → Decl
-enum vs = decl 1 (69 ∷ []) unmarked [] vs noType
+abbrev enum : Option ℕ → List Variant → Decl
+enum width vs = decl 1 (69 ∷ []) unmarked width [] vs noType
 
 abbrev newtype : Ty → Decl
-newtype t = decl 4 (78 ∷ []) unmarked [] [] t
+newtype t = decl 4 (78 ∷ []) unmarked none [] [] t
 
 abbrev config : Decl
-config = decl 5 (75 ∷ []) unmarked [] [] noType
+config = decl 5 (75 ∷ []) unmarked none [] [] noType
 
 abbrev a : Ty → Field
 a t = plainField 0 (97 ∷ []) t
@@ -87,40 +87,40 @@ ride = (114 ∷ 105 ∷ 100 ∷ 101 ∷ []) ∷ []
 
 abbrev R : Registry
 R =
-    some (message (a (around 5 (namedType 1)) ∷ b 9 ∷ [])) ∷ some (union (x ∷ y (f ∷ g 0 ∷ []) ∷ [])) ∷ some (flags (p ∷ q ∷ []))
+    some (message (a (around 5 (namedType 1)) ∷ b 9 ∷ [])) ∷ some (union (x ∷ y (f ∷ g 0 ∷ []) ∷ [])) ∷ some (flags none (p ∷ q ∷ []))
     ∷ some impl ∷ some impl ∷ []
 
 abbrev R' : Registry
 R' =
-    none ∷ some (flags (q ∷ p ∷ [])) ∷ some impl ∷ some (union (y (g 5 ∷ f ∷ []) ∷ x ∷ [])) ∷ some impl
+    none ∷ some (flags (some 1) (q ∷ p ∷ [])) ∷ some impl ∷ some (union (y (g 5 ∷ f ∷ []) ∷ x ∷ [])) ∷ some impl
     ∷ some (message (b 0 ∷ a (around 5 (namedType 3)) ∷ [])) ∷ []
 
 abbrev S : Registry
 S =
-    some (message (a u8 ∷ b 5 ∷ [])) ∷ some (union (y (f ∷ h 1 ∷ []) ∷ [])) ∷ some (flags (p ∷ [])) ∷ some (enum (r ∷ s ∷ []))
+    some (message (a u8 ∷ b 5 ∷ [])) ∷ some (union (y (f ∷ h 1 ∷ []) ∷ [])) ∷ some (flags none (p ∷ [])) ∷ some (enum none (r ∷ s ∷ []))
     ∷ some (newtype (mapOf 3)) ∷ some config ∷ []
 
 abbrev S' : Registry
 S' =
-    some (newtype (mapOf 2)) ∷ some config ∷ some (enum (s ∷ r ∷ [])) ∷ some (flags (p ∷ [])) ∷ some (union (y (h 4 ∷ f ∷ []) ∷ []))
+    some (newtype (mapOf 2)) ∷ some config ∷ some (enum (some 8) (s ∷ r ∷ [])) ∷ some (flags (some 4) (p ∷ [])) ∷ some (union (y (h 4 ∷ f ∷ []) ∷ []))
     ∷ some (message (b 1 ∷ a u8 ∷ [])) ∷ []
 
-abbrev rideOf : Registry → List ℕ → Schema
-rideOf registry ids = record { registry = registry; ids = ids; namespace = ride }
+abbrev rideOf : ℕ → Registry → List ℕ → Schema
+rideOf format registry ids = record { format = format; registry = registry; ids = ids; namespace = ride }
 
-first_read : readImage first ≡ ok (rideOf R (0 ∷ 1 ∷ 2 ∷ 3 ∷ 9 ∷ 4 ∷ [])) 157
+first_read : readImage first ≡ ok (rideOf 1 R (0 ∷ 1 ∷ 2 ∷ 3 ∷ 9 ∷ 4 ∷ [])) 157
 unfolding reads
 first_read = refl
 
-firstAnew-read : readImage firstAnew ≡ ok (rideOf R' (4 ∷ 5 ∷ 0 ∷ 3 ∷ 1 ∷ 2 ∷ [])) 161
+firstAnew-read : readImage firstAnew ≡ ok (rideOf 2 R' (4 ∷ 5 ∷ 0 ∷ 3 ∷ 1 ∷ 2 ∷ [])) 162
 unfolding reads
 firstAnew-read = refl
 
-second-read : readImage second ≡ ok (rideOf S (0 ∷ 1 ∷ 2 ∷ 3 ∷ 4 ∷ [])) 173
+second-read : readImage second ≡ ok (rideOf 1 S (0 ∷ 1 ∷ 2 ∷ 3 ∷ 4 ∷ [])) 173
 unfolding reads
 second-read = refl
 
-secondAnew-read : readImage secondAnew ≡ ok (rideOf S' (0 ∷ 3 ∷ 5 ∷ 2 ∷ 4 ∷ [])) 173
+secondAnew-read : readImage secondAnew ≡ ok (rideOf 2 S' (0 ∷ 3 ∷ 5 ∷ 2 ∷ 4 ∷ [])) 175
 unfolding reads
 secondAnew-read = refl
 
@@ -133,7 +133,7 @@ none-twice : (d : Decl) → d.fields ≡ [] → d.variants ≡ [] → NumbersOnc
 unfolding Once EachTwo All
 none-twice d e k = record { fields = rw e tt; variants = rw k tt; variantFields = rw k tt }
 
-first-once : NoRepeats (rideOf R (0 ∷ 1 ∷ 2 ∷ 3 ∷ 9 ∷ 4 ∷ []))
+first-once : NoRepeats (rideOf 1 R (0 ∷ 1 ∷ 2 ∷ 3 ∷ 9 ∷ 4 ∷ []))
 unfolding reports entries NamesOnce EachTwo All Once Impls
 first-once = record {
   names = (
@@ -155,7 +155,7 @@ first-once = record {
   );
 }
 
-second-once : NoRepeats (rideOf S (0 ∷ 1 ∷ 2 ∷ 3 ∷ 4 ∷ []))
+second-once : NoRepeats (rideOf 1 S (0 ∷ 1 ∷ 2 ∷ 3 ∷ 4 ∷ []))
 unfolding reports entries NamesOnce EachTwo All Once Impls
 second-once = record {
   names = (
@@ -212,7 +212,7 @@ union-anew =
     nothing here) (later here))
     (primitive-anew 0)
 
-flags-anew : RefiledDecl R R' to (flags (p ∷ q ∷ [])) (flags (q ∷ p ∷ []))
+flags-anew : RefiledDecl R R' to (flags none (p ∷ q ∷ [])) (flags (some 1) (q ∷ p ∷ []))
 flags-anew = decl-anew 2 _ nothing (each (item-anew 0 _ nothing) (each (item-anew 1 _ nothing) nothing here) (later here)) (primitive-anew 0)
 
 impl-anew : RefiledDecl R R' to impl impl
@@ -227,7 +227,7 @@ first-renumbered =
     )
     ((_, refl, refl), ((_, refl, refl), ((_, refl, refl), ((_, refl, refl), ((_, refl, refl), tt)))))
 
-first-anew : Refiled (rideOf R (0 ∷ 1 ∷ 2 ∷ 3 ∷ 9 ∷ 4 ∷ [])) (rideOf R' (4 ∷ 5 ∷ 0 ∷ 3 ∷ 1 ∷ 2 ∷ []))
+first-anew : Refiled (rideOf 1 R (0 ∷ 1 ∷ 2 ∷ 3 ∷ 9 ∷ 4 ∷ [])) (rideOf 2 R' (4 ∷ 5 ∷ 0 ∷ 3 ∷ 1 ∷ 2 ∷ []))
 unfolding standsFor
 first-anew = record {
   to = to;
@@ -266,10 +266,10 @@ later-union =
     nothing here)
     (primitive-anew 0)
 
-later-flags : RefiledDecl S S' on (flags (p ∷ [])) (flags (p ∷ []))
+later-flags : RefiledDecl S S' on (flags none (p ∷ [])) (flags (some 4) (p ∷ []))
 later-flags = decl-anew 2 _ nothing (each (item-anew 0 _ nothing) nothing here) (primitive-anew 0)
 
-enum-anew : RefiledDecl S S' on (enum (r ∷ s ∷ [])) (enum (s ∷ r ∷ []))
+enum-anew : RefiledDecl S S' on (enum none (r ∷ s ∷ [])) (enum (some 8) (s ∷ r ∷ []))
 enum-anew = decl-anew 1 _ nothing (each (item-anew 0 _ nothing) (each (item-anew 1 _ nothing) nothing here) (later here)) (primitive-anew 0)
 
 newtype-anew : RefiledDecl S S' on (newtype (mapOf 3)) (newtype (mapOf 2))
@@ -296,7 +296,7 @@ second-renumbered =
     )
     ((_, refl, refl), ((_, refl, refl), ((_, refl, refl), ((_, refl, refl), ((_, refl, refl), ((_, refl, refl), tt))))))
 
-second-anew : Refiled (rideOf S (0 ∷ 1 ∷ 2 ∷ 3 ∷ 4 ∷ [])) (rideOf S' (0 ∷ 3 ∷ 5 ∷ 2 ∷ 4 ∷ []))
+second-anew : Refiled (rideOf 1 S (0 ∷ 1 ∷ 2 ∷ 3 ∷ 4 ∷ [])) (rideOf 2 S' (0 ∷ 3 ∷ 5 ∷ 2 ∷ 4 ∷ []))
 unfolding standsFor
 second-anew = record {
   to = on;

@@ -1,6 +1,6 @@
 -- For examples: a renumbering shown entry by entry, and what is filed anew piece by piece. Assumes nothing.
 use mathlib.Core.Path.{◌≡◌, refl, sym, ◌∙◌, subst}
-use mathlib.Core.Option.{none, some, some-injective, none-ne-some}
+use mathlib.Core.Option.{Option, none, some, some-injective, none-ne-some}
 use mathlib.Core.List.{List, [], ◌∷◌}
 use Prim.Native.Nat.{ℕ, zero, suc}
 use native.Mathlib.Omega.{arith}
@@ -76,6 +76,6 @@ module _ {R S : Registry} {to : ℕ → ℕ} where
       → RefiledVariant R S to (item ordinal name fs) (item ordinal name gs)
   item-anew ordinal name r = record { ordinal = refl; name = refl; fields = r }
 
-  pub decl-anew : (k : ℕ) (n : Name) {fs gs : List Field} {vs ws : List Variant} {t u : Ty} → Reordered (RefiledField R S to) fs gs
-      → Reordered (RefiledVariant R S to) vs ws → RefiledType R S to t u → RefiledDecl R S to (decl k n unmarked fs vs t) (decl k n unmarked gs ws u)
+  pub decl-anew : (k : ℕ) (n : Name) {w x : Option ℕ} {fs gs : List Field} {vs ws : List Variant} {t u : Ty} → Reordered (RefiledField R S to) fs gs
+      → Reordered (RefiledVariant R S to) vs ws → RefiledType R S to t u → RefiledDecl R S to (decl k n unmarked w fs vs t) (decl k n unmarked x gs ws u)
   decl-anew k n r s q = record { kind = refl; name = refl; marks = refl; fields = r; variants = s; inner = q }

@@ -28,16 +28,16 @@ first =
     ∷ "08"
     ∷ [])
 
--- The same filed anew: 0 is empty, F is 1, the impls are 2 and 4, U is 3, M is 5; the unresolvable id is 0; every body is the other way round.
--- Listed: 4 5 0 3 1 2.
+-- The same filed anew, in format 2 with a wire byte for F: 0 is empty, F is 1, the impls are 2 and 4, U is 3, M is 5; the unresolvable id is 0;
+-- every body is the other way round. Listed: 4 5 0 3 1 2.
 abbrev pub firstAnew : List ℕ
 firstAnew =
     image
-    ("01 00 06 00 06 00 01 00"
-    ∷ "00 00 00 00 3d 00 11 00 4e 00 01 00 4f 00 2e 00 7d 00 01 00 7e 00 23 00"
+    ("02 00 06 00 06 00 01 00"
+    ∷ "00 00 00 00 3d 00 12 00 4f 00 01 00 50 00 2e 00 7e 00 01 00 7f 00 23 00"
     ∷ "04 00 00 00 05 00 00 00 00 00 00 00 03 00 00 00 01 00 00 00 02 00 00 00"
     ∷ "04 72 69 64 65"
-    ∷ "02 01 46 02 00 01 00 00 00 01 71 00 00 00 00 01 70"
+    ∷ "02 01 46 01 02 00 01 00 00 00 01 71 00 00 00 00 01 70"
     ∷ "08"
     ∷ "03 01 55 02 00 01 00 00 00 01 79 02 00 01 00 00 00 01 67 00 00 00 03 05 00 00 00 00 00 00 00 01 66 00 00 00 00 01 00 00 00 00 01 78 00 00"
     ∷ "08"
@@ -61,18 +61,19 @@ second =
     ∷ "05 01 4b"
     ∷ [])
 
--- The same filed anew: N is 0, K is 1, E is 2, F is 3, U is 4, M is 5; every body is the other way round. Listed: 0 3 5 2 4.
+-- The same filed anew, in format 2 with 8 wire bits for E and 4 wire bytes for F: N is 0, K is 1, E is 2, F is 3, U is 4, M is 5; every body is
+-- the other way round. Listed: 0 3 5 2 4.
 abbrev pub secondAnew : List ℕ
 secondAnew =
     image
-    ("01 00 06 00 05 00 01 00"
-    ∷ "39 00 0f 00 48 00 03 00 4b 00 12 00 5d 00 0b 00 68 00 26 00 8e 00 1f 00"
+    ("02 00 06 00 05 00 01 00"
+    ∷ "39 00 0f 00 48 00 03 00 4b 00 13 00 5e 00 0c 00 6a 00 26 00 90 00 1f 00"
     ∷ "00 00 00 00 03 00 00 00 05 00 00 00 02 00 00 00 04 00 00 00"
     ∷ "04 72 69 64 65"
     ∷ "04 01 4e 08 03 02 00 00 00 10 02 01 69 01 6a"
     ∷ "05 01 4b"
-    ∷ "01 01 45 00 02 00 01 00 00 00 01 73 00 00 00 00 01 72"
-    ∷ "02 01 46 01 00 00 00 00 00 01 70"
+    ∷ "01 01 45 00 08 02 00 01 00 00 00 01 73 00 00 00 00 01 72"
+    ∷ "02 01 46 04 01 00 00 00 00 00 01 70"
     ∷ "03 01 55 01 00 01 00 00 00 01 79 02 00 01 00 00 00 01 68 00 00 00 03 04 00 00 00 00 00 00 00 01 66 00 00 00 00 01"
     ∷ "00 01 4d 00 02 00 01 00 00 00 01 62 00 00 00 03 01 00 00 00 00 00 00 00 01 61 00 00 00 00 01"
     ∷ [])
@@ -100,14 +101,15 @@ pub record Example : Type 0 where
 
 -- the same declarations, of which others are listed, or in another order
 abbrev pub listing : Schema → List ℕ → Schema
-listing s ids = record { registry = s.registry; ids = ids; namespace = s.namespace }
+listing s ids = record { format = s.format; registry = s.registry; ids = ids; namespace = s.namespace }
 
 -- two messages of one name
 abbrev pub twoMessages : Schema
 twoMessages = record {
+  format = 1;
   registry =
-      some (decl (number messageKind) (bytes "A") unmarked (field 0 "x" unmarked none u8 ∷ []) [] noType)
-      ∷ some (decl (number messageKind) (bytes "A") unmarked [] [] noType)
+      some (decl (number messageKind) (bytes "A") unmarked none (field 0 "x" unmarked none u8 ∷ []) [] noType)
+      ∷ some (decl (number messageKind) (bytes "A") unmarked none [] [] noType)
       ∷ [];
   ids = 0 ∷ 1 ∷ [];
   namespace = [];
@@ -129,7 +131,8 @@ pub record Readings : Type 0 where
 -- an impl, and a message without a name
 abbrev pub unnamed : Schema
 unnamed = record {
-  registry = some impl ∷ some (decl (number messageKind) [] unmarked [] [] noType) ∷ [];
+  format = 1;
+  registry = some impl ∷ some (decl (number messageKind) [] unmarked none [] [] noType) ∷ [];
   ids = 0 ∷ 1 ∷ [];
   namespace = [];
 }
@@ -150,7 +153,7 @@ ofBits names = newtype (leaf (label (number bitsTag) 0 0 (map bytes names))) []
 
 -- newtype A of the named type with id 1, a config of that name
 abbrev pub ofNamed : String → Schema
-ofNamed name = newtype (named 1) (some (decl (number configKind) (bytes name) unmarked [] [] noType) ∷ [])
+ofNamed name = newtype (named 1) (some (decl (number configKind) (bytes name) unmarked none [] [] noType) ∷ [])
 
 pub record Needed : Type 0 where
   -- Without the premise the claim would be false: which of two messages of one name stands depends on the order, and so it is with an impl

@@ -89,6 +89,7 @@ module _ (R S : Registry) (to : ℕ → ℕ) where
     pub name : v.name ≡ w.name
     pub fields : Reordered RefiledField v.fields w.fields
 
+  -- that it keeps its width is not asked: the report of 01 does not read it
   pub record RefiledDecl (d e : Decl) : Type 0 where
     pub kind : d.kind ≡ e.kind
     pub name : d.name ≡ e.name
@@ -104,7 +105,7 @@ pub record Renumbered (R S : Registry) (to from : ℕ → ℕ) : Type 0 where
   pub back : (j : ℕ) → Resolvable S j → Resolvable R (from j) × (to (from j) ≡ j)
   pub entry : (i : ℕ) (d e : Decl) → standsFor R i ≡ some d → standsFor S (to i) ≡ some e → RefiledDecl R S to d e
 
--- t is s filed anew
+-- t is s filed anew, in the same format or in another
 pub record Refiled (s t : Schema) : Type 0 where
   pub to : ℕ → ℕ
   pub from : ℕ → ℕ

@@ -3,12 +3,9 @@ use mathlib.Core.Path.{◌≡◌, refl}
 use mathlib.Core.Option.{Option, none, some}
 use mathlib.Core.List.{[], ◌∷◌}
 use Prim.Native.Nat.{ℕ}
-use Rattle.image.specs.Formats.{known, hasWidths}
-use Rattle.image.specs.Widths.{wireBitsAt, wireBytes, wireBytesAt, widthAt}
 use Rattle.image.specs.Schema.{unmarked, noType, decl, Schema}
 use Rattle.image.specs.Parse.{ok}
 use Rattle.image.specs.Image.{readImage}
-use Rattle.rules.specs.Widths.{showWidth, compareWidths, mixed, mixedCheck}
 use Rattle.rules.specs.PinnedImports.{importsTold}
 use Rattle.rules.specs.PinnedMended.{mendedTold}
 use Rattle.rules.specs.Ignored.{unsized, unsizedSchema, SameUnsized}
@@ -27,15 +24,15 @@ held format bits wire = record {
 }
 
 unsized-read : readImage unsizedImage ≡ ok (held 1 none none) 47
-unfolding reads known hasWidths wireBitsAt wireBytes wireBytesAt widthAt
+unfolding reads
 unsized-read = refl
 
 narrow_read : readImage narrowImage ≡ ok (held 2 (some 8) (some 1)) 49
-unfolding reads known hasWidths wireBitsAt wireBytes wireBytesAt widthAt
+unfolding reads
 narrow_read = refl
 
 wide-read : readImage wideImage ≡ ok (held 2 (some 16) (some 2)) 49
-unfolding reads known hasWidths wireBitsAt wireBytes wireBytesAt widthAt
+unfolding reads
 wide-read = refl
 
 formats-same : SameUnsized unsizedImage narrowImage
@@ -63,7 +60,7 @@ widths-same = record {
 }
 
 pub pinned-ignored : PinnedIgnored
-unfolding reports importsTold mendedTold known hasWidths wireBitsAt wireBytes wireBytesAt widthAt showWidth compareWidths mixed mixedCheck
+unfolding reports importsTold mendedTold
 pinned-ignored = record {
   formats = formats-same;
   widths = widths-same;
