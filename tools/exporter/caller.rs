@@ -1,16 +1,25 @@
 //! From a schema to the file of its image: a caller of exporter.rs, to be copied
 //! beside it (`pub mod caller;` in lib.rs) and changed at will.
+//!
+//! ```ignore
+//! caller::write_image(&schema, exporter::Format::Two, Path::new("new.img"))
+//! ```
+//!
+//! The mended verdict needs format 2 on both sides, as this call asks for it: it
+//! compares the widths of enums and flags, which format 1 (`Format::One`) does not hold.
+//! The schema must have been through `typeck::check`, where they come from. The other
+//! verdicts read either format.
 
-use super::exporter::export;
+use super::exporter::{export, Format};
 use crate::ir::CompiledSchema;
 use std::path::Path;
 
-/// Writes the image of a schema to a file, and answers whether it did. What the
-/// image hides, and why there is none, is told on standard error. Of a refused
+/// Writes the image of a schema in a format to a file, and answers whether it did. What
+/// the image hides, and why there is none, is told on standard error. Of a refused
 /// schema nothing is written: what stood at the path still stands there.
-pub fn write_image(schema: &CompiledSchema, path: &Path) -> bool {
+pub fn write_image(schema: &CompiledSchema, format: Format, path: &Path) -> bool {
     let place = path.display();
-    let exported = match export(schema) {
+    let exported = match export(schema, format) {
         Ok(exported) => exported,
         Err(refused) => {
             eprintln!("{place}: {refused}");

@@ -1,11 +1,11 @@
-//! From a `CompiledSchema` to an image of format 1, the file that the comparer
+//! From a `CompiledSchema` to an image of format 1 or 2, the file that the comparer
 //! reads, or the reason why there is no such image.
 //!
 //! One file over `std` alone, made to be a module of the crate vexil-lang:
 //! copy it beside compat.rs, write `pub mod exporter;` in lib.rs and call
 //!
 //! ```ignore
-//! let exported = exporter::export(&schema)?;
+//! let exported = exporter::export(&schema, exporter::Format::Two)?;
 //! for warning in &exported.warnings {
 //!     eprintln!("{warning}");
 //! }
@@ -14,6 +14,9 @@
 //!
 //! caller.rs, beside this file, is a whole function that does so, to be copied too.
 //!
+//! The mended verdict needs format 2 on both sides; all others read both formats, and
+//! answer to a schema in either one the same. `Format::One` has no widths.
+//!
 //! As a part of that crate it does not compile once the IR has a kind, a type
 //! or an encoding more, so none is dropped in silence.
 //!
@@ -21,13 +24,17 @@
 //! (a stub becomes an empty entry, with a warning), the listed ids as they are, resolvable or
 //! not, and of each definition what `compat::check` reads: names, ordinals and
 //! bits, types, encodings with limits, and the marks deprecated and
-//! non-exhaustive of messages, enums and fields.
+//! non-exhaustive of messages, enums and fields. In format 2 also the widths as they
+//! stand in the schema: `wire_bits` of enums, `wire_bytes` of flags. They are 0 until
+//! `typeck::check` fills them in, which it does for what a schema declares itself: an
+//! import comes with those of its own check, or with 0. A 0 of an enum is written; of
+//! flags it is refused.
 //!
 //! Lost are all other annotations, also deprecation's reason and the marks of
 //! other definitions, of variants and of bits; tombstones, constants,
-//! constraints, wire sizes, an enum's backing type, spans, origins, aliases that
-//! the registry resolves; of configs, generic aliases and traits all but the
-//! name; of impls everything.
+//! constraints, wire sizes, in format 1 the widths, an enum's backing type, spans,
+//! origins, aliases that the registry resolves; of configs, generic aliases and traits
+//! all but the name; of impls everything.
 //!
 //! A warning names an entry that was left a stub, such as an import that was not
 //! resolved. The image hides what it stands for: a field that goes from one stub to
@@ -41,7 +48,7 @@
 //! |---|---|
 //! | 4 | over 512 entries or listed ids, over 16 segments, over 255 names of inline bits |
 //! | 7 | a name over 255 bytes or with a byte other than a letter, a digit or `_` |
-//! | 9 | a sub-byte type of 0 or over 64 bits |
+//! | 9 | a sub-byte type of 0 or over 64 bits; in format 2 wire bytes of flags other than 1, 2, 4 or 8 |
 //! | 10 | a 33rd node on a path of a type, a ninth delta |
 //! | 1 | over 32,768 bytes at a body's end; over 65,535 items in a list |
 //!
@@ -65,12 +72,39 @@ const IDS: usize = 512;
 const SEGMENTS: usize = 16;
 const NODES: usize = 32;
 const DELTAS: usize = 8;
+const WIRE_BYTES: [u8; 4] = [1, 2, 4, 8];
 
 const LONG: u8 = 1;
 const CROWDED: u8 = 4;
 const NAME: u8 = 7;
 const CODE: u8 = 9;
 const DEEP: u8 = 10;
+
+/// The format of an image, by its number. A later one holds what those before it hold.
+#[derive(Clone, Copy, PartialEq, Eq, PartialOrd, Ord, Debug)]
+pub enum Format {
+    One = 1,
+    /// With the widths of enums and flags.
+    Two = 2,
+}
+
+impl Format {
+    const ALL: [Format; 2] = [Format::One, Format::Two];
+
+    /// The format of a number, if there is one.
+    pub fn of(number: u16) -> Option<Format> {
+        let mut all = Format::ALL.into_iter();
+        all.find(|format| format.number() == number)
+    }
+
+    pub fn number(self) -> u16 {
+        self as u16
+    }
+
+    fn has_widths(self) -> bool {
+        self >= Format::Two
+    }
+}
 
 /// The image of a schema, and what it hides.
 #[derive(Clone, PartialEq, Eq, Debug, Default)]
@@ -143,9 +177,9 @@ impl std::error::Error for Refused {}
 
 type Written = Result<(), Refused>;
 
-/// The image of a schema, with its warnings.
-pub fn export(schema: &CompiledSchema) -> Result<Exported, Refused> {
-    let mut image = vec![1, 0];
+/// The image of a schema in a format, with its warnings.
+pub fn export(schema: &CompiledSchema, format: Format) -> Result<Exported, Refused> {
+    let mut image = format.number().to_le_bytes().to_vec();
     put_count(&mut image, schema.registry.len(), ENTRIES, "registry")?;
     put_count(&mut image, schema.declarations.len(), IDS, "declarations")?;
     put_count(&mut image, schema.namespace.len(), SEGMENTS, "namespace")?;
@@ -159,7 +193,7 @@ pub fn export(schema: &CompiledSchema) -> Result<Exported, Refused> {
             .map_err(|refused| refused.within(format!("namespace, segment {place}")))?;
     }
     for (id, def) in schema.registry.iter() {
-        put_entry(&mut image, id, def)?;
+        put_entry(&mut image, format, id, def)?;
     }
     let warnings = warnings(&schema.registry);
     Ok(Exported { image, warnings })
@@ -193,10 +227,10 @@ fn put_count(image: &mut Vec<u8>, count: usize, most: usize, place: &str) -> Wri
 
 /// Appends the body and notes it in the contents. The length is judged here,
 /// for offset and length fit their u16 as long as the image is not too long.
-fn put_entry(image: &mut Vec<u8>, id: TypeId, def: &TypeDef) -> Written {
+fn put_entry(image: &mut Vec<u8>, format: Format, id: TypeId, def: &TypeDef) -> Written {
     let heading = Heading::of(def);
     let offset = image.len();
-    put_body(image, &heading, def)
+    put_body(image, format, &heading, def)
         .and_then(|()| judge_length(image))
         .map_err(|refused| {
             refused
@@ -254,7 +288,7 @@ impl fmt::Display for Heading<'_> {
     }
 }
 
-fn put_body(image: &mut Vec<u8>, heading: &Heading, def: &TypeDef) -> Written {
+fn put_body(image: &mut Vec<u8>, format: Format, heading: &Heading, def: &TypeDef) -> Written {
     image.push(heading.kind);
     if let Some(name) = heading.name {
         put_name(image, name)?;
@@ -266,9 +300,17 @@ fn put_body(image: &mut Vec<u8>, heading: &Heading, def: &TypeDef) -> Written {
         }
         TypeDef::Enum(d) => {
             put_marks(image, &d.annotations);
+            if format.has_widths() {
+                image.push(d.wire_bits);
+            }
             put_list(image, &d.variants)
         }
-        TypeDef::Flags(d) => put_list(image, &d.bits),
+        TypeDef::Flags(d) => {
+            if format.has_widths() {
+                put_wire_bytes(image, d.wire_bytes).map_err(|refused| refused.within("width"))?;
+            }
+            put_list(image, &d.bits)
+        }
         TypeDef::Union(d) => put_list(image, &d.variants),
         TypeDef::Newtype(d) => put_root(image, &d.inner_type),
         TypeDef::Config(_) | TypeDef::GenericAlias(_) | TypeDef::Trait(_) | TypeDef::Impl(_) => {
@@ -295,6 +337,15 @@ fn put_name(image: &mut Vec<u8>, name: &str) -> Written {
 fn put_marks(image: &mut Vec<u8>, annotations: &ResolvedAnnotations) {
     let deprecated = u8::from(annotations.deprecated.is_some());
     image.push(deprecated + 2 * u8::from(annotations.non_exhaustive));
+}
+
+fn put_wire_bytes(image: &mut Vec<u8>, bytes: u8) -> Written {
+    if !WIRE_BYTES.contains(&bytes) {
+        let found = format!("flags of {bytes} wire bytes, which are 1, 2, 4 or 8");
+        return Err(Refused::new(CODE, found));
+    }
+    image.push(bytes);
+    Ok(())
 }
 
 /// What a body lists: a number, a name and more.

@@ -13,7 +13,7 @@ use crate::refiling::{refiled, repeat};
 use crate::rng::Rng;
 use crate::text;
 #[cfg(vexil)]
-use crate::vexil::{caller::write_image, compile};
+use crate::vexil::{caller::write_image, compile, exporter::Format};
 use crate::writer::image;
 use std::collections::BTreeMap;
 use std::fs::File;
@@ -82,12 +82,15 @@ pub fn make(text: &str, image: &str) -> Outcome {
 }
 
 /// The same by way of a `CompiledSchema`, as a build of Vexil does it: with the
-/// exporter and its caller. An empty entry becomes a stub.
+/// exporter, which is asked for the text's format, and its caller. An empty entry
+/// becomes a stub.
 #[cfg(vexil)]
 pub fn export(text: &str, image: &str) -> Outcome {
     let read = std::fs::read_to_string(text).map_err(|error| format!("{text}: {error}"))?;
     let schema = text::parse(&read).map_err(|fault| format!("{text}: {fault}"))?;
-    match write_image(&compile(&schema), Path::new(image)) {
+    let format = Format::of(schema.format);
+    let format = format.ok_or_else(|| format!("{text}: no export in its format"))?;
+    match write_image(&compile(&schema), format, Path::new(image)) {
         true => Ok(()),
         false => Err(format!("{image}: not written")),
     }

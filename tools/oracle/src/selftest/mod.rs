@@ -16,6 +16,7 @@ mod recording;
 mod refiling;
 mod samples;
 mod texts;
+mod widths;
 mod words;
 
 use crate::commands::Outcome;
@@ -53,6 +54,7 @@ impl Tests {
 pub fn run() -> Outcome {
     let mut tests = Tests::default();
     reading::run(&mut tests);
+    widths::run(&mut tests);
     words::run(&mut tests);
     clauses::run(&mut tests);
     listing::run(&mut tests);

@@ -3,7 +3,7 @@
 
 use super::Tests;
 use crate::answer::{judge, Side, SELECTORS};
-use crate::limits::{FORMATS, REPORT_BYTES};
+use crate::limits::REPORT_BYTES;
 use crate::make::*;
 use crate::random::random_schema;
 use crate::reader::read_image;
@@ -37,7 +37,6 @@ pub fn run(tests: &mut Tests) {
     front(tests);
     contents(tests);
     bodies(tests);
-    in_formats(tests);
     fields(tests);
     types(tests);
     answers(tests);
@@ -155,26 +154,6 @@ fn bodies(tests: &mut Tests) {
         &[3, 0, 1, 0, 7, 0, 0, 0, 0],
         8,
     );
-}
-
-/// A body of any kind in another format.
-fn in_formats(tests: &mut Tests) {
-    let widths = vec![
-        enumeration("E", 2, items(&[(0, "a"), (7, "b")])).of_width(16),
-        flags("F", items(&[(8, "i")])).of_width(2),
-    ];
-    let others = (0..9).map(|kind| of_kind(kind, "Name"));
-    let whole = schema(widths.into_iter().chain(others).collect());
-    for format in FORMATS {
-        let schema = whole.clone().in_format(format);
-        let bytes = image(&schema);
-        tests.equal(
-            "the format stands first",
-            bytes[..2].to_vec(),
-            format.to_le_bytes().to_vec(),
-        );
-        tests.equal("every kind in a format", read_image(&bytes), Ok(schema));
-    }
 }
 
 fn fields(tests: &mut Tests) {

@@ -1,17 +1,23 @@
 //! The text of an image: shown and made again it gives the same bytes, and a
 //! fault in it is told with its line.
 
+use super::widths::widened;
 use super::{read_file, Tests};
 use crate::cases;
 use crate::commands::random_pair;
+use crate::make::{enumeration, flags, item, schema};
+use crate::random::random_schema;
 use crate::reader::read_image;
 use crate::record::SEED;
 use crate::rng::Rng;
 use crate::text::{make, show};
+use crate::writer::image;
 
 pub fn run(tests: &mut Tests) {
     round_trips(tests);
-    example(tests);
+    example(tests, "namespace ");
+    example(tests, "format ");
+    formats(tests);
     leniency(tests);
     faults(tests);
     type_faults(tests);
@@ -43,20 +49,114 @@ fn round_trips(tests: &mut Tests) {
     let (accepted, differing) = changed(pairs.iter().flat_map(|(old, new)| [old, new]));
     tests.equal("shown and made: random images", differing, vec![]);
     tests.holds("6,000 random images or more", accepted >= 6_000);
+    let wide = (0..2_000).map(|_| {
+        let schema = random_schema(&mut rng, 12);
+        image(&widened(&mut rng, schema))
+    });
+    let wide: Vec<_> = wide.collect();
+    let (accepted, differing) = changed(wide.iter());
+    tests.equal("shown and made: images of format 2", differing, vec![]);
+    tests.equal("all of them", accepted, wide.len());
 }
 
-/// The example of README.md is the text of an image.
-fn example(tests: &mut Tests) {
+/// The example of README.md whose first line starts so is the text of an image.
+fn example(tests: &mut Tests, first: &str) {
     let readme = String::from_utf8_lossy(&read_file("tools/oracle/README.md")).into_owned();
     let block: Vec<&str> = readme
         .lines()
-        .skip_while(|line| !line.starts_with("    namespace "))
+        .skip_while(|line| !line.starts_with(&format!("    {first}")))
         .take_while(|line| line.is_empty() || line.starts_with("    "))
         .map(|line| line.strip_prefix("    ").unwrap_or(""))
         .collect();
     let text = block.join("\n").trim_end().to_string() + "\n";
     let shown = make(&text).map(|image| read_image(&image).map(|schema| show(&schema)));
     tests.equal("the README's example", shown, Ok(Ok(text)));
+}
+
+/// The line of the format, and the widths that it asks for.
+fn formats(tests: &mut Tests) {
+    let schema = schema(vec![
+        enumeration("Mode", 3, vec![item(0, "Stop")]).of_width(255),
+        enumeration("width", 0, vec![]).of_width(0),
+        flags("Lamps", vec![item(8, "red")]).of_width(2),
+    ]);
+    let wide = "format 2\nnamespace ride\ndeclares Mode#0 width#1 Lamps#2\n\n\
+                #0 enum Mode deprecated non_exhaustive width 255\n  @0 Stop\n\n\
+                #1 enum width width 0\n\n\
+                #2 flags Lamps width 2\n  @8 red\n";
+    let schema = schema.in_format(2);
+    tests.equal("format 2, shown", show(&schema).as_str(), wide);
+    tests.equal("format 2, made", make(wide), Ok(image(&schema)));
+    let schema = schema.in_format(1);
+    let narrow = "namespace ride\ndeclares Mode#0 width#1 Lamps#2\n\n\
+                  #0 enum Mode deprecated non_exhaustive\n  @0 Stop\n\n\
+                  #1 enum width\n\n\
+                  #2 flags Lamps\n  @8 red\n";
+    tests.equal("format 1, shown", show(&schema).as_str(), narrow);
+    tests.equal("format 1, made", make(narrow), Ok(image(&schema)));
+    let written = format!("\n format  1\n{narrow}");
+    tests.equal("format 1, written out", make(&written), make(narrow));
+    let loose = wide.replace("format 2", "\n  format  2 ");
+    tests.equal("format 2, with spaces", make(&loose), make(wide));
+    format_faults(tests);
+    width_faults(tests);
+}
+
+fn format_faults(tests: &mut Tests) {
+    let mut fault = |text: &str, wanted: &str| {
+        tests.equal(text, make(text), Err(wanted.to_string()));
+    };
+    for format in ["0", "3", "65535"] {
+        let text = format!("format {format}\nnamespace\ndeclares\n");
+        let wanted = format!("line 1: format {format}, known are 1 to 2");
+        fault(&text, &wanted);
+    }
+    let range = "line 2: not a number of its range:";
+    fault("\nformat 65536", &format!("{range} 65536"));
+    fault("\nformat\n", &format!("{range} "));
+    fault("\nformat two", &format!("{range} two"));
+    fault("format 2 1", "line 1: not understood: 1");
+    fault("format 2", "line 2: `namespace` is missing");
+    fault("format 2\ndeclares", "line 2: `namespace` is missing");
+    fault("format2\n", "line 1: `namespace` is missing");
+    let twice = "line 2: `namespace` is missing";
+    fault("format 2\nformat 2\nnamespace", twice);
+    let late = "line 3: `#` is missing before: format 2";
+    fault("namespace\ndeclares\nformat 2", late);
+}
+
+fn width_faults(tests: &mut Tests) {
+    let mut fault = |format: u16, heading: &str, wanted: &str| {
+        let text = format!("format {format}\nnamespace\ndeclares\n#0 {heading}\n");
+        tests.equal(&text, make(&text), Err(format!("line 4: {wanted}")));
+    };
+    let missing = "`width` is missing, which format 2 has";
+    for heading in ["enum E", "enum E non_exhaustive", "enum width", "flags F"] {
+        fault(2, heading, missing);
+    }
+    let too_many = "a `width`, and format 1 has none";
+    for heading in [
+        "enum E width 8",
+        "enum E deprecated width 8",
+        "flags F width 1",
+    ] {
+        fault(1, heading, too_many);
+    }
+    for format in [1, 2] {
+        let none = "not understood: width 8";
+        for heading in ["message M width 8", "union U width 8", "config C width 8"] {
+            fault(format, heading, none);
+        }
+    }
+    fault(2, "enum E width 8 deprecated", "not understood: deprecated");
+    let range = "not a number of its range:";
+    fault(2, "enum E width 256", &format!("{range} 256"));
+    fault(2, "enum E width", &format!("{range} "));
+    fault(2, "flags F width 1x", &format!("{range} 1x"));
+    for bytes in (0..=255).filter(|bytes| ![1, 2, 4, 8].contains(bytes)) {
+        let wanted = format!("a flags width of {bytes}, which is 1, 2, 4 or 8");
+        fault(2, &format!("flags F width {bytes}"), &wanted);
+    }
 }
 
 /// Blank lines, spaces and indents do not count.

@@ -2,13 +2,17 @@
 
 use super::scanner::{Reference, Scanner};
 use super::{at, shown_name, Parsed};
-use crate::limits::{ENTRIES, IDS, SEGMENTS};
+use crate::limits::{ENTRIES, FORMATS, IDS, SEGMENTS};
 use crate::schema::*;
 
 pub fn parse(text: &str) -> Result<Schema, String> {
     let lines = (1..).zip(text.lines());
-    let mut lines = lines.filter(|(_, line)| !line.trim().is_empty());
+    let lines = lines.filter(|(_, line)| !line.trim().is_empty());
+    let mut lines = lines.peekable();
     let mut reading = Reading::default();
+    if let Some(line) = lines.next_if(|(_, line)| Scanner::new(line).eat_word("format")) {
+        reading.line(line, Reading::format)?;
+    }
     let end = text.lines().count() + 1;
     let mut front = |word| {
         let missing = || at(end, format!("`{word}` is missing"));
@@ -46,6 +50,18 @@ impl Reading {
         Ok(())
     }
 
+    /// In front of all else; a text without it is of the first format.
+    fn format(&mut self, line: &mut Scanner) -> Parsed<()> {
+        line.eat_word("format");
+        let format = line.number()?;
+        if !FORMATS.contains(&format) {
+            let (first, last) = (FORMATS.start(), FORMATS.end());
+            return Err(format!("format {format}, known are {first} to {last}"));
+        }
+        self.schema.format = format;
+        Ok(())
+    }
+
     fn namespace(&mut self, line: &mut Scanner) -> Parsed<()> {
         self.schema.namespace = listed(line, "namespace", SEGMENTS, Scanner::name)?;
         Ok(())
@@ -74,7 +90,7 @@ impl Reading {
         }
         let entry = match line.eat_word("empty") {
             true => None,
-            false => Some(declaration(line)?),
+            false => Some(declaration(self.schema.format, line)?),
         };
         self.schema.registry.push(entry);
         Ok(())
@@ -145,7 +161,7 @@ fn listed<'a, T>(
     }
 }
 
-fn declaration(line: &mut Scanner) -> Parsed<Declaration> {
+fn declaration(format: u16, line: &mut Scanner) -> Parsed<Declaration> {
     let word = line.word();
     let Some(kind) = KIND_NAMES.iter().position(|name| *name == word) else {
         return Err(format!("no kind: {word}"));
@@ -156,8 +172,14 @@ fn declaration(line: &mut Scanner) -> Parsed<Declaration> {
     };
     let body = match kind as u8 {
         0 => Body::Message(marks(line), Vec::new()),
-        1 => Body::Enum(marks(line), None, Vec::new()),
-        2 => Body::Flags(None, Vec::new()),
+        1 => Body::Enum(marks(line), width(format, line)?, Vec::new()),
+        2 => {
+            let width = width(format, line)?;
+            if let Some(bytes) = width.filter(|bytes| !WIRE_BYTES.contains(bytes)) {
+                return Err(format!("a flags width of {bytes}, which is 1, 2, 4 or 8"));
+            }
+            Body::Flags(width, Vec::new())
+        }
         3 => Body::Union(Vec::new()),
         4 => {
             line.expect(":")?;
@@ -175,6 +197,16 @@ fn marks(line: &mut Scanner) -> Marks {
     Marks {
         deprecated: line.eat_word("deprecated"),
         non_exhaustive: line.eat_word("non_exhaustive"),
+    }
+}
+
+/// A width stands exactly where the format has one.
+fn width(format: u16, line: &mut Scanner) -> Parsed<Width> {
+    match (line.eat_word("width"), has_widths(format)) {
+        (true, true) => Ok(Some(line.number()?)),
+        (false, false) => Ok(None),
+        (true, false) => Err(format!("a `width`, and format {format} has none")),
+        (false, true) => Err(format!("`width` is missing, which format {format} has")),
     }
 }
 

@@ -7,10 +7,12 @@ use crate::types::{bits_display, display, encoding_display, sub_byte_display, PR
 pub fn show(schema: &Schema) -> String {
     let segments = schema.namespace.iter().map(|segment| name(segment));
     let listed = schema.declarations.iter().map(|id| reference(schema, *id));
-    let mut lines = vec![
-        listing("namespace", segments.collect()),
-        listing("declares", listed.collect()),
-    ];
+    let mut lines = Vec::new();
+    if schema.format != FIRST_FORMAT {
+        lines.push(format!("format {}", schema.format));
+    }
+    lines.push(listing("namespace", segments.collect()));
+    lines.push(listing("declares", listed.collect()));
     for (id, entry) in schema.registry.iter().enumerate() {
         lines.push(String::new());
         match entry {
@@ -47,7 +49,9 @@ fn heading(schema: &Schema, declaration: &Declaration) -> String {
     let kind = KIND_NAMES[usize::from(declaration.kind())];
     let named = format!("{kind} {}", name(&declaration.name));
     match &declaration.body {
-        Body::Message(marks, _) | Body::Enum(marks, _, _) => named + &marked(*marks),
+        Body::Message(marks, _) => named + &marked(*marks),
+        Body::Enum(marks, width, _) => named + &marked(*marks) + &wide(*width),
+        Body::Flags(width, _) => named + &wide(*width),
         Body::Newtype(inner) => format!("{named}: {}", ty(schema, inner)),
         Body::Impl => kind.to_string(),
         _ => named,
@@ -62,6 +66,13 @@ fn marked(marks: Marks) -> String {
         ""
     };
     format!("{deprecated}{open}")
+}
+
+fn wide(width: Width) -> String {
+    match width {
+        Some(width) => format!(" width {width}"),
+        None => String::new(),
+    }
 }
 
 fn items(schema: &Schema, body: &Body) -> Vec<String> {

@@ -1,5 +1,6 @@
 //! What an image does not hold is not written, and `check` does not read it.
 
+use super::super::widths::widened;
 use super::super::Tests;
 use crate::ast::{DefaultValue, EnumBacking, PrimitiveType};
 use crate::cases::rich::rich;
@@ -9,9 +10,9 @@ use crate::model::{alias_pair, PLAIN};
 use crate::random::random_schema;
 use crate::record::SEED;
 use crate::rng::Rng;
-use crate::schema::Schema;
+use crate::schema::{has_widths, Schema};
 use crate::span::Span;
-use crate::vexil::exporter::export;
+use crate::vexil::exporter::{export, Format};
 use crate::vexil::{compile, real_answer};
 use crate::writer::image;
 use smol_str::SmolStr;
@@ -24,9 +25,16 @@ pub fn run(tests: &mut Tests) {
         let new = edited(&mut rng, &old, 6);
         (old, new)
     }));
+    // Half of them in format 2, which holds the widths.
+    let wide = |(old, new): &(Schema, Schema), rng: &mut Rng| {
+        [old, new].map(|schema| widened(rng, schema.clone())).into()
+    };
+    let more: Vec<_> = pairs.iter().map(|pair| wide(pair, &mut rng)).collect();
+    pairs.extend(more);
     let written = pairs.iter().all(|(schema, _)| {
         let bytes = image(schema);
-        export(&laden(schema)).is_ok_and(|exported| exported.image == bytes)
+        let exported = Format::of(schema.format).map(|format| export(&laden(schema), format));
+        exported.is_some_and(|exported| exported.is_ok_and(|e| e.image == bytes))
     });
     tests.holds("what an image does not hold is not written", written);
     let read = pairs
@@ -42,8 +50,8 @@ fn text() -> SmolStr {
     SmolStr::new("not in an image")
 }
 
-/// The compiled schema, with something in the members that an image does not
-/// hold; of configs, aliases, traits and impls in some of them.
+/// The compiled schema, with something in the members that its image does not hold; of
+/// configs, aliases, traits and impls in some of them.
 fn laden(schema: &Schema) -> CompiledSchema {
     let mut compiled = compile(schema);
     add_marks(&mut compiled.annotations);
@@ -57,6 +65,9 @@ fn laden(schema: &Schema) -> CompiledSchema {
         compiled.registry.set_origin(id, text(), text());
         if let Some(def) = compiled.registry.get_mut(id) {
             load(def);
+            if !has_widths(schema.format) {
+                load_width(def);
+            }
         }
     }
     let registry = &mut compiled.registry;
@@ -122,6 +133,15 @@ fn load(def: &mut TypeDef) {
     }
 }
 
+/// No width that flags could have in an image.
+fn load_width(def: &mut TypeDef) {
+    match def {
+        TypeDef::Enum(d) => d.wire_bits = 16,
+        TypeDef::Flags(d) => d.wire_bytes = 3,
+        _ => {}
+    }
+}
+
 fn load_message(message: &mut MessageDef) {
     annotate(&mut message.annotations);
     message.span = span();
@@ -135,7 +155,6 @@ fn load_enum(enumeration: &mut EnumDef) {
     enumeration.span = span();
     enumeration.tombstones.push(tombstone());
     enumeration.backing = Some(EnumBacking::U16);
-    enumeration.wire_bits = 16;
     for variant in &mut enumeration.variants {
         add_marks(&mut variant.annotations);
         variant.span = span();
@@ -146,7 +165,6 @@ fn load_flags(flags: &mut FlagsDef) {
     add_marks(&mut flags.annotations);
     flags.span = span();
     flags.tombstones.push(tombstone());
-    flags.wire_bytes = 2;
     for bit in &mut flags.bits {
         add_marks(&mut bit.annotations);
         bit.span = span();

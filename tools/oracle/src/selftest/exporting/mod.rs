@@ -5,20 +5,27 @@ mod lost;
 mod refusals;
 mod stubs;
 
+use super::widths::widened;
 use super::Tests;
 use crate::cases;
 use crate::commands::random_pair;
+use crate::edits::edited;
+use crate::limits::FORMATS;
 use crate::model::{alias_pair, PLAIN};
+use crate::random::random_schema;
 use crate::reader::read_image;
 use crate::record::SEED;
 use crate::rng::Rng;
 use crate::schema::Schema;
-use crate::vexil::exporter::{export, Exported};
+use crate::vexil::exporter::{export, Exported, Format, Refused};
 use crate::vexil::{compile, real_answer};
+use crate::writer::image;
 
 pub fn run(tests: &mut Tests) {
     recorded(tests);
     random(tests);
+    wide(tests);
+    formats(tests);
     lost::run(tests);
     refusals::run(tests);
     stubs::run(tests);
@@ -40,7 +47,7 @@ impl RoundTrips {
         let again = [0, 1].map(|side| {
             let schema = schemas[side].as_ref()?;
             self.images += 1;
-            let exported = export(&compile(schema)).unwrap_or_else(|refused| {
+            let exported = again(schema).unwrap_or_else(|refused| {
                 self.changed.push(format!("{name}: {refused}"));
                 Exported::default()
             });
@@ -66,6 +73,12 @@ impl RoundTrips {
             self.changed.push(format!("{name}: the answer of check"));
         }
     }
+}
+
+/// Exported in the schema's own format.
+fn again(schema: &Schema) -> Result<Exported, Refused> {
+    let format = Format::of(schema.format);
+    export(&compile(schema), format.expect("every format is exported"))
 }
 
 fn empty_entries(schema: &Schema) -> Vec<u32> {
@@ -98,4 +111,37 @@ fn random(tests: &mut Tests) {
     tests.equal("random images come out the same", trips.changed, vec![]);
     tests.holds("6,000 random images or more", trips.images >= 6_000);
     tests.holds("2,000 random verdicts or more", trips.verdicts >= 2_000);
+}
+
+/// The same pairs with widths; each image in format 1 again is that of the schema
+/// without.
+fn wide(tests: &mut Tests) {
+    let mut trips = RoundTrips::default();
+    let mut rng = Rng::new(SEED);
+    let mut narrowed = true;
+    for place in 0..2_000 {
+        let old = random_schema(&mut rng, 8);
+        let new = edited(&mut rng, &old, 6);
+        let [old, new] = [old, new].map(|schema| widened(&mut rng, schema));
+        trips.pair(&format!("wide pair {place}"), &image(&old), &image(&new));
+        narrowed &= [old, new].into_iter().all(|schema| {
+            let narrow = export(&compile(&schema), Format::One);
+            narrow.map(|exported| exported.image) == Ok(image(&schema.in_format(1)))
+        });
+    }
+    tests.equal("wide images come out the same", trips.changed, vec![]);
+    tests.equal("wide images", trips.images, 4_000);
+    tests.holds("1,000 wide verdicts or more", trips.verdicts >= 1_000);
+    tests.holds("the widths are left out in format 1", narrowed);
+}
+
+/// Every format that the reader knows is exported, and no other.
+fn formats(tests: &mut Tests) {
+    for number in 0..=u16::MAX {
+        let found = Format::of(number).map(Format::number);
+        let wanted = FORMATS.contains(&number).then_some(number);
+        if found != wanted {
+            tests.equal("a format", found, wanted);
+        }
+    }
 }

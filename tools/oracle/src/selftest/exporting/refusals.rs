@@ -8,7 +8,7 @@ use crate::random::deepened;
 use crate::reader::read_image;
 use crate::schema::{Declaration, Field, Item, Schema, Type, KIND_NAMES};
 use crate::vexil::compile;
-use crate::vexil::exporter::{export, Refused};
+use crate::vexil::exporter::{export, Format, Refused};
 use crate::writer::image;
 
 pub fn run(tests: &mut Tests) {
@@ -18,13 +18,15 @@ pub fn run(tests: &mut Tests) {
     crowded(tests);
     names(tests);
     codes(tests);
+    widths(tests);
     deep(tests);
     order(tests);
     text(tests);
 }
 
 fn exported(schema: &Schema) -> Result<Vec<u8>, Refused> {
-    export(&compile(schema)).map(|exported| exported.image)
+    let format = Format::of(schema.format).expect("every format is exported");
+    export(&compile(schema), format).map(|exported| exported.image)
 }
 
 /// Refused where the format has no room for the schema, so that there are no
@@ -218,6 +220,40 @@ fn codes(tests: &mut Tests) {
     refused(tests, schema(vec![newtype]), 9, place);
 }
 
+/// In format 2 any wire bits of an enum, and four wire bytes of flags; in format 1 they
+/// are not looked at.
+fn widths(tests: &mut Tests) {
+    let of = |width: u8| {
+        let flags = flags("F", many(2)).of_width(width);
+        let wide = enumeration("E", 0, many(1)).of_width(width);
+        let mut schema = schema(vec![wide]).with_entries(vec![None, Some(flags)]);
+        schema.format = 2;
+        schema
+    };
+    let place = r#"entry 2, flags "F", width"#;
+    for width in 0..=255 {
+        match width {
+            1 | 2 | 4 | 8 => tests.equal("a width", exported(&of(width)), Ok(image(&of(width)))),
+            _ => refused(tests, of(width), 9, place),
+        }
+        let narrow = image(&of(width).in_format(1));
+        let found = export(&compile(&of(width)), Format::One);
+        tests.equal("no width", found.map(|exported| exported.image), Ok(narrow));
+    }
+    let order = |name: &str, width: u8, bit: &str| {
+        let flags = flags(name, vec![item(0, bit)]);
+        schema(vec![flags.of_width(width)]).in_format(2)
+    };
+    refused(tests, order("?", 3, "b"), 7, r#"entry 0, flags "?""#);
+    refused(tests, order("F", 3, "?"), 9, r#"entry 0, flags "F", width"#);
+    refused(
+        tests,
+        order("F", 4, "?"),
+        7,
+        r#"entry 0, flags "F", bit "?" @0"#,
+    );
+}
+
 fn deep(tests: &mut Tests) {
     let wrappers = [
         (4, "optional"),
@@ -262,4 +298,9 @@ fn text(tests: &mut Tests) {
     let shown = exported(&of_type(wrapped(4, sub_byte(false, 65)))).map_err(|r| r.to_string());
     let wanted = format!("refused 9: {TYPE}, optional: a sub-byte of 65 bits, 1 to 64");
     tests.equal("a refusal in words", shown, Err(wanted));
+    let lamps = schema(vec![flags("Lamps", vec![]).of_width(3)]).in_format(2);
+    let shown = exported(&lamps).map_err(|refused| refused.to_string());
+    let wanted = "refused 9: entry 0, flags \"Lamps\", width: \
+                  flags of 3 wire bytes, which are 1, 2, 4 or 8";
+    tests.equal("a width refused in words", shown, Err(wanted.to_string()));
 }

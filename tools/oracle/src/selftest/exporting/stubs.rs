@@ -5,7 +5,7 @@ use super::super::calls::{call, Called};
 use super::super::Tests;
 use crate::make::*;
 use crate::vexil::compile;
-use crate::vexil::exporter::{export, Exported};
+use crate::vexil::exporter::{export, Exported, Format};
 use smol_str::SmolStr;
 use std::path::{Path, PathBuf};
 
@@ -35,7 +35,7 @@ fn names(tests: &mut Tests) {
     if let Some(def) = registry.get(crate::ir::TypeId(0)).cloned() {
         registry.fill_stub(late, def);
     }
-    let told = export(&compiled).map(|exported| {
+    let told = export(&compiled, Format::Two).map(|exported| {
         let lines = exported.warnings.iter().map(|warning| warning.to_string());
         lines.collect::<Vec<_>>()
     });
@@ -50,7 +50,7 @@ fn hidden(tests: &mut Tests) {
         let fields = vec![field(0, "limits", named(id))];
         schema(vec![message("M", fields)]).with_entries(vec![None, None])
     };
-    let exported = [1, 2].map(|id| export(&compile(&release(id))));
+    let exported = [1, 2].map(|id| export(&compile(&release(id)), Format::One));
     let images = exported.each_ref().map(|exported| match exported {
         Ok(Exported { image, .. }) => image.clone(),
         Err(_) => Vec::new(),
@@ -77,6 +77,8 @@ fn exported(folder: &Path, name: &str, text: &str) -> (Called, PathBuf) {
 
 const STUB: &str = "namespace a\ndeclares M#0\n#0 message M\n@0 f: <unknown>#2\n\
     #1 trait T\n#2 empty\n";
+const WIDE: &str = "format 2\nnamespace a\ndeclares E#0 F#1\n#0 enum E non_exhaustive width 16\n\
+    @0 v\n#1 flags F width 2\n@8 b\n";
 const WHOLE: &str = "namespace a\ndeclares M#0\n#0 message M\n@0 f: T#1\n#1 trait T\n";
 
 fn callers(tests: &mut Tests, folder: &Path) {
@@ -91,6 +93,13 @@ fn callers(tests: &mut Tests, folder: &Path) {
     tests.equal("without a stub, status", told.status, Some(0));
     tests.equal("without a stub", told.complaint.as_str(), "");
     let made = crate::text::make(WHOLE).ok();
+    tests.equal("its image", std::fs::read(path).ok(), made);
+
+    let (told, path) = exported(folder, "wide.img", WIDE);
+    tests.equal("in format 2, status", told.status, Some(0));
+    tests.equal("in format 2", told.complaint.as_str(), "");
+    let made = crate::text::make(WIDE).ok();
+    tests.holds("a text of format 2", made.is_some());
     tests.equal("its image", std::fs::read(path).ok(), made);
 }
 
