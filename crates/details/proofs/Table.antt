@@ -52,26 +52,26 @@ cut-from text (a ∷ []) (w ∷ ws) t k h = absurd (let z : ◌≡◌ {A = ℕ} 
 cut-from text (a ∷ b ∷ l) (w ∷ ws) t zero h = part_cut text a b w (both (isPart text a b w) (isCut text (b ∷ l) ws) t).0
 cut-from text (a ∷ b ∷ l) (w ∷ ws) t (suc k) h = cut-from text (b ∷ l) ws (both (isPart text a b w) (isCut text (b ∷ l) ws) t).1 k (omega arith)
 
-pub cut_at : (text starts : List ℕ) → isCut text starts names ≡ true → (k : ℕ) → k < 32 → Cut text (wordAt k) (get_or starts k 0) (get_or starts (k + 1) 0)
+pub cut_at : (text starts : List ℕ) → isCut text starts names ≡ true → (k : ℕ) → k < 33 → Cut text (wordAt k) (get_or starts k 0) (get_or starts (k + 1) 0)
 unfolding names wordAt
 cut_at text starts t k h = rw (add-one k) (cut-from text starts names t k h)
 
 -- ---- the words of rules
 
-pub change-word : (k : ℕ) → k < 18 → wordAt k ≡ changeWord k
+pub change-word : (k : ℕ) → k < 19 → wordAt k ≡ changeWord k
 unfolding wordAt names word changeWord
 change-word k h = ap bytes (get_or-append changeNames (bumpNames ++ (resultNames ++ kindNames)) "" k h)
 
-pub bump-word : (l : ℕ) → l < 3 → wordAt (18 + l) ≡ bumpWord l
+pub bump-word : (l : ℕ) → l < 3 → wordAt (19 + l) ≡ bumpWord l
 unfolding wordAt names word bumpWord
 bump-word l h =
     ap bytes
     (get_or-append-add changeNames (bumpNames ++ (resultNames ++ kindNames)) l "" ∙ get_or-append bumpNames (resultNames ++ kindNames) "" l h)
 
-pub result-word : (r : ℕ) → r < 2 → wordAt (21 + r) ≡ resultWord r
+pub result-word : (r : ℕ) → r < 2 → wordAt (22 + r) ≡ resultWord r
 unfolding wordAt names word resultWord
 result-word r h = ap bytes (get_or-append-add (changeNames ++ bumpNames) (resultNames ++ kindNames) r "" ∙ get_or-append resultNames kindNames "" r h)
 
-pub decl-word : (k : ℕ) → wordAt (23 + k) ≡ kindWord k
+pub decl-word : (k : ℕ) → wordAt (24 + k) ≡ kindWord k
 unfolding wordAt names word kindWord
 decl-word k = ap bytes (get_or-append-add (changeNames ++ (bumpNames ++ resultNames)) kindNames k "" ∙ kind-named k)

@@ -11,6 +11,7 @@ use Rattle.text.specs.Decimal.{decimal}
 use Rattle.rules.specs.Text.{boolWord, showType, showEncoding}
 use Rattle.rules.specs.Changes.{quoted, numbered, fromTo}
 use Rattle.rules.specs.Clauses.{showNamespace, variantDecl, declText}
+use Rattle.rules.specs.Widths.{showWidth}
 use Rattle.details.specs.declared.Scope.{Scope}
 use Rattle.details.specs.declared.Scope.TheVariants as scope
 use Rattle.details.specs.declared.Item.{Item}
@@ -65,6 +66,7 @@ unfoldable pub subjectText : List ℕ → List ℕ → Subject → List ℕ
 subjectText old new subject.Namespace = bytes "namespace"
 subjectText old new subject.Declaration = bytes "declaration"
 subjectText old new subject.NonExhaustive = bytes "@non_exhaustive"
+subjectText old new subject.Width = bytes "width"
 subjectText old new (subject.OldDecl at) = declText (declIn old at)
 subjectText old new (subject.NewDecl at) = declText (declIn new at)
 subjectText old new (subject.DeclName at) = quoted (declIn old at).name
@@ -88,6 +90,7 @@ unfoldable pub valueText : List ℕ → Value → List ℕ
 valueText s (value.Name at) = quoted (itemName s at)
 valueText s (value.Kind at) = kindWord (declIn s at).kind
 valueText s (value.NonExhaustive at) = boolWord (declIn s at).marks.nonExhaustive
+valueText s (value.Width at) = showWidth (declIn s at).width
 valueText s (value.Type at) = showType (resolve (schemaOf s).registry (treeIn s at))
 valueText s (value.Encoding at) = showEncoding (fieldIn s at).encoding
 valueText s value.Namespace = showNamespace (schemaOf s).namespace
@@ -120,6 +123,7 @@ unfoldable pub SubjectHere : List ℕ → List ℕ → Subject → Type 0
 SubjectHere old new subject.Namespace = Unit {0}
 SubjectHere old new subject.Declaration = Unit {0}
 SubjectHere old new subject.NonExhaustive = Unit {0}
+SubjectHere old new subject.Width = Unit {0}
 SubjectHere old new (subject.OldDecl at) = DeclHere old at
 SubjectHere old new (subject.NewDecl at) = DeclHere new at
 SubjectHere old new (subject.DeclName at) = DeclHere old at
@@ -133,6 +137,7 @@ unfoldable pub ValueHere : List ℕ → Value → Type 0
 ValueHere s (value.Name at) = ItemHere Shape.Bare s at
 ValueHere s (value.Kind at) = DeclHere s at
 ValueHere s (value.NonExhaustive at) = DeclHere s at
+ValueHere s (value.Width at) = DeclHere s at
 ValueHere s (value.Type at) = TypeHere 32 s at
 ValueHere s (value.Encoding at) = ItemHere Shape.Field s at
 ValueHere s value.Namespace = Unit {0}

@@ -50,6 +50,8 @@ pub enum Subject {
     Declaration,
     // @non_exhaustive
     NonExhaustive,
+    // width
+    Width,
     // message 'Drive'
     OldDecl(usize),
     NewDecl(usize),
@@ -78,13 +80,14 @@ pub enum Verb {
     Deprecated,
 }
 
-// What is shown of one of the two images: the name of an item, the kind or the mark of a declaration, a type, the encoding of a field, the
-// namespace.
+// What is shown of one of the two images: the name of an item, the kind, the mark or the width of a declaration, a type, the encoding of a
+// field, the namespace.
 #[derive(Clone, Copy)]
 pub enum Value {
     Name(usize),
     Kind(usize),
     NonExhaustive(usize),
+    Width(usize),
     Type(usize),
     Encoding(usize),
     Namespace,

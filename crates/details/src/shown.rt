@@ -1,8 +1,9 @@
 // The values that a detail shows of the old and of the new image.
 ghost use Rattle.std.specs.Prelude.{length};
-ghost use Rattle.parts.specs.Promise.{Accepted, schemaOf};
+ghost use Rattle.parts.specs.Promise.{Accepted, schemaOf, widthOf};
 ghost use Rattle.rules.specs.Text.{boolWord};
 ghost use Rattle.rules.specs.Clauses.{showNamespace};
+ghost use Rattle.rules.specs.Widths.{showWidth};
 ghost use Rattle.text.specs.Text.{Space, Puts};
 ghost use Rattle.details.specs.Details.{valueText, fromToText, valuesText, ValueHere, FromToHere, ShownHere};
 
@@ -14,8 +15,9 @@ use display::namespaces::namespace_display;
 use display::type_display;
 use members::fields::field_encoding;
 use members::items::item_name;
-use parts::decls::{decl_kind, non_exhaustive};
-use text::{Mode, put_byte, put_text};
+use parts::Width;
+use parts::decls::{decl_kind, non_exhaustive, width};
+use text::{Mode, put_byte, put_number, put_text};
 
 // `true` or `false`.
 fn put_bool(mode: Mode, out: &mut [u8], at: usize, value: bool) -> usize
@@ -26,6 +28,17 @@ fn put_bool(mode: Mode, out: &mut [u8], at: usize, value: bool) -> usize
         return put_text(mode, out, at, b"true");
     }
     put_text(mode, out, at, b"false")
+}
+
+// A width as it is stored; nothing, where there is none.
+fn put_width(mode: Mode, out: &mut [u8], at: usize, value: Width) -> usize
+    requires { Space mode out.old at (length (showWidth (widthOf value))) }
+    ensures { Puts mode out.old at (showWidth (widthOf value)) result out.new }
+{
+    match value {
+        Width::Wire(n) => put_number(mode, out, at, n as u64),
+        Width::Absent => at,
+    }
 }
 
 // The namespace in quotes.
@@ -47,6 +60,7 @@ fn put_value(mode: Mode, image: &[u8], out: &mut [u8], at: usize, value: Value) 
         Value::Name(i) => put_quoted(mode, out, at, item_name(image, i)),
         Value::Kind(decl) => put_kind(mode, out, at, decl_kind(image, decl)),
         Value::NonExhaustive(decl) => put_bool(mode, out, at, non_exhaustive(image, decl)),
+        Value::Width(decl) => put_width(mode, out, at, width(image, decl)),
         Value::Type(node) => type_display(mode, image, out, at, node),
         Value::Encoding(i) => encoding_display(mode, out, at, field_encoding(image, i)),
         Value::Namespace => put_namespace(mode, image, out, at),

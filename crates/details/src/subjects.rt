@@ -91,6 +91,7 @@ pub fn put_subject(
         Subject::Namespace => put_text(mode, out, at, b"namespace"),
         Subject::Declaration => put_text(mode, out, at, b"declaration"),
         Subject::NonExhaustive => put_text(mode, out, at, b"@non_exhaustive"),
+        Subject::Width => put_text(mode, out, at, b"width"),
         Subject::OldDecl(i) => put_decl(mode, old, out, at, i),
         Subject::NewDecl(j) => put_decl(mode, new, out, at, j),
         Subject::DeclName(i) => put_quoted(mode, out, at, decl_name(old, i)),

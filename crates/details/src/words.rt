@@ -8,25 +8,25 @@ ghost use Rattle.details.specs.Words.{wordAt};
 use text::{Mode, put_text};
 
 // Where the names of bumps, of results and of kinds of declarations begin in the table; it begins with those of kinds of changes.
-pub const BUMPS: usize = 18;
+pub const BUMPS: usize = 19;
 
-pub const RESULTS: usize = 21;
+pub const RESULTS: usize = 22;
 
-const DECLS: usize = 23;
+const DECLS: usize = 24;
 
 // Where each name starts in their text, and where the last ends.
-const STARTS: [usize; 33] = [
-    0, 10, 22, 38, 57, 69, 84, 104, 116, 130, 151, 167, 185, 207, 223, 243, 256, 271, 293, 298,
-    303, 308, 318, 326, 333, 337, 342, 347, 354, 360, 373, 378, 382,
+const STARTS: [usize; 34] = [
+    0, 10, 22, 38, 57, 69, 84, 104, 116, 130, 151, 167, 185, 207, 223, 243, 256, 271, 293, 305,
+    310, 315, 320, 330, 338, 345, 349, 354, 359, 366, 372, 385, 390, 394,
 ];
 
 // The word with a number.
 pub fn put_word(mode: Mode, out: &mut [u8], at: usize, word: usize) -> usize
-    requires { (word < 32) × Space mode out.old at (length (wordAt word)) }
+    requires { (word < 33) × Space mode out.old at (length (wordAt word)) }
     ensures { Puts mode out.old at (wordAt word) result out.new }
 {
     let names =
-        *b"FieldAddedFieldRemovedFieldTypeChangedFieldOrdinalChangedFieldRenamedFieldDeprecatedFieldEncodingChangedVariantAddedVariantRemovedVariantOrdinalChangedDeclarationAddedDeclarationRemovedDeclarationKindChangedNamespaceChangedNonExhaustiveChangedFlagsBitAddedFlagsBitRemovedFlagsBitOrdinalChangedPatchMinorMajorCompatibleBreakingmessageenumflagsunionnewtypeconfiggeneric_aliastraitimpl";
+        *b"FieldAddedFieldRemovedFieldTypeChangedFieldOrdinalChangedFieldRenamedFieldDeprecatedFieldEncodingChangedVariantAddedVariantRemovedVariantOrdinalChangedDeclarationAddedDeclarationRemovedDeclarationKindChangedNamespaceChangedNonExhaustiveChangedFlagsBitAddedFlagsBitRemovedFlagsBitOrdinalChangedWidthChangedPatchMinorMajorCompatibleBreakingmessageenumflagsunionnewtypeconfiggeneric_aliastraitimpl";
     let start = STARTS[word];
     let end = STARTS[word + 1];
     put_text(mode, out, at, &names[start..end])

@@ -1,16 +1,21 @@
--- What the code's readings report besides the clauses: nothing so far, so that no walk asks for it. Assumes nothing.
+-- What the code's readings report besides the clauses: the mended one reports widths first, and nothing else is reported, so that no walk asks
+-- for it. Assumes nothing.
 use mathlib.Core.Path.{◌≡◌, refl}
 use mathlib.Core.List.{List, [], ◌++◌, append-nil}
 use Rattle.image.specs.Schema.{Name, Variant, Decl}
 use Rattle.rules.specs.Changes.{Change}
+use Rattle.rules.specs.Widths.{compareWidths}
 use Rattle.types.specs.Readings.{readingOf}
 use Rattle.types.specs.declared.Reading.{Reading}
 use Rattle.types.specs.declared.Reading.TheVariants.{Plain, Mended}
 
-pub none_first : (r : Reading) (d e : Decl) → (readingOf r).first d e ≡ []
+pub none_first : {r : Reading} → r ≡ Plain → (d e : Decl) → (readingOf r).first d e ≡ []
 unfolding readingOf
-none_first Plain d e = refl
-none_first Mended d e = refl
+none_first p d e = rw p
+
+pub mended_first : {r : Reading} → r ≡ Mended → (d e : Decl) → (readingOf r).first d e ≡ compareWidths d e
+unfolding readingOf
+mended_first p d e = rw p
 
 pub none_last : (r : Reading) (d e : Decl) → (readingOf r).last d e ≡ []
 unfolding readingOf

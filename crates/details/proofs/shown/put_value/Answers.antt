@@ -4,6 +4,7 @@ use Rattle.image.specs.Words.{kindWord}
 use Rattle.parts.proofs.Promise.{decl-most}
 use Rattle.rules.specs.Text.{boolWord, showEncoding}
 use Rattle.rules.specs.Changes.{quoted}
+use Rattle.rules.specs.Widths.{showWidth}
 use Rattle.details.specs.Details.{valueText, ValueHere}
 use Rattle.details.proofs.Writers.{space-as, puts-as}
 use Rattle.details.proofs.shown.put_value.Goals as goal
@@ -32,6 +33,14 @@ pub put_bool-requires : goal.put_bool-requires
 unfolding valueText
 put_bool-requires c = space-as (ap boolWord c.non_exhaustive.ensures) (rw c.in-NonExhaustive.is at c.requires).2
 
+pub width-requires : goal.width-requires
+unfolding ValueHere
+width-requires c = (rw c.in-Width.is at c.requires).1
+
+pub put_width-requires : goal.put_width-requires
+unfolding valueText
+put_width-requires c = space-as (ap showWidth c.width.ensures) (rw c.in-Width.is at c.requires).2
+
 pub field_encoding-requires : goal.field_encoding-requires
 unfolding ValueHere
 field_encoding-requires c = (rw c.in-Encoding.is at c.requires).1
@@ -59,6 +68,10 @@ returns-in-Kind c = rw c.in-Kind.is (puts-as (ap kindWord c.decl_kind.ensures) c
 pub returns-in-NonExhaustive : goal.returns-in-NonExhaustive
 unfolding valueText
 returns-in-NonExhaustive c = rw c.in-NonExhaustive.is (puts-as (ap boolWord c.non_exhaustive.ensures) c.put_bool.ensures)
+
+pub returns-in-Width : goal.returns-in-Width
+unfolding valueText
+returns-in-Width c = rw c.in-Width.is (puts-as (ap showWidth c.width.ensures) c.put_width.ensures)
 
 pub returns-in-Encoding : goal.returns-in-Encoding
 unfolding valueText

@@ -18,6 +18,10 @@ pub put_text-requires-in-NonExhaustive : goal.put_text-requires-in-NonExhaustive
 unfolding subjectText bytes
 put_text-requires-in-NonExhaustive c = (rw c.in-NonExhaustive.is at c.requires).1
 
+pub put_text-requires-in-Width : goal.put_text-requires-in-Width
+unfolding subjectText bytes
+put_text-requires-in-Width c = (rw c.in-Width.is at c.requires).1
+
 pub put_decl-requires : goal.put_decl-requires
 unfolding subjectText bytes SubjectHere
 put_decl-requires c = (rw c.in-OldDecl.is at c.requires)
@@ -65,6 +69,10 @@ returns-in-Declaration c = rw c.in-Declaration.is c.put_text-in-Declaration.ensu
 pub returns-in-NonExhaustive : goal.returns-in-NonExhaustive
 unfolding subjectText bytes
 returns-in-NonExhaustive c = rw c.in-NonExhaustive.is c.put_text-in-NonExhaustive.ensures
+
+pub returns-in-Width : goal.returns-in-Width
+unfolding subjectText bytes
+returns-in-Width c = rw c.in-Width.is c.put_text-in-Width.ensures
 
 pub returns-in-OldDecl : goal.returns-in-OldDecl
 unfolding subjectText bytes

@@ -10,14 +10,14 @@ use Rattle.details.proofs.words.put_word.Goals as goal
 
 -- the code's text and starts
 names : List ℕ
-names = bytes "FieldAddedFieldRemovedFieldTypeChangedFieldOrdinalChangedFieldRenamedFieldDeprecatedFieldEncodingChangedVariantAddedVariantRemovedVariantOrdinalChangedDeclarationAddedDeclarationRemovedDeclarationKindChangedNamespaceChangedNonExhaustiveChangedFlagsBitAddedFlagsBitRemovedFlagsBitOrdinalChangedPatchMinorMajorCompatibleBreakingmessageenumflagsunionnewtypeconfiggeneric_aliastraitimpl"
+names = bytes "FieldAddedFieldRemovedFieldTypeChangedFieldOrdinalChangedFieldRenamedFieldDeprecatedFieldEncodingChangedVariantAddedVariantRemovedVariantOrdinalChangedDeclarationAddedDeclarationRemovedDeclarationKindChangedNamespaceChangedNonExhaustiveChangedFlagsBitAddedFlagsBitRemovedFlagsBitOrdinalChangedWidthChangedPatchMinorMajorCompatibleBreakingmessageenumflagsunionnewtypeconfiggeneric_aliastraitimpl"
 
 starts : List ℕ
 starts =
     0 ∷ 10 ∷ 22 ∷ 38 ∷ 57 ∷ 69 ∷ 84 ∷ 104 ∷ 116 ∷ 130 ∷ 151 ∷ 167 ∷ 185 ∷ 207 ∷ 223 ∷ 243 ∷ 256 ∷ 271
-    ∷ 293 ∷ 298 ∷ 303 ∷ 308 ∷ 318 ∷ 326 ∷ 333 ∷ 337 ∷ 342 ∷ 347 ∷ 354 ∷ 360 ∷ 373 ∷ 378 ∷ 382 ∷ []
+    ∷ 293 ∷ 305 ∷ 310 ∷ 315 ∷ 320 ∷ 330 ∷ 338 ∷ 345 ∷ 349 ∷ 354 ∷ 359 ∷ 366 ∷ 372 ∷ 385 ∷ 390 ∷ 394 ∷ []
 
-cut : (word : ℕ) → word < 32 → Cut names (wordAt word) (slice_index starts word) (slice_index starts (word + 1))
+cut : (word : ℕ) → word < 33 → Cut names (wordAt word) (slice_index starts word) (slice_index starts (word + 1))
 unfolding names starts bytes isCut sameName sameList words
 cut word h = cut_at names starts refl word h
 
