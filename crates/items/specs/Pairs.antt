@@ -26,6 +26,10 @@ pub record DeclPair (old new : List ℕ) (i j : ℕ) : Type 0 where
   pub accepted : BothAccepted old new
   pub here : DeclHere old i × DeclHere new j
 
+-- what is reported of them before their clause
+abbrev pub ofFirst : Reading → List ℕ → List ℕ → ℕ → ℕ → List Change
+ofFirst reading old new i j = (readingOf reading).first (declIn old i) (declIn new j)
+
 -- both of one kind
 pub record KindPair (kind : ℕ) (old new : List ℕ) (i j : ℕ) : Type 0 where
   pub pair : DeclPair old new i j

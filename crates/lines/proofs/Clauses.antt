@@ -17,6 +17,7 @@ use Rattle.text.specs.Decimal.{decimal}
 use Rattle.rules.specs.Changes.{Bump, patch, minor, major, level, kindCount, Change, change, only, quoted, numbered, fromTo}
 use Rattle.rules.specs.Clauses.{compareNamespaces, Reading, Context, context, compareTypes, fieldText, compareFieldNames, sameEncoding, compareEncodings, compareDeprecated, fieldRules, variantText, variantGone, variantCame, compareNonExhaustive, bitText, flagsRules, compareNewtypes, declText, declRules}
 use Rattle.rules.specs.Clauses.{kindChanged as kindsDiffer}
+use Rattle.rules.specs.Widths.{compareWidths}
 use Rattle.rules.proofs.Chain.{bump-bound}
 use Rattle.text.specs.declared.Mode.{Mode}
 use Rattle.tally.specs.Reporting.{Ready, Ran}
@@ -24,7 +25,7 @@ use Rattle.tally.specs.declared.Tally.{Tally}
 use Rattle.tally.proofs.Running.{ran-none}
 use Rattle.lines.specs.Sites.{bumpAt, changeOf, SiteHere}
 use Rattle.details.specs.Details.{declarationOf, itemOf, wordText, itemText, newtypeText, fieldNameText, fieldOrdinalText, subjectText, verbText, valueText, valuesText, detailText, ScopeHere, ItemOfHere, SubjectHere, ValueHere, ValuesHere}
-use Rattle.lines.specs.Clauses.{namespaceChanged, declRemoved, declAdded, kindChanged, fieldRemoved, fieldAdded, fieldRenamed, fieldTypeChanged, fieldEncodingChanged, fieldDeprecated, declDeprecated, nonExhaustiveChanged, variantRemoved, variantAdded, bitRemoved, bitAdded, newtypeChanged}
+use Rattle.lines.specs.Clauses.{namespaceChanged, declRemoved, declAdded, kindChanged, fieldRemoved, fieldAdded, fieldRenamed, fieldTypeChanged, fieldEncodingChanged, fieldDeprecated, declDeprecated, widthChanged, nonExhaustiveChanged, variantRemoved, variantAdded, bitRemoved, bitAdded, newtypeChanged}
 use Rattle.details.specs.declared.Scope.{Scope}
 use Rattle.details.specs.declared.Word.{Word}
 use Rattle.lines.specs.declared.Site.{Site}
@@ -223,6 +224,14 @@ module _ (old new : List ℕ) (a : Accepted old) (b : Accepted new) where
         (compareDeprecated (declIn old i).name none (bytes "declaration") (declIn old i).marks (declIn new j).marks)
     unfolding changeOf bumpAt declarationOf itemOf detailText subjectText verbText valuesText valueText bytes ScopeHere ItemOfHere SubjectHere ValuesHere ValueHere compareDeprecated
     decl-deprecated = record { here = places (declDeprecated i) (omega arith) (omega arith) g tt tt tt; are = refl }
+
+    -- ---- widths of enums and flags
+
+    pub width-changed : Reports old new (widthChanged i j)
+        (not (sameOption eqb (declIn old i).width (declIn new j).width))
+        (compareWidths (declIn old i) (declIn new j))
+    unfolding changeOf bumpAt declarationOf itemOf detailText subjectText verbText valuesText valueText bytes ScopeHere ItemOfHere SubjectHere ValuesHere ValueHere compareWidths
+    width-changed = record { here = places (widthChanged i j) (omega arith) (omega arith) g tt tt (g, h); are = refl }
 
     -- ---- 5. and 7. variants of enums and of unions
 

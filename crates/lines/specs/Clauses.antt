@@ -1,6 +1,6 @@
 -- A site for each change that a clause reports, by clause; i and j are places in the old and in the new image. Assumes nothing.
 use Rattle.std.specs.Prelude.{ℕ}
-use Rattle.rules.specs.Changes.{kindAt, FieldAdded, FieldRemoved, FieldTypeChanged, FieldRenamed, FieldDeprecated, FieldEncodingChanged, VariantAdded, VariantRemoved, DeclarationAdded, DeclarationRemoved, DeclarationKindChanged, NamespaceChanged, NonExhaustiveChanged, FlagsBitAdded, FlagsBitRemoved}
+use Rattle.rules.specs.Changes.{kindAt, FieldAdded, FieldRemoved, FieldTypeChanged, FieldRenamed, FieldDeprecated, FieldEncodingChanged, VariantAdded, VariantRemoved, DeclarationAdded, DeclarationRemoved, DeclarationKindChanged, NamespaceChanged, NonExhaustiveChanged, FlagsBitAdded, FlagsBitRemoved, WidthChanged}
 use Rattle.details.specs.declared.Scope.{Scope}
 use Rattle.details.specs.declared.Item.{Item}
 use Rattle.details.specs.declared.Word.{Word}
@@ -63,6 +63,12 @@ fieldDeprecated scope j = siteOf (kindAt FieldDeprecated) 0 scope (Item.New j) (
 
 abbrev pub declDeprecated : ℕ → Site
 declDeprecated i = siteOf (kindAt FieldDeprecated) 0 (Scope.Old i) Item.Nothing Subject.Declaration Verb.Deprecated Values.Unsaid
+
+-- widths of enums and flags, which the clauses do not compare
+
+abbrev pub widthChanged : ℕ → ℕ → Site
+widthChanged i j =
+    siteOf (kindAt WidthChanged) 2 (Scope.Old i) Item.Nothing Subject.Width Verb.Changed (Values.FromTo (Value.Width i) (Value.Width j))
 
 -- 5. and 7. variants of enums and of unions
 

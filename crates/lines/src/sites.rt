@@ -1,7 +1,7 @@
 // A site for each change that a clause reports. i and j are places in the old and in the new image, `from` and `to` those of types in them;
 // `decl` is the place of a body in the old image.
 ghost use Rattle.std.specs.Prelude.{◌≡◌};
-ghost use Rattle.lines.specs.Clauses.{siteOf, namespaceChanged, declRemoved, declAdded, kindChanged, fieldRemoved, fieldAdded, fieldRenamed, fieldTypeChanged, fieldEncodingChanged, fieldDeprecated, declDeprecated, nonExhaustiveChanged, variantRemoved, variantAdded, bitRemoved, bitAdded, newtypeChanged};
+ghost use Rattle.lines.specs.Clauses.{siteOf, namespaceChanged, declRemoved, declAdded, kindChanged, fieldRemoved, fieldAdded, fieldRenamed, fieldTypeChanged, fieldEncodingChanged, fieldDeprecated, declDeprecated, widthChanged, nonExhaustiveChanged, variantRemoved, variantAdded, bitRemoved, bitAdded, newtypeChanged};
 
 use crate::Site;
 use details::{Detail, Item, Scope, Subject, Value, Values, Verb, Word};
@@ -37,6 +37,8 @@ const NON_EXHAUSTIVE_CHANGED: usize = 14;
 const FLAGS_BIT_ADDED: usize = 15;
 
 const FLAGS_BIT_REMOVED: usize = 16;
+
+const WIDTH_CHANGED: usize = 18;
 
 // Of a kind and a bump.
 fn site(
@@ -225,6 +227,21 @@ pub fn decl_deprecated(i: usize) -> Site
         Subject::Declaration,
         Verb::Deprecated,
         Values::Unsaid,
+    )
+}
+
+// An enum or flags of another width.
+pub fn width_changed(i: usize, j: usize) -> Site
+    ensures { result ≡ widthChanged i j }
+{
+    site(
+        WIDTH_CHANGED,
+        Bump::MAJOR,
+        Scope::Old(i),
+        Item::Nothing,
+        Subject::Width,
+        Verb::Changed,
+        Values::FromTo(Value::Width(i), Value::Width(j)),
     )
 }
 

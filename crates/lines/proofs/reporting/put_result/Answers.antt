@@ -22,11 +22,11 @@ unfolding linePieces lastLineOf
 started t h = owes-start (line-pieces (resultWord (resultAt t.bump.level) ∷ bumpWord t.bump.level ∷ decimal t.changes ∷ [])) h
 
 -- the word of a result that is that of a level
-result-there : {r : ℕ} (l : ℕ) → r ≡ resultAt l → 21 + r < 32
+result-there : {r : ℕ} (l : ℕ) → r ≡ resultAt l → 22 + r < 33
 result-there l e = omega (arith, e, result-most l)
 
-result-named : {r : ℕ} (l : ℕ) → r ≡ resultAt l → wordAt (21 + r) ≡ resultWord (resultAt l)
-result-named l e = ap (λ (n : ℕ). wordAt (21 + n)) e ∙ result-word (resultAt l) (result-most l)
+result-named : {r : ℕ} (l : ℕ) → r ≡ resultAt l → wordAt (22 + r) ≡ resultWord (resultAt l)
+result-named l e = ap (λ (n : ℕ). wordAt (22 + n)) e ∙ result-word (resultAt l) (result-most l)
 
 pub put_word-at-requires : goal.put_word-at-requires
 unfolding bytes
