@@ -26,11 +26,13 @@ use Rattle.rules.proofs.Imports.{imports-rise, imported-holds, imports-numbered,
 use Rattle.rules.proofs.ImportEdges.{import-edges}
 use Rattle.rules.proofs.PinnedImports.{pinned-imports}
 use Rattle.rules.proofs.Ignored.{earlier-ignore}
+use Rattle.rules.proofs.PinnedIgnored.{pinned-ignored}
 use Rattle.rules.proofs.Mended.{three-answers, mended-bounded, mended-ordinary, otherwise, mended-distance-rule}
 use Rattle.rules.proofs.MendedRefusals.{mended-numbered, mended-told, mended-refusals}
 use Rattle.rules.proofs.MendedEdges.{mended-edges}
 use Rattle.rules.proofs.PinnedMended.{pinned-mended}
 use Rattle.listing.proofs.Refusals.{listing-refusals}
+use Rattle.listing.proofs.Ignored.{ignores}
 use Rattle.refiling.proofs.FilingOrder.{filing-order}
 use Rattle.refiling.proofs.Relation.{refilings}
 use Rattle.claims.specs.Claims.{RefusingTwo, ComparingTwo, Refusing, Comparing, Importing, Mending, Widening, Claims}
@@ -102,7 +104,13 @@ mending = record {
 }
 
 widening : Widening
-widening = record { ignored = earlier-ignore; plainCount = no-width-changed viewOf sameType; importsCount = no-width-changed importsView sameType }
+widening = record {
+  ignored = earlier-ignore;
+  listing = ignores;
+  pinned = pinned-ignored;
+  plainCount = no-width-changed viewOf sameType;
+  importsCount = no-width-changed importsView sameType;
+}
 
 pub claims : Claims
 claims = record {

@@ -6,7 +6,7 @@
 -- listing call returns `textLength` of `outcome image room` and leaves `written` of it. That each call does so, for all bytes, buffers and
 -- selectors, within bounds and to an end, is its contract, which has no precondition. The value of this page is proofs/Claims.antt. Assumes
 -- nothing.
-use Rattle.std.specs.Prelude.{◌≡◌, Bool, false, ◌↔◌, [], ◌∷◌, ℕ, ◌^◌, ◌≤◌, ◌<◌, length, take, drop}
+use Rattle.std.specs.Prelude.{◌≡◌, false, ◌↔◌, [], ◌∷◌, ℕ, ◌^◌, ◌≤◌, ◌<◌, length, take, drop}
 use Rattle.maps.specs.Lists.{All}
 use Rattle.image.specs.Schema.{Ty, Schema}
 use Rattle.image.specs.Parse.{ok, no}
@@ -29,9 +29,11 @@ use Rattle.rules.specs.PinnedImports.{PinnedImports}
 use Rattle.rules.specs.Mended.{ThreeAnswers, mended, Otherwise}
 use Rattle.rules.specs.MendedRefusals.{Mixed, MendedRefusals}
 use Rattle.rules.specs.Ignored.{EarlierIgnore}
+use Rattle.rules.specs.PinnedIgnored.{PinnedIgnored}
 use Rattle.rules.specs.MendedEdges.{MendedEdges}
 use Rattle.rules.specs.PinnedMended.{PinnedMended}
 use Rattle.listing.specs.Refusals.{ListingRefusals}
+use Rattle.listing.specs.Ignored.{ListingIgnores}
 use Rattle.refiling.specs.Refiling.{Refilings, FilingOrder}
 
 -- ---- of a verdict on two images, by what it is made of: `plain` is that of 01, `imports` the one with imports, `mended` the mended one
@@ -119,8 +121,11 @@ pub record Mending : Type 0 where
 
 -- R-6: "Widths written out." What the mended verdict makes of widths is above.
 pub record Widening : Type 0 where
-  -- "The earlier verdicts accept both formats and ignore the width."
+  -- "The earlier verdicts accept both formats and ignore the width.": two images that hold the same but for them get the same answers from
+  -- every earlier call, on either side of any pair, and from the listing; and such images, by computation
   pub ignored : EarlierIgnore
+  pub listing : ListingIgnores
+  pub pinned : PinnedIgnored
   -- "The list of counts gains this name at its end, always 0 in the earlier verdicts."
   pub plainCount : (old new : Image) → countBetween (verdictBy plain) (kindAt WidthChanged) old new ≡ 0
   pub importsCount : (old new : Image) → countBetween (verdictBy imports) (kindAt WidthChanged) old new ≡ 0
