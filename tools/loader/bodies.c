@@ -130,17 +130,39 @@ static bool read_declaration_name(struct cursor *c)
     return true;
 }
 
+static bool has_widths(uint64_t format)
+{
+    return format >= 2;
+}
+
+static bool read_wire_bits(struct cursor *c, uint64_t format)
+{
+    uint64_t bits;
+    return !has_widths(format) || read_number(c, 1, "width", &bits);
+}
+
+static bool read_wire_bytes(struct cursor *c, uint64_t format)
+{
+    uint64_t bytes;
+    if (!has_widths(format))
+        return true;
+    if (!read_number(c, 1, "width", &bytes))
+        return false;
+    return bytes == 1 || bytes == 2 || bytes == 4 || bytes == 8
+        || refuse(c, VEXIL_COMPAT_REFUSAL_CODE, c->at - 1, (struct found){"width", VALUE, bytes});
+}
+
 /* What follows kind and name. */
-static bool read_rest(struct cursor *c)
+static bool read_rest(struct cursor *c, uint64_t format)
 {
     uint64_t marks;
     switch (c->fault.place.kind) {
     case MESSAGE:
         return read_code(c, "marks", 0, 3, &marks) && read_list(c, "count", read_field);
     case ENUM:
-        return read_code(c, "marks", 0, 3, &marks) && read_list(c, "count", read_enum_variant);
+        return read_code(c, "marks", 0, 3, &marks) && read_wire_bits(c, format) && read_list(c, "count", read_enum_variant);
     case FLAGS:
-        return read_list(c, "count", read_bit);
+        return read_wire_bytes(c, format) && read_list(c, "count", read_bit);
     case UNION:
         return read_list(c, "count", read_union_variant);
     case NEWTYPE:
@@ -150,7 +172,7 @@ static bool read_rest(struct cursor *c)
     }
 }
 
-bool read_body(struct cursor *c)
+bool read_body(struct cursor *c, uint64_t format)
 {
     uint64_t kind;
     if (!read_number(c, 1, "kind", &kind))
@@ -158,7 +180,7 @@ bool read_body(struct cursor *c)
     if (kind > IMPL)
         return refuse(c, VEXIL_COMPAT_REFUSAL_KIND, c->at - 1, (struct found){"kind", VALUE, kind});
     c->fault.place.kind = (int)kind;
-    if ((kind != IMPL && !read_declaration_name(c)) || !read_rest(c))
+    if ((kind != IMPL && !read_declaration_name(c)) || !read_rest(c, format))
         return false;
     return c->at == c->end || refuse(c, VEXIL_COMPAT_REFUSAL_BODY, c->at, (struct found){"left over", BYTES, c->end - c->at});
 }

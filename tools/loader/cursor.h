@@ -24,7 +24,7 @@ bool read_number(struct cursor *c, size_t width, const char *what, uint64_t *num
 bool read_code(struct cursor *c, const char *what, uint64_t least, uint64_t most, uint64_t *code);
 bool read_name(struct cursor *c, const char *what);
 
-/* A whole body, to its end. */
-bool read_body(struct cursor *c);
+/* A whole body of an image of this format, to its end. */
+bool read_body(struct cursor *c, uint64_t format);
 
 #endif

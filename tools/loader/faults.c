@@ -4,13 +4,20 @@
 
 #include <inttypes.h>
 
+enum { FIRST_FORMAT = 1, LAST_FORMAT = 2 };
 enum { HEAD_BYTES = 8, PAIR_BYTES = 4, ID_BYTES = 4, MOST_ENTRIES = 512, MOST_IDS = 512, MOST_SEGMENTS = 16 };
 
 struct head {
+    uint64_t format;
     size_t entries;
     size_t ids;
     size_t segments;
 };
+
+uint64_t format_of(const uint8_t *image)
+{
+    return number_at(image, 2);
+}
 
 /* A number of the head. */
 static bool count_at(struct cursor *c, size_t at, const char *what, size_t most, size_t *count)
@@ -24,9 +31,9 @@ static bool read_head(struct cursor *c, struct head *head)
 {
     if (!take(c, HEAD_BYTES, "head"))
         return false;
-    uint64_t format = number_at(c->image, 2);
-    if (format != 1)
-        return refuse(c, VEXIL_COMPAT_REFUSAL_FORMAT, 0, (struct found){"format", VALUE, format});
+    head->format = format_of(c->image);
+    if (head->format < FIRST_FORMAT || head->format > LAST_FORMAT)
+        return refuse(c, VEXIL_COMPAT_REFUSAL_FORMAT, 0, (struct found){"format", VALUE, head->format});
     return count_at(c, 2, "N", MOST_ENTRIES, &head->entries) && count_at(c, 4, "M", MOST_IDS, &head->ids)
         && count_at(c, 6, "S", MOST_SEGMENTS, &head->segments);
 }
@@ -108,7 +115,7 @@ static bool read_bodies(struct cursor *c, const struct head *head)
         c->at = body.offset;
         c->end = body.offset + body.length;
         c->fault.place = (struct place){.entry = (int)id, .kind = NO_KIND};
-        if (!read_body(c))
+        if (!read_body(c, head->format))
             return false;
     }
     return true;
@@ -117,7 +124,7 @@ static bool read_bodies(struct cursor *c, const struct head *head)
 struct fault find_fault(const uint8_t *image, size_t length)
 {
     struct cursor c = {image, 0, length, VEXIL_COMPAT_REFUSAL_SHORT_HEAD, {.place = {.entry = NO_ENTRY, .kind = NO_KIND}}};
-    struct head head = {0, 0, 0};
+    struct head head = {0, 0, 0, 0};
     if (length > VEXIL_COMPAT_IMAGE_BYTES)
         refuse(&c, VEXIL_COMPAT_REFUSAL_LONG, 0, (struct found){"image", BYTES, length});
     else if (read_front(&c, &head) && judge_contents(&c, &head))

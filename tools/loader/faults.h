@@ -35,7 +35,8 @@ struct fault {
 
 struct fault find_fault(const uint8_t *image, size_t length);
 
-/* Of an accepted image: how many entries it has, and the place of one; false if that one is empty. */
+/* Of an accepted image: its format, how many entries it has, and the place of one; false if that one is empty. */
+uint64_t format_of(const uint8_t *image);
 size_t count_entries(const uint8_t *image);
 bool find_entry(const uint8_t *image, size_t id, struct place *place);
 
