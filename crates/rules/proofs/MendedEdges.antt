@@ -1,4 +1,4 @@
--- The edges of R-5 hold, by computation from the definitions alone. Assumes nothing.
+-- The edges of R-5 and R-6 hold, by computation from the definitions alone. Assumes nothing.
 use mathlib.Core.Path.{refl}
 use Rattle.rules.specs.ImportEdges.{told, under}
 use Rattle.rules.specs.MendedEdges.{MendedEdges}
@@ -53,4 +53,20 @@ mended-edges = record {
   marked = refl;
   inVariant = refl;
   changedInVariant = refl;
+  ninthBit = refl;
+  ninthBitPlain = refl;
+  ninthBitImports = refl;
+  equalBytes = refl;
+  equalBits = refl;
+  bitInside = refl;
+  wider = refl;
+  narrower = refl;
+  fromZero = refl;
+  toZero = refl;
+  bitsPlain = refl;
+  beforeOpenness = refl;
+  inEach = refl;
+  kindChanged = refl;
+  gone = refl;
+  notListed = refl;
 }

@@ -1,17 +1,17 @@
--- R-5 on its edges: the three answers on small types, and each as the whole report of two small schemas, by the mended verdict and, where it
--- says something, by that of document 01. Assumes nothing.
+-- R-5 and R-6 on their edges: the three answers on small types, and each as the whole report of two small schemas, by the mended verdict and,
+-- where it says something, by that of document 01; then widths, in the same way. Assumes nothing.
 use Rattle.std.specs.Prelude.{◌≡◌, List, [], ◌∷◌, ℕ}
-use Rattle.std.proofs.Math.Option.{none}
+use Rattle.std.proofs.Math.Option.{none, some}
 use Prim.Native.String.{String}
-use Rattle.image.specs.Schema.{unmarked, Ty, Schema}
-use Rattle.image.specs.Codes.{number, vec2Tag, vec3Tag, vec4Tag, quatTag, mat3Tag, mat4Tag}
+use Rattle.image.specs.Schema.{unmarked, Ty, noType, Variant, Decl, decl, Schema}
+use Rattle.image.specs.Codes.{number, flagsKind, vec2Tag, vec3Tag, vec4Tag, quatTag, mat3Tag, mat4Tag}
 use Rattle.image.specs.Words.{bytes}
 use Rattle.rules.specs.Types.{resolve}
 use Rattle.rules.specs.Answer.{Policy, plain}
 use Rattle.rules.specs.Imports.{imports}
 use Rattle.rules.specs.Mended.{equal, alike, different, likeness, mended}
-use Rattle.rules.specs.Edges.{newtype, named, around, fixedArray, u8, f32, deprecated, field, message, union, silent}
-use Rattle.rules.specs.ImportEdges.{told, entry, naming, holding, optional, map, result, under, fieldNaming}
+use Rattle.rules.specs.Edges.{schema, newtype, named, around, fixedArray, u8, f32, deprecated, nonExhaustive, field, message, variant, enumOf, union, silent}
+use Rattle.rules.specs.ImportEdges.{told, entry, naming, holding, listing, optional, map, result, under, fieldNaming}
 
 abbrev pub vec2 : Ty → Ty
 vec2 t = around (number vec2Tag) t
@@ -44,6 +44,16 @@ byField t = holding (message (fieldNaming ∷ [])) (entry "B" t ∷ [])
 -- the type that names B there
 abbrev pub toB : Ty → Ty
 toB t = resolve (byField t).registry (named 1)
+
+-- flags of a width in wire bytes, under a name; A is one, or A an enum and B is one
+abbrev pub flagsNamed : String → ℕ → List Variant → Decl
+flagsNamed name width vs = decl (number flagsKind) (bytes name) unmarked (some width) [] vs noType
+
+abbrev pub flagsOf : ℕ → List Variant → Schema
+flagsOf width vs = schema (flagsNamed "A" width vs) []
+
+abbrev pub both : Schema → Decl → Schema
+both s d = listing (holding s (some d ∷ [])) (1 ∷ [])
 
 pub record MendedEdges : Type 0 where
   -- ---- the answers
@@ -115,3 +125,33 @@ pub record MendedEdges : Type 0 where
   pub inVariant : told mended (within (vec3 f32)) (within (vec3 f32)) ≡ silent
   pub changedInVariant : told mended (within (vec3 f32)) (within (vec3 u8))
       ≡ bytes "FieldTypeChanged;Major;A::v;+x;field 'x' @0 type changed from vec3<f32> to vec3<u8>\nBreaking;Major;1\n"
+  -- ---- widths: a ninth bit, by the mended verdict and by the others
+  pub ninthBit : told mended (flagsOf 1 []) (flagsOf 2 (variant 8 "x" ∷ []))
+      ≡ bytes "WidthChanged;Major;A;-;width changed from 1 to 2\nFlagsBitAdded;Minor;A;+x;bit 'x' @8 was added\nBreaking;Major;2\n"
+  pub ninthBitPlain : told plain (flagsOf 1 []) (flagsOf 2 (variant 8 "x" ∷ []))
+      ≡ bytes "FlagsBitAdded;Minor;A;+x;bit 'x' @8 was added\nCompatible;Minor;1\n"
+  pub ninthBitImports : told imports (flagsOf 1 []) (flagsOf 2 (variant 8 "x" ∷ []))
+      ≡ bytes "FlagsBitAdded;Minor;A;+x;bit 'x' @8 was added\nCompatible;Minor;1\n"
+  -- equal ones, and other bits in the same width
+  pub equalBytes : told mended (flagsOf 8 []) (flagsOf 8 []) ≡ silent
+  pub equalBits : told mended (enumOf 255 unmarked []) (enumOf 255 unmarked []) ≡ silent
+  pub bitInside : told mended (flagsOf 1 []) (flagsOf 1 (variant 7 "x" ∷ [])) ≡ bytes "FlagsBitAdded;Minor;A;+x;bit 'x' @7 was added\nCompatible;Minor;1\n"
+  -- narrower and wider, and an enum's at its ends
+  pub wider : told mended (flagsOf 4 []) (flagsOf 8 []) ≡ bytes "WidthChanged;Major;A;-;width changed from 4 to 8\nBreaking;Major;1\n"
+  pub narrower : told mended (flagsOf 8 []) (flagsOf 4 []) ≡ bytes "WidthChanged;Major;A;-;width changed from 8 to 4\nBreaking;Major;1\n"
+  pub fromZero : told mended (enumOf 0 unmarked []) (enumOf 255 unmarked []) ≡ bytes "WidthChanged;Major;A;-;width changed from 0 to 255\nBreaking;Major;1\n"
+  pub toZero : told mended (enumOf 255 unmarked []) (enumOf 0 unmarked []) ≡ bytes "WidthChanged;Major;A;-;width changed from 255 to 0\nBreaking;Major;1\n"
+  pub bitsPlain : told plain (enumOf 0 unmarked []) (enumOf 255 unmarked []) ≡ silent
+  -- it stands before all else of its declaration, and only there
+  pub beforeOpenness : told mended (enumOf 8 unmarked []) (enumOf 16 nonExhaustive [])
+      ≡ bytes "WidthChanged;Major;A;-;width changed from 8 to 16\nNonExhaustiveChanged;Major;A;-;@non_exhaustive changed from false to true\nBreaking;Major;2\n"
+  pub inEach : told mended (both (enumOf 8 unmarked (variant 0 "x" ∷ [])) (flagsNamed "B" 1 [])) (both (enumOf 16 unmarked []) (flagsNamed "B" 2 []))
+      ≡ bytes "WidthChanged;Major;A;-;width changed from 8 to 16\nVariantRemoved;Major;A;+x;variant 'x' @0 was removed\nWidthChanged;Major;B;-;width changed from 1 to 2\nBreaking;Major;3\n"
+  -- where the kind has changed, or a side has no declaration of the name, there is none
+  pub kindChanged : told mended (enumOf 8 unmarked []) (flagsOf 1 [])
+      ≡ bytes "DeclarationKindChanged;Major;A;-;'A' changed from enum to flags\nBreaking;Major;1\n"
+  pub gone : told mended (both (enumOf 8 unmarked []) (flagsNamed "B" 1 [])) (enumOf 8 unmarked [])
+      ≡ bytes "DeclarationRemoved;Major;B;-;flags 'B' was removed\nBreaking;Major;1\n"
+  -- of a declaration that is not listed, none is compared
+  pub notListed : told mended (holding (enumOf 8 unmarked []) (some (flagsNamed "B" 1 []) ∷ [])) (holding (enumOf 8 unmarked []) (some (flagsNamed "B" 2 []) ∷ []))
+      ≡ silent
