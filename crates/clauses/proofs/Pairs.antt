@@ -17,16 +17,17 @@ use Rattle.rules.specs.Survivors.{variantOrdinal, variantMap}
 use Rattle.rules.specs.Changes.{Change, quoted}
 use Rattle.rules.specs.Clauses.{compareTypes, fieldText, compareFieldNames, sameEncoding, compareEncodings, compareDeprecated, compareFields, fieldRules, compareFieldSets, compareMessages, enumRules, compareNonExhaustive, compareEnums, flagsRules, compareFlags, unionRules, compareUnions, compareNewtypes}
 use Rattle.types.specs.Readings.{readingOf}
-use Rattle.types.proofs.Besides.{none_after}
+use Rattle.types.proofs.Besides.{mended_first, none_after}
 use Rattle.types.specs.declared.Reading.{Reading}
+use Rattle.types.specs.declared.Reading.TheVariants.{Mended}
 use Rattle.survivors.specs.Runs.{itemIn, itemOrdinal, itemMap, itemsOf, Holds}
 use Rattle.survivors.specs.declared.Found.{Found}
 use Rattle.survivors.specs.declared.Found.TheVariants.{At}
 use Rattle.details.specs.Details.{declarationOf, ScopeHere}
-use Rattle.lines.specs.Clauses.{fieldRenamed, fieldTypeChanged, fieldEncodingChanged, fieldDeprecated, declDeprecated, nonExhaustiveChanged, newtypeChanged}
+use Rattle.lines.specs.Clauses.{fieldRenamed, fieldTypeChanged, fieldEncodingChanged, fieldDeprecated, declDeprecated, widthChanged, nonExhaustiveChanged, newtypeChanged}
 use Rattle.details.specs.declared.Scope.{Scope}
-use Rattle.lines.proofs.Clauses.{Reports, field-renamed, field-type-changed, field-encoding-changed, field-deprecated, decl-deprecated, non-exhaustive-changed, newtype-changed}
-use Rattle.items.specs.Pairs.{contextOf, BothAccepted, DeclPair, KindPair, ofPair, typesDiffer, FieldPair}
+use Rattle.lines.proofs.Clauses.{Reports, field-renamed, field-type-changed, field-encoding-changed, field-deprecated, decl-deprecated, width-changed, non-exhaustive-changed, newtype-changed}
+use Rattle.items.specs.Pairs.{contextOf, BothAccepted, DeclPair, KindPair, ofFirst, ofPair, typesDiffer, FieldPair}
 use Rattle.items.specs.Items.{OwnerHere, ItemsIn, ItemIn, FoundOff, fieldItems, unionItems, shape, rules, keptItems, keptAt, itemChanges}
 use Rattle.items.specs.declared.Side.{Side}
 use Rattle.items.specs.declared.Owner.{Owner}
@@ -136,6 +137,12 @@ module _ {old new : List ℕ} {i j : ℕ} (p : DeclPair old new i j) where
       (not (declIn old i).marks.deprecated && (declIn new j).marks.deprecated)
       (compareDeprecated (declIn old i).name none (bytes "declaration") (declIn old i).marks (declIn new j).marks)
   decl-marked = decl-deprecated old new p.accepted.0 p.accepted.1 i j p.here.0 p.here.1
+
+  -- what the mended reading reports first
+  pub width-first : {reading : Reading} → reading ≡ Mended → Reports old new (widthChanged i j)
+      (not (sameOption eqb (declIn old i).width (declIn new j).width))
+      (ofFirst reading old new i j)
+  width-first m = rw (mended_first m (declIn old i) (declIn new j)) (width-changed old new p.accepted.0 p.accepted.1 i j p.here.0 p.here.1)
 
   pub openness-changed : Reports old new (nonExhaustiveChanged i j)
       (not (beq (declIn old i).marks.nonExhaustive (declIn new j).marks.nonExhaustive))

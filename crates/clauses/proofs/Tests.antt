@@ -9,9 +9,10 @@ use lib.Dec.{eqb}
 use borrow.Author.Tests.{eq-eqb, ne_eqb}
 use Rattle.text.specs.declared.Mode.{Mode}
 use Rattle.image.specs.Schema.{Name, Encoding}
-use Rattle.parts.specs.Promise.{TypeHere, codingOf, limitOf}
+use Rattle.parts.specs.Promise.{TypeHere, codingOf, limitOf, widthOf}
 use Rattle.parts.specs.declared.Encoding.{Encoding as Coded}
 use Rattle.parts.specs.declared.Limit.{Limit}
+use Rattle.parts.specs.declared.Width.{Width}
 use Rattle.rules.specs.Equal.{sameOption, sameName}
 use Rattle.rules.specs.Changes.{Change, only}
 use Rattle.rules.specs.Clauses.{sameEncoding}
@@ -62,6 +63,14 @@ same-marks e f = cc
 -- a mark that is changed
 pub marks-differ : {a b c d : Bool} → a ≡ b → c ≡ d → not (beq a c) ≡ not (beq b d)
 marks-differ e f = cc
+
+-- ---- widths
+
+pub same-widths : {a b x y : Width} → a ≡ x → b ≡ y → sameOption eqb (widthOf x) (widthOf y) ≡ sameOption eqb (widthOf a) (widthOf b)
+same-widths e f = rw (e, f)
+
+pub widths-differ : {r : Bool} {a b x y : Option ℕ} → r ≡ sameOption eqb a b → a ≡ x → b ≡ y → not r ≡ not (sameOption eqb x y)
+widths-differ e f g = cc
 
 -- ---- encodings and limits
 

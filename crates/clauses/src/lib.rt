@@ -1,4 +1,4 @@
-// The clauses over two declarations of one kind, under the names of compat.rs.
+// The clauses over two declarations of one kind, under the names of compat.rs; and their widths.
 #![tactic(auto)]
 
 pub mod enums;
@@ -8,3 +8,4 @@ pub mod messages;
 pub mod newtypes;
 pub mod reporting;
 pub mod unions;
+pub mod widths;
