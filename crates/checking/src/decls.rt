@@ -10,6 +10,7 @@ use clauses::flags::compare_flags;
 use clauses::messages::compare_messages;
 use clauses::newtypes::compare_newtypes;
 use clauses::unions::compare_unions;
+use clauses::widths::compare_widths;
 use items::{Side, Walk};
 use lines::reporting::emit;
 use lines::sites::{decl_added, decl_removed, kind_changed};
@@ -61,6 +62,7 @@ fn compare_decls(
         let mode = walk.mode;
         return emit(mode, old, new, out, t, kind_changed(i, j));
     }
+    let t = compare_widths(walk, old, new, out, t, i, j);
     compare_kind(walk, old, new, out, t, kind, i, j)
 }
 
