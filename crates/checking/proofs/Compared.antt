@@ -1,7 +1,7 @@
 -- Two declarations under one name: kinds that differ are reported, and two of one kind are compared by its clause. Assumes nothing.
 use mathlib.Core.Path.{◌≡◌, refl, sym, ◌∙◌}
 use mathlib.Core.Bool.{true}
-use mathlib.Core.List.{List, [], ◌∷◌, ◌++◌, append-nil}
+use mathlib.Core.List.{List, [], ◌∷◌, append-nil}
 use Prim.Native.Nat.{ℕ, zero, suc}
 use borrow.Author.Tests.{eq-eqb, ne_eqb}
 use Rattle.image.specs.Schema.{Decl}

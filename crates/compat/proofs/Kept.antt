@@ -1,34 +1,34 @@
 -- What is asked of every policy, policy by policy: a further one adds a clause to each. Assumes nothing.
 use mathlib.Core.Path.{◌≡◌, refl, sym, ap, ◌∙◌}
 use mathlib.Core.Bool.{Bool, true, false}
-use mathlib.Core.Option.{none, or_else}
-use mathlib.Core.List.{List}
+use mathlib.Core.Option.{Option, none, or_else}
+use mathlib.Core.List.{List, [], ◌∷◌}
 use Prim.Native.Nat.{ℕ}
 use Rattle.image.specs.Schema.{Schema}
 use Rattle.parts.specs.Promise.{schemaOf}
 use Rattle.rules.specs.Survivors.{View, viewOf}
 use Rattle.rules.specs.Verdict.{aliasPair}
-use Rattle.rules.specs.Clauses.{Reading}
-use Rattle.rules.specs.Answer.{firstFault, aliasCheck, usual, plainReading}
+use Rattle.rules.specs.Answer.{Fault, firstFault, aliasCheck}
 use Rattle.rules.specs.Reached.{IdSet}
 use Rattle.rules.specs.Imports.{viewWith, importsView}
-use Rattle.rules.specs.Mended.{mendedReading}
+use Rattle.rules.specs.Widths.{mixedCheck}
 use Rattle.rules.specs.Refusals.{Numbered}
 use Rattle.rules.proofs.Answer.{plain-numbered}
 use Rattle.rules.proofs.Bound.{Bounded, plain-bounded}
 use Rattle.rules.proofs.Standing.{view-none}
 use Rattle.rules.proofs.Imports.{imports-numbered, imports-bounded}
-use Rattle.rules.proofs.Mended.{mended-numbered, mended-bounded}
+use Rattle.rules.proofs.MendedRefusals.{mended-numbered}
+use Rattle.rules.proofs.Mended.{mended-bounded}
 use Rattle.types.specs.Readings.{readingOf}
 use Rattle.checking.specs.Decls.{bothAliases, allChanges}
-use Rattle.compat.specs.Policies.{policyOf, readingIn, idsBy, changesBy, Prepared, aliasFault}
+use Rattle.compat.specs.Policies.{policyOf, readingIn, idsBy, changesBy, Prepared, formatFault, aliasFault}
 use Rattle.compat.specs.declared.policies.Policy.{Policy}
 use Rattle.compat.specs.declared.policies.Policy.TheVariants as policy
 
--- 11 is the one check of the pair
-one-check : (view : Schema → View) (r : Reading) (x y : Schema) → aliasFault (aliasPair (view x) (view y)) ≡ firstFault (usual view r).pair x y
+-- 11 is the last check of the pair
+last-check : (view : Schema → View) (x y : Schema) → aliasFault (aliasPair (view x) (view y)) ≡ firstFault (aliasCheck view ∷ []) x y
 unfolding aliasFault firstFault aliasCheck or_else
-one-check view r x y = go (aliasPair (view x) (view y))
+last-check view x y = go (aliasPair (view x) (view y))
   where
     go : (u : Bool) → aliasFault u ≡ or_else (aliasFault u) none
     go true = refl
@@ -56,11 +56,12 @@ policy-view policy.Imports x = refl
 policy-view policy.Mended x = sym (view-none x)
 
 -- what its checks of the pair say
-pub policy-pair : (p : Policy) (x y : Schema) → aliasFault (aliasPair ((policyOf p).view x) ((policyOf p).view y)) ≡ firstFault (policyOf p).pair x y
-unfolding policyOf
-policy-pair policy.Plain x y = one-check viewOf plainReading x y
-policy-pair policy.Imports x y = one-check importsView plainReading x y
-policy-pair policy.Mended x y = one-check viewOf mendedReading x y
+pub policy-pair : (p : Policy) (x y : Schema)
+    → or_else (formatFault p x y) (aliasFault (aliasPair ((policyOf p).view x) ((policyOf p).view y))) ≡ firstFault (policyOf p).pair x y
+unfolding policyOf formatFault firstFault or_else
+policy-pair policy.Plain x y = last-check viewOf x y
+policy-pair policy.Imports x y = last-check importsView x y
+policy-pair policy.Mended x y = ap (or_else (mixedCheck x y)) (last-check viewOf x y)
 
 -- how its walk reads
 pub policy-reading : (p : Policy) → readingOf (readingIn p) ≡ (policyOf p).reading
@@ -83,7 +84,8 @@ module _ (p : Policy) {old new : List ℕ} {a b : IdSet} (h : Prepared p old new
   unfolding allChanges changesBy
   policy-changes = rw (old-view, new-view, policy-reading p)
 
-  -- and 11 is told by them
-  pub policy-aliases : aliasFault (bothAliases old new a b) ≡ firstFault (policyOf p).pair (schemaOf old) (schemaOf new)
+  -- and 11, after what comes before it, is told by them
+  pub policy-aliases : {f : Option Fault} → f ≡ formatFault p (schemaOf old) (schemaOf new)
+      → or_else f (aliasFault (bothAliases old new a b)) ≡ firstFault (policyOf p).pair (schemaOf old) (schemaOf new)
   unfolding bothAliases
-  policy-aliases = rw (old-view, new-view) (policy-pair p (schemaOf old) (schemaOf new))
+  policy-aliases e = rw (e, old-view, new-view) (policy-pair p (schemaOf old) (schemaOf new))

@@ -1,6 +1,6 @@
 -- Two images by stages: from what the checks say to the outcome, and what the report call makes of the verdict. Assumes nothing.
 use mathlib.Core.Path.{◌≡◌, refl, sym, ap, ◌∙◌}
-use mathlib.Core.Option.{Option, none}
+use mathlib.Core.Option.{Option, none, or_else}
 use mathlib.Core.List.{List}
 use Prim.Native.Nat.{ℕ, ◌^◌, ◌≤◌, ◌<◌}
 use native.Mathlib.Nat.{zero-add}
@@ -41,6 +41,15 @@ module _ {j : Judged} {o : Option Fault} (e : faultOf j ≡ o) where
   pub says_none : j ≡ judging.Passes → o ≡ none
   unfolding faultOf
   says_none p = sym e ∙ ap faultOf p
+
+  -- what comes before another check: it passes, or its fault is told
+  pub first_passes : j ≡ judging.Passes → (k : Judged) {q : Option Fault} → faultOf k ≡ q → faultOf k ≡ or_else o q
+  unfolding or_else
+  first_passes p k r = r ∙ rw (says_none p)
+
+  pub first-told : {n s : ℕ} → j ≡ judging.Fault n s → (q : Option Fault) → faultOf (judging.Fault n s) ≡ or_else o q
+  unfolding faultOf or_else
+  first-told p q = rw (sym e ∙ ap faultOf p)
 
   pub passes_on : j ≡ judging.Passes → (u : Outcome) → u ≡ judged o u
   unfolding judged

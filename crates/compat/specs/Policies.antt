@@ -11,6 +11,7 @@ use Rattle.rules.specs.Clauses.{changes}
 use Rattle.rules.specs.Answer.{Fault, fault, Policy as Definition, faultIn, plain}
 use Rattle.rules.specs.Reached.{IdSet, reachedSet}
 use Rattle.rules.specs.Imports.{imports}
+use Rattle.rules.specs.Widths.{mixedCheck}
 use Rattle.rules.specs.Mended.{mended}
 use Rattle.items.specs.declared.Walk.{Walk}
 use Rattle.checking.specs.Decls.{BothSearchable}
@@ -60,6 +61,12 @@ pub record Prepared (p : Policy) (old new : List ℕ) (a b : IdSet) : Type 0 whe
   pub newIds : b ≡ idsBy p (schemaOf new)
 
 -- ---- checks
+
+-- what comes before 11: 16 in the mended verdict
+unfoldable pub formatFault : Policy → Schema → Schema → Option Fault
+formatFault policy.Plain x y = none
+formatFault policy.Imports x y = none
+formatFault policy.Mended x y = mixedCheck x y
 
 -- 11, if there is such a pair
 unfoldable pub aliasFault : Bool → Option Fault

@@ -1,13 +1,17 @@
 // What is special to a verdict: a further one is a further case of `Policy`, here and in the functions that take a policy apart.
 ghost use Rattle.std.specs.Prelude.{◌≡◌};
 ghost use Rattle.parts.specs.Promise.{Accepted, schemaOf};
+ghost use Rattle.std.proofs.Math.Option.{or_else};
 ghost use Rattle.rules.specs.Answer.{firstFault, onSide};
+ghost use Rattle.rules.specs.Widths.{mixed, mixedCheck};
+ghost use Rattle.items.specs.Pairs.{BothAccepted};
 ghost use Rattle.checking.specs.Decls.{BothSearchable, bothAliases};
 ghost use Rattle.compat.specs.Policies.{policyOf, readingIn, walkOf, HasIds, Prepared, faultOf, aliasFault};
 
 use checking::aliases::alias_pair;
 use items::Walk;
-use parts::refusals::ALIAS_PAIR;
+use parts::entries::format;
+use parts::refusals::{ALIAS_PAIR, MIXED};
 use parts::sides::BOTH;
 use reached::Reached;
 use reached::follow::{nothing, reached};
@@ -86,6 +90,36 @@ fn judge_aliases(old: &[u8], new: &[u8], old_reached: &[bool], new_reached: &[bo
     Judged::Passes
 }
 
+// Whether one of two images, or both, are of format 1, which stores no widths.
+fn is_mixed(old: &[u8], new: &[u8]) -> bool
+    requires { BothAccepted old.now new.now }
+    ensures { result ≡ mixed (schemaOf old.now) (schemaOf new.now) }
+{
+    format(old) == 1 || format(new) == 1
+}
+
+// 16.
+fn judge_formats(old: &[u8], new: &[u8]) -> Judged
+    requires { BothAccepted old.now new.now }
+    ensures { faultOf result ≡ mixedCheck (schemaOf old.now) (schemaOf new.now) }
+{
+    if is_mixed(old, new) {
+        return Judged::Fault(MIXED, BOTH);
+    }
+    Judged::Passes
+}
+
+// 16, and then 11.
+fn judge_mended(old: &[u8], new: &[u8], old_reached: &[bool], new_reached: &[bool]) -> Judged
+    requires { BothSearchable old.now new.now old_reached.now new_reached.now }
+    ensures { faultOf result ≡ or_else (mixedCheck (schemaOf old.now) (schemaOf new.now)) (aliasFault (bothAliases old.now new.now old_reached.now new_reached.now)) }
+{
+    match judge_formats(old, new) {
+        Judged::Passes => judge_aliases(old, new, old_reached, new_reached),
+        Judged::Fault(number, side) => Judged::Fault(number, side),
+    }
+}
+
 // The checks of the pair, in their order.
 pub fn judge_pair(
     policy: Policy,
@@ -100,6 +134,6 @@ pub fn judge_pair(
     match policy {
         Policy::Plain => judge_aliases(old, new, old_reached, new_reached),
         Policy::Imports => judge_aliases(old, new, old_reached, new_reached),
-        Policy::Mended => judge_aliases(old, new, old_reached, new_reached),
+        Policy::Mended => judge_mended(old, new, old_reached, new_reached),
     }
 }

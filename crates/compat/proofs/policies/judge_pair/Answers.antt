@@ -1,13 +1,19 @@
--- `compat::policies::judge_pair` meets its contract: the one check of every policy is 11. Assumes nothing.
+-- `compat::policies::judge_pair` meets its contract: 11 is the last check of every policy, and the only one of all but the mended one.
+-- Assumes nothing.
 use Rattle.std.proofs.Common.{◌∙◌}
+use mathlib.Core.Option.{none, or_else}
+use Rattle.compat.specs.Policies.{formatFault}
 use Rattle.compat.proofs.Kept.{policy-aliases}
 use Rattle.compat.proofs.policies.judge_pair.Goals as goal
 
 pub returns-in-Plain : goal.returns-in-Plain
-returns-in-Plain c = c.judge_aliases.ensures ∙ policy-aliases _ c.requires
+unfolding formatFault or_else
+returns-in-Plain c = c.judge_aliases.ensures ∙ policy-aliases _ c.requires {f = none} (rw c.in-Plain.is)
 
 pub returns-in-Imports : goal.returns-in-Imports
-returns-in-Imports c = c.judge_aliases-in-Imports.ensures ∙ policy-aliases _ c.requires
+unfolding formatFault or_else
+returns-in-Imports c = c.judge_aliases-in-Imports.ensures ∙ policy-aliases _ c.requires {f = none} (rw c.in-Imports.is)
 
 pub returns-in-Mended : goal.returns-in-Mended
-returns-in-Mended c = c.judge_aliases-in-Mended.ensures ∙ policy-aliases _ c.requires
+unfolding formatFault
+returns-in-Mended c = c.judge_mended.ensures ∙ policy-aliases _ c.requires (rw c.in-Mended.is)
