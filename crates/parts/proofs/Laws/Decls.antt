@@ -1,6 +1,6 @@
 -- Declarations at places of the image. Assumes nothing.
 use mathlib.Core.Path.{◌≡◌, refl, sym, ap, ◌∙◌}
-use mathlib.Core.Bool.{Bool, true, false, cond, ◌&&◌, ◌||◌, false≢true}
+use mathlib.Core.Bool.{Bool, true, false, cond, ◌||◌, false≢true}
 use mathlib.Core.Option.{Option, none, some}
 use mathlib.Core.List.{List, []}
 use Prim.Native.Nat.{ℕ, zero, suc, ◌+◌, ◌≤◌, ◌<◌}
@@ -8,6 +8,7 @@ use native.Mathlib.Omega.{arith}
 use borrow.Author.Tests.{le-leb, lt-leb, eqb-true, eqb-false}
 use lib.Dec.{eqb}
 use lib.ListN.{length, get_or}
+use Rattle.std.proofs.Math.Bool.{and-true, and-false}
 use Rattle.image.specs.Kinds.{Kind, kindOf}
 use Rattle.image.specs.Codes.{number, messageKind, enumKind, flagsKind, unionKind, newtypeKind, configKind, aliasKind, traitKind, implKind}
 use Rattle.image.specs.Schema.{Name, Marks, unmarked, Ty, noType, Field, Variant, Decl, decl}
@@ -32,14 +33,6 @@ use Rattle.parts.proofs.Laws.Starts.{Started, start-nameless, start-named}
 use Rattle.parts.proofs.Laws.Items.{type-here, type-at-is, count-inside, counted_is, counted-good}
 
 -- which kinds have a width, in a format
-and-true : (b : Bool) → (b && true) ≡ b
-and-true true = refl
-and-true false = refl
-
-and-false : (b : Bool) → (b && false) ≡ false
-and-false true = refl
-and-false false = refl
-
 measured-most : (kind : ℕ) → measured kind ≡ true → kind ≤ number flagsKind
 unfolding measured
 measured-most kind e = go (eqb kind 1) (eqb kind 2) refl refl e
