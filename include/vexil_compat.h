@@ -3,7 +3,8 @@
  * one image. docs/FORMAT.md describes images, refusals and reports.
  *
  * Who only wants to know whether to load asks vexil_compat_may_load; or vexil_compat_imports_may_load, which looks at what the schemas import,
- * too; or vexil_compat_mended_may_load, where schemas hold vectors, quaternions or matrices. True is Compatible, and everything else is false.
+ * too; or vexil_compat_mended_may_load, where schemas hold vectors, quaternions or matrices, or where the widths of enums and flags matter:
+ * it asks for images of format 2. True is Compatible, and everything else is false.
  * README, "Which verdict", tells when to ask which. None of them sees all: README, "What is not seen".
  *
  * The library is libvexil_compat.a, for x86-64-v2: `make` proves and builds it, and `make install PREFIX=..` installs it with this header and
@@ -41,8 +42,8 @@ extern "C" {
 
 /* The version of this header: the first number rises if a program may have to change, the second if something is added. */
 #define VEXIL_COMPAT_VERSION_MAJOR 1
-#define VEXIL_COMPAT_VERSION_MINOR 1
-#define VEXIL_COMPAT_VERSION "1.1"
+#define VEXIL_COMPAT_VERSION_MINOR 2
+#define VEXIL_COMPAT_VERSION "1.2"
 
 /* The toolchain that the library is proved with, as `rt version` names it. */
 #define VEXIL_COMPAT_KIT "rattle-kit-13f logic dac8208d650f15bf"
@@ -64,7 +65,7 @@ enum vexil_compat_refusal {
     VEXIL_COMPAT_REFUSAL_NONE = 0,
     VEXIL_COMPAT_REFUSAL_LONG = 1,        /* image over 32,768 bytes */
     VEXIL_COMPAT_REFUSAL_SHORT_HEAD = 2,  /* head, contents, ids or namespace run past the end */
-    VEXIL_COMPAT_REFUSAL_FORMAT = 3,      /* not 1 */
+    VEXIL_COMPAT_REFUSAL_FORMAT = 3,      /* neither 1 nor 2 */
     VEXIL_COMPAT_REFUSAL_CROWDED = 4,     /* over 512 entries or ids, or over 16 namespace segments */
     VEXIL_COMPAT_REFUSAL_CONTENTS = 5,    /* an entry that is not laid out as it must be, or bytes after the last body */
     VEXIL_COMPAT_REFUSAL_KIND = 6,        /* a declaration's kind over 8 */
@@ -73,14 +74,15 @@ enum vexil_compat_refusal {
     VEXIL_COMPAT_REFUSAL_CODE = 9,        /* another coded byte outside its values */
     VEXIL_COMPAT_REFUSAL_DEEP = 10,       /* a 33rd node or a 9th delta */
     VEXIL_COMPAT_REFUSAL_ALIAS_PAIR = 11, /* of the pair: one name is a generic alias in both images */
-    VEXIL_COMPAT_REFUSAL_FULL = 12        /* a report or a listing is longer than its buffer; of the verdict calls only the listing's gives it */
+    VEXIL_COMPAT_REFUSAL_FULL = 12,       /* a report or a listing is longer than its buffer; of the verdict calls only the listing's gives it */
+    VEXIL_COMPAT_REFUSAL_MIXED = 16       /* of the pair, in the mended verdict: one image or both are of format 1; tested before 11 */
 };
 
 enum vexil_compat_side {
     VEXIL_COMPAT_SIDE_NONE = 0,
     VEXIL_COMPAT_SIDE_OLD = 1, /* also if both images are faulty */
     VEXIL_COMPAT_SIDE_NEW = 2,
-    VEXIL_COMPAT_SIDE_BOTH = 3 /* of VEXIL_COMPAT_REFUSAL_ALIAS_PAIR, and of a report's VEXIL_COMPAT_REFUSAL_FULL */
+    VEXIL_COMPAT_SIDE_BOTH = 3 /* of VEXIL_COMPAT_REFUSAL_ALIAS_PAIR and _MIXED, and of a report's VEXIL_COMPAT_REFUSAL_FULL */
 };
 
 enum vexil_compat_bump {
@@ -112,12 +114,13 @@ enum vexil_compat_kind {
     VEXIL_COMPAT_KIND_NON_EXHAUSTIVE_CHANGED = 14,
     VEXIL_COMPAT_KIND_FLAGS_BIT_ADDED = 15,
     VEXIL_COMPAT_KIND_FLAGS_BIT_REMOVED = 16,
-    VEXIL_COMPAT_KIND_FLAGS_BIT_ORDINAL_CHANGED = 17 /* always 0 */
+    VEXIL_COMPAT_KIND_FLAGS_BIT_ORDINAL_CHANGED = 17, /* always 0 */
+    VEXIL_COMPAT_KIND_WIDTH_CHANGED = 18 /* 0 but in the mended verdict */
 };
 
 /* How many kinds of change there are, and how many selectors that may give anything but 0. */
-#define VEXIL_COMPAT_KINDS 18
-#define VEXIL_COMPAT_VALUES 23
+#define VEXIL_COMPAT_KINDS 19
+#define VEXIL_COMPAT_VALUES 24
 
 /*
  * There are three verdicts on two images, with three calls each. Values, refusals, lines and their order mean the same in all of them.
@@ -129,7 +132,9 @@ enum vexil_compat_kind {
  *     declaration stands before a reached one, and of reached ones that with the highest id. VEXIL_COMPAT_REFUSAL_ALIAS_PAIR is tested over
  *     all that stand.
  *   - The mended one, `vexil_compat_mended_..`, compares what the first does, and vectors, quaternions and matrices like all other types: by
- *     what they are, and by their inner types. It does not look at imports; no verdict does both.
+ *     what they are, and by their inner types. It does not look at imports; no verdict does both. Where the width of an enum or of flags has
+ *     changed, it reports VEXIL_COMPAT_KIND_WIDTH_CHANGED, Major. Format 1 stores no widths, so that both images must be of format 2: every
+ *     other pair is refused by VEXIL_COMPAT_REFUSAL_MIXED. The other two verdicts accept both formats, mixed too, and ignore widths.
  */
 
 /*
@@ -252,6 +257,7 @@ static inline const char *vexil_compat_refusal_name(uint64_t number)
 {
     static const char *const names[] = {
         "none", "long", "short head", "format", "crowded", "contents", "kind", "name", "body", "code", "deep", "alias pair", "full",
+        "unknown", "unknown", "unknown", "mixed",
     };
     return number < sizeof names / sizeof *names ? names[number] : "unknown";
 }
@@ -295,6 +301,7 @@ static inline const char *vexil_compat_kind_name(uint64_t kind)
         "FlagsBitAdded",
         "FlagsBitRemoved",
         "FlagsBitOrdinalChanged",
+        "WidthChanged",
     };
     return kind < VEXIL_COMPAT_KINDS ? names[kind] : "unknown";
 }
