@@ -13,7 +13,7 @@ use Rattle.maps.specs.Walk.{Rising}
 use Rattle.maps.proofs.Lists.{all, total-less, length-flatMap}
 use Rattle.maps.proofs.Survivors.{all-survivors}
 use Rattle.maps.proofs.Sums.{total-survivors}
-use Rattle.image.specs.Schema.{Ty, Decl, Schema}
+use Rattle.image.specs.Schema.{Decl, Schema}
 use Rattle.image.specs.Words.{bytes}
 use Rattle.image.specs.Parse.{ok}
 use Rattle.image.specs.Image.{readImage}
@@ -21,7 +21,7 @@ use Rattle.rules.specs.Survivors.{Registry, nameOf, standsFor, resolved, listed,
 use Rattle.rules.specs.Types.{nameOrNone, sameType}
 use Rattle.rules.specs.Text.{joined}
 use Rattle.rules.specs.Changes.{Change, kindCount}
-use Rattle.rules.specs.Clauses.{Reading, clausesBy, changes}
+use Rattle.rules.specs.Clauses.{Reading, changes}
 use Rattle.rules.specs.Verdict.{bumpOf, resultAt, resultOf, countOf}
 use Rattle.rules.specs.Report.{bumpWord, resultWord, line, lastLine, report}
 use Rattle.rules.specs.Outcome.{Outcome, refused, selected, select}

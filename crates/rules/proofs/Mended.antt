@@ -6,7 +6,7 @@ use mathlib.Core.Logic.{⊎_elim, ◌↔◌}
 use mathlib.Core.List.Memᴰ
 use mathlib.Core.List.{List, [], ◌∷◌}
 use mathlib.Core.Option.{Option, none, some, none-ne-some}
-use Prim.Native.Nat.{ℕ, ◌+◌}
+use Prim.Native.Nat.{◌+◌}
 use native.Mathlib.Omega.{arith}
 use Rattle.maps.specs.Lists.{All}
 use Rattle.image.specs.Schema.{Ty, Schema}

@@ -1,6 +1,6 @@
 -- R-6: of a reading that reports widths and nothing else besides the clauses: it is lawful, its lines are short, and where it reports no width
 -- it reports what the clauses do. Assumes nothing.
-use mathlib.Core.Path.{◌≡◌, refl, sym, ap, ap₂, ◌∙◌}
+use mathlib.Core.Path.{◌≡◌, refl, ap, ap₂}
 use mathlib.Core.Bool.{Bool, true, false, cond, not}
 use mathlib.Core.Option.{Option, none, some}
 use mathlib.Core.List.{List, [], ◌∷◌, ◌++◌, flat_map}
@@ -30,7 +30,7 @@ use Rattle.rules.proofs.Readings.{Besides, OneKind, Lawful, nothing-besides}
 use Rattle.rules.proofs.Chain.{test-chained}
 use Rattle.rules.proofs.Self.{test-self}
 use Rattle.rules.proofs.Swap.{test-swap}
-use Rattle.rules.proofs.Ordinals.{Other, Ordinary, only-other, nothing-other}
+use Rattle.rules.proofs.Ordinals.{Ordinary, only-other, nothing-other}
 use Rattle.rules.proofs.Sizes.{declSize}
 use Rattle.rules.proofs.Texts.{optionLength, fromTo-length}
 use Rattle.rules.proofs.Scales.{heavy, type-one, lineLength, only-weight}
