@@ -3,6 +3,7 @@
 It needs target/oracle/oracle.
 """
 
+import itertools
 import struct
 import subprocess
 import tempfile
@@ -14,10 +15,16 @@ ORACLE = ROOT / "target" / "oracle" / "oracle"
 SAMPLE = [ROOT / "samples" / name for name in ("ride-old.img", "ride-new.img")]
 SAMPLE_REPORT = "FieldAdded;Major;Drive;+limit;field 'limit' @1 was added\nBreaking;Major;1\n"
 SIDES = ("none", "old", "new", "both")
+MIXED = "refused 16 both\n"
 # Pairs of samples whose difference no verdict sees.
-NOT_SEEN = ("unresolved", "twice", "width", "silent")
+NOT_SEEN = ("unresolved", "twice", "silent")
 # A verdict is the words that ask for it, of a tool and of the oracle. The recorded answers have them in this order.
 VERDICTS = PLAIN, IMPORTS, MENDED = (), ("--imports",), ("--mended",)
+
+
+def in_format(image: bytes, number: int) -> bytes:
+    """An image in another format, if it has neither enums nor flags: the others have the same bytes in each."""
+    return number.to_bytes(2, "little") + image[2:]
 
 
 class Record:
@@ -153,6 +160,10 @@ class Suite:
         path.write_bytes(image)
         return path
 
+    def sample(self, number: int) -> list[Path]:
+        """The sample pair in a format; all verdicts read format 2."""
+        return [self.image(f"{path.stem}-{number}", in_format(path.read_bytes(), number)) for path in SAMPLE]
+
 
 def by_each(*groups, verdicts=VERDICTS):
     """Groups of tests, by one verdict after the other."""
@@ -170,21 +181,33 @@ def sample_files(*names: str) -> list[Path]:
     return [ROOT / "samples" / f"{name}.img" for name in names]
 
 
+def formats(suite: Suite):
+    """The sample pair in both formats: the mended verdict needs format 2 on both sides, the others read them alike."""
+    for numbers in itertools.product((1, 2), repeat=2):
+        (old, swapped), (same, new) = map(suite.sample, numbers)
+        read = suite.verdict != MENDED or numbers == (2, 2)
+        suite.files(f"the sample in {numbers}", old, new, SAMPLE_REPORT if read else MIXED)
+        suite.files(f"against itself in {numbers}", old, same, "Compatible;Patch;0\n" if read else MIXED)
+        suite.files(f"swapped in {numbers}", swapped, same)
+    old, new = suite.sample(2)
+    for number in (0, 3, 258):
+        other = suite.image("other", in_format(SAMPLE[0].read_bytes(), number))
+        suite.files(f"format {number}, old", other, new, "refused 3 old\n")
+        suite.files(f"format {number}, new", old, other, "refused 3 new\n")
+
+
 def samples(suite: Suite):
-    old, new = SAMPLE
-    suite.files("the sample", old, new, SAMPLE_REPORT)
-    suite.files("the sample swapped", new, old)
-    suite.files("the sample against itself", old, old, "Compatible;Patch;0\n")
     for names in (
         ("drive-1", "drive-2"), ("drive-2", "drive-3"), ("import-old", "import-new"), ("drive-1", "damaged"),
         ("carousel-1", "carousel-2"), ("carousel-2", "carousel-3"), ("carousel-1", "carousel-3"), ("wheel-1", "wheel-1"),
         ("wheel-1", "wheel-2"), ("wheel-2", "wheel-3"), ("wheel-1", "wheel-3"), ("wheel-3", "wheel-4"), ("wheel-1", "wheel-4"),
     ):
         suite.files(" ".join(names), *sample_files(*names))
-    for name in NOT_SEEN:
+    for name in (*NOT_SEEN, "width"):
         old, new = sample_files(f"{name}-old", f"{name}-new")
         suite.files(name, old, new)
-        suite.equal(f"{name} is Compatible", suite.asked(old, new)[1].splitlines()[-1].partition(";")[0], "Compatible")
+        result = "Breaking" if name == "width" and suite.verdict == MENDED else "Compatible"
+        suite.equal(f"{name} is {result}", suite.asked(old, new)[1].splitlines()[-1].partition(";")[0], result)
     report = suite.asked(*sample_files("drive-2", "drive-3"))[1]
     for names in (("drive-2-refiled", "drive-3-refiled"), ("drive-2-refiled", "drive-3"), ("drive-2", "drive-3-refiled")):
         suite.files(" ".join(names), *sample_files(*names), report)
@@ -204,7 +227,7 @@ def files(suite: Suite):
 
 
 def both_bad(suite: Suite):
-    short, other_format = b"\1\0", b"\2\0\0\0\0\0\0\0"
+    short, other_format = b"\1\0", b"\3\0\0\0\0\0\0\0"
     suite.images("both bad, the old answers", short, other_format, "refused 2 old\n")
     suite.images("both bad, swapped", other_format, short, "refused 3 old\n")
 
@@ -218,7 +241,7 @@ def of_record(suite: Suite):
             texts.add(suite.printed(selectors, report))
             suite.images(name, old, new, suite.printed(selectors, report))
         seen.add((number, side, bump))
-    refusals = {(number, side) for number in range(1, 11) for side in (1, 2)} | {(11, 3)}
+    refusals = {(number, side) for number in range(1, 11) for side in (1, 2)} | {(11, 3)} | ({(16, 3)} if suite.verdict == MENDED else set())
     suite.equal("every refusal on every side", {(number, side) for number, side, _ in seen if number}, refusals)
     suite.equal("a report that is too long is refused", "refused 12 both\n" in texts, bool(suite.REPORT_BYTES))
     suite.equal("a report of 80,000 bytes is printed", any(len(text) == 80_000 for text in texts), not suite.REPORT_BYTES)
@@ -228,7 +251,9 @@ def of_record(suite: Suite):
 def listings(suite: Suite):
     """The contents of named images, and of the recorded ones, of each length and each refusal the first."""
     suite.listed("the sample", SAMPLE[0], "0;message;Drive\n")
-    suite.listed("no entries", suite.image("old", b"\1\0\0\0\0\0\0\0"), "")
+    for number in (1, 2):
+        suite.listed(f"no entries, format {number}", suite.image("old", in_format(bytes(8), number)), "")
+        suite.listed(f"the sample, format {number}", suite.sample(number)[0], "0;message;Drive\n")
     suite.listed("a missing file", suite.folder / "missing.img", "refused 2 old\n")
     suite.listed("a folder", suite.folder, "refused 2 old\n")
     seen = set()

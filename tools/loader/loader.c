@@ -39,10 +39,16 @@ static int refuse_pair(const struct image *old, const struct image *new, const s
 {
     uint64_t number = values[VEXIL_COMPAT_SELECT_NUMBER], side = values[VEXIL_COMPAT_SELECT_SIDE];
     print_refusal(number, side);
-    if (number == VEXIL_COMPAT_REFUSAL_ALIAS_PAIR)
+    switch (number) {
+    case VEXIL_COMPAT_REFUSAL_ALIAS_PAIR:
         explain_alias_pair(old, new, calls);
-    else
+        break;
+    case VEXIL_COMPAT_REFUSAL_MIXED:
+        explain_mixed(old, new);
+        break;
+    default:
         explain_image(side == VEXIL_COMPAT_SIDE_NEW ? new : old, number);
+    }
     return REFUSED;
 }
 

@@ -105,3 +105,12 @@ void explain_alias_pair(const struct image *old, const struct image *new, const 
     print_place(stderr, last_alias(&pair, &pair.new));
     fputc('\n', stderr);
 }
+
+void explain_mixed(const struct image *old, const struct image *new)
+{
+    print_start(old->path, VEXIL_COMPAT_REFUSAL_MIXED);
+    fprintf(stderr, ": format %" PRIu64 "; ", format_of(old->bytes));
+    print_path(new->path);
+    fprintf(stderr, ": format %" PRIu64, format_of(new->bytes));
+    fputs(" (--mended needs format 2 on both sides, export with `Format::Two`: README, \"How to make images\")\n", stderr);
+}

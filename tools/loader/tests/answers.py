@@ -5,6 +5,7 @@ and its exit status follows from that; of a refusal it says on standard error wh
 It needs target/loader/loader (build.sh) and target/oracle/oracle. The last line is `N passed, M failed`.
 """
 
+import itertools
 import os
 import random
 import re
@@ -14,19 +15,15 @@ import subprocess
 import sys
 
 from suite import (
-    DO_NOT_LOAD, FAILED, HEADER, LOAD, LOADER, REFUSED, ROOT, SANITIZED, SOURCES, TESTS, WALK, Suite, bad_usage, build, framed, library, version,
+    DO_NOT_LOAD, FAILED, HEADER, LOAD, LOADER, REFUSED, ROOT, SANITIZED, SOURCES, TESTS, WALK, Suite, bad_usage, build, framed, kinds, library,
+    version,
 )
 from pairs import (
-    ANSWERS, IMPORTS, MENDED, ORACLE, PLAIN, SAMPLE, VERDICTS, both_bad, by_each, files, listings, of_record, output, recorded, sample_files,
-    samples, told,
+    ANSWERS, IMPORTS, MENDED, MIXED, ORACLE, PLAIN, SAMPLE, VERDICTS, both_bad, by_each, files, formats, in_format, listings, of_record, output,
+    recorded, sample_files, samples, told,
 )
 
 DAMAGED = "refused 9: code: entry 3, message 'Status', at byte 260: bits 71"
-KINDS = (
-    "FieldAdded FieldRemoved FieldTypeChanged FieldOrdinalChanged FieldRenamed FieldDeprecated FieldEncodingChanged"
-    " VariantAdded VariantRemoved VariantOrdinalChanged DeclarationAdded DeclarationRemoved DeclarationKindChanged"
-    " NamespaceChanged NonExhaustiveChanged FlagsBitAdded FlagsBitRemoved FlagsBitOrdinalChanged"
-).split()
 
 
 def another_answer(suite: Suite):
@@ -43,7 +40,7 @@ def counts(suite: Suite):
     old, new = next((old, new) for name, old, new, *_ in recorded() if name == "every kind of change twice")
     old, new = suite.image("old", old), suite.image("new", new)
     values = [int(line.split()[1]) for line in output(ORACLE, "verdict", *suite.call(old, new))[1].splitlines()][5:]
-    lines = "".join(f"{kind} {value}\n" for kind, value in zip(KINDS, values, strict=True) if value)
+    lines = "".join(f"{kind} {value}\n" for kind, value in zip(kinds(), values, strict=True) if value)
     suite.equal("15 kinds are there", lines.count("\n"), 15)
     status, report = suite.asked(old, new)
     suite.equal("counts", output(LOADER, "--counts", *suite.call(old, new)), (status, lines + report))
@@ -79,12 +76,13 @@ def told_apart(suite: Suite):
 
 def statuses(suite: Suite):
     """0 for Compatible alone, 1 for Breaking, 3 for a refusal, 2 for an answer that could not be printed; of a listing 0 or 3."""
-    old, new = SAMPLE
+    old, new = suite.sample(2)
     for options in (*VERDICTS, ["--counts"]):
         suite.equal(f"Compatible {options}", output(LOADER, *options, old, old), (0, "Compatible;Patch;0\n"))
-        suite.equal(f"Compatible, Minor {options}", output(LOADER, *options, *sample_files("drive-1", "drive-2"))[0], 0)
+        suite.equal(f"Compatible, Minor {options}", output(LOADER, *options, *suite.open_enum(2))[0], 0)
         suite.equal(f"Breaking {options}", output(LOADER, *options, old, new)[0], 1)
         suite.equal(f"refused {options}", output(LOADER, *options, old, "/dev/null"), (3, "refused 2 new\n"))
+    suite.equal("a pair refused", output(LOADER, *MENDED, *SAMPLE), (3, MIXED))
     suite.equal("listed", output(LOADER, "--list", old), (0, "0;message;Drive\n"))
     suite.equal("not listed", output(LOADER, "--list", "/dev/null"), (3, "refused 2 old\n"))
     for words in ([old, old], [old, new], ["/dev/null", new], ["--list", old], ["--help"], ["--version"]):
@@ -112,9 +110,12 @@ def usage(suite: Suite):
 def asked_for_help(suite: Suite):
     status, help_text, said = told(LOADER, "--help")
     suite.equal("--help", (status, help_text.partition(" [")[0], said), (0, "usage: vexil-compat", ""))
+    readme = (ROOT / "README.md").read_text()
     named = "0 Compatible, or listed; 1 Breaking; 3 refused; 2 bad usage, no build, or an answer that could not be printed"
     suite.equal("--help has the statuses", named in help_text, True)
-    readme = (ROOT / "README.md").read_text()
+    for page in (help_text, readme):
+        page = " ".join(page.split())
+        suite.equal("it has what --mended needs", "needs images of format 2 on both sides" in page and "`Format::Two`" in page, True)
     suite.equal("README has the usage", "".join(f"    {line}\n" for line in help_text.partition("\n\n")[0].splitlines()) in readme, True)
     status, printed, said = told(LOADER, "--version")
     suite.equal("--version", (status, printed.partition(", toolchain ")[0], said), (0, f"vexil-compat {version()}", ""))
@@ -122,7 +123,7 @@ def asked_for_help(suite: Suite):
 
 def refusals(suite: Suite):
     """A refusal says what is wrong with which file and where, an answer says nothing more."""
-    (old, new), (good, damaged) = SAMPLE, sample_files("drive-1", "damaged")
+    (old, new), (good, damaged) = suite.sample(2), sample_files("drive-1", "damaged")
     for options in (*VERDICTS, ["--counts"]):
         suite.equal(f"an answer {options}", told(LOADER, *options, old, new)[2], "")
         suite.refused(f"damaged, new {options}", [*options, good, damaged], "refused 9 new\n", f"{damaged}: {DAMAGED}")
@@ -135,9 +136,39 @@ def refusals(suite: Suite):
     suite.refused("a long one", [old, long], "refused 1 new\n", f"{long}: refused 1: long: over 32768 bytes")
 
 
+def mixed(suite: Suite):
+    """Of refusal 16 it is said which image has which format, and what the mended verdict needs."""
+    advice = '(--mended needs format 2 on both sides, export with `Format::Two`: README, "How to make images")'
+    (first, _), (second, _) = suite.sample(1), suite.sample(2)
+    for (old, of_old), (new, of_new) in itertools.product(((first, 1), (second, 2)), repeat=2):
+        if of_old == of_new == 2:
+            suite.equal("both of format 2", told(LOADER, *MENDED, old, new), (LOAD, "Compatible;Patch;0\n", ""))
+        else:
+            suite.refused(f"{of_old} {of_new}", [*MENDED, old, new], MIXED, f"{old}: refused 16: mixed: format {of_old}; {new}: format {of_new} {advice}")
+        for verdict in (PLAIN, IMPORTS):
+            suite.equal(f"{of_old} {of_new} {verdict}", told(LOADER, *verdict, old, new), (LOAD, "Compatible;Patch;0\n", ""))
+
+
+def of_widths(suite: Suite):
+    """What is wrong with a width is said as with any other byte."""
+    text = "format 2\nnamespace\ndeclares Lamps#0 Mode#1\n\n#0 flags Lamps width 2\n  @0 red\n\n#1 enum Mode width 8\n"
+    image = suite.made("widths", text).read_bytes()
+    at, good = image.index(b"Lamps") + 5, suite.image("good", image)
+    for width in (0, 3, 5, 7, 9, 16, 255):
+        bad = suite.image("bad", image[:at] + bytes([width]) + image[at + 1 :])
+        why = f"{bad}: refused 9: code: entry 0, flags 'Lamps', at byte {at}: width {width}"
+        suite.refused(f"flags of width {width}", [good, bad], "refused 9 new\n", why)
+    cut = suite.image("cut", image[:14] + bytes([7]) + image[15:-3])
+    why = f"{cut}: refused 8: body: entry 1, enum 'Mode', at byte {len(image) - 3}: width, 1 byte missing"
+    suite.refused("an enum without a width", ["--list", cut], "refused 8 old\n", why)
+    first = suite.image("first", in_format(image, 1))
+    why = f"{first}: refused 8: body: entry 0, flags 'Lamps', at byte {at + 11}: name length, 1 byte missing"
+    suite.refused("a width in format 1", [first, good], "refused 8 old\n", why)
+
+
 def no_images(suite: Suite):
     """What is no image at all is said to be what it is."""
-    old, empty, missing, text = SAMPLE[0], suite.image("empty", b""), suite.folder / "missing.img", ROOT / "samples" / "drive-1.txt"
+    old, empty, missing, text = SAMPLE[0], suite.image("empty", b""), suite.folder / "missing.img", SAMPLE[0].with_suffix(".txt")
     for path, why in (
         (empty, "refused 2: short head: the file is empty"),
         (suite.folder, "refused 2: short head: it is a folder"),
@@ -172,6 +203,7 @@ def places(suite: Suite):
     suite.equal("the numbers of damaged images", (done.returncode, done.stdout[-200:] if done.returncode else b""), (0, b""))
     told_of = {line.split(b":")[0] for line in done.stdout.splitlines()}
     suite.equal("every number is among them", len(told_of - {b"accepted"}), 10)
+    suite.equal("a width is among them", b": width " in done.stdout, True)
 
 
 def damaged_images(images: list[bytes], count: int):
@@ -196,12 +228,12 @@ def damaged_images(images: list[bytes], count: int):
 
 def alias_pairs(suite: Suite):
     """Of refusal 11 the two entries are named, of many aliases the ones that are at fault, by the verdict that was asked."""
-    old = suite.made("old-aliases", "namespace\ndeclares A#0 B#2 C#3\n\n#0 generic_alias A\n\n#1 empty\n\n#2 generic_alias B\n\n#3 generic_alias C\n")
-    new = suite.made("new-aliases", "namespace\ndeclares D#0 C#1 B#2 E#3 C#4\n\n#0 generic_alias D\n\n#1 generic_alias C\n\n#2 generic_alias B\n\n#3 generic_alias E\n\n#4 config C\n")
+    old = suite.made("old-aliases", "format 2\nnamespace\ndeclares A#0 B#2 C#3\n\n#0 generic_alias A\n\n#1 empty\n\n#2 generic_alias B\n\n#3 generic_alias C\n")
+    new = suite.made("new-aliases", "format 2\nnamespace\ndeclares D#0 C#1 B#2 E#3 C#4\n\n#0 generic_alias D\n\n#1 generic_alias C\n\n#2 generic_alias B\n\n#3 generic_alias E\n\n#4 config C\n")
     why = f"{old}: refused 11: alias pair: entry 2, generic_alias 'B', at byte 39; {new}: entry 2, generic_alias 'B', at byte 54"
     for verdict in VERDICTS:
         suite.refused(f"aliases {verdict}", [*verdict, old, new], "refused 11 both\n", why)
-    text = "namespace\ndeclares M#0\n\n#0 message M\n  @0 f: B#1\n\n#1 generic_alias B\n\n#2 generic_alias C\n"
+    text = "format 2\nnamespace\ndeclares M#0\n\n#0 message M\n  @0 f: B#1\n\n#1 generic_alias B\n\n#2 generic_alias C\n"
     imported = suite.made("imported-alias", text)
     why = f"{imported}: refused 11: alias pair: entry 1, generic_alias 'B', at byte 44; {imported}: entry 1, generic_alias 'B', at byte 44"
     suite.refused("an imported alias", [*IMPORTS, imported, imported], "refused 11 both\n", why)
@@ -225,21 +257,20 @@ def recorded_aliases(suite: Suite):
 
 def long_reports(suite: Suite):
     """An open enum with 155 variants more is Compatible, however long its report is."""
-    enum = "namespace\ndeclares Mode#0\n\n#0 enum Mode non_exhaustive\n  @0 Stop\n"
-    variants = "".join(f"  @{place} {'v' * 195}{place}\n" for place in range(1, 156))
-    old, new = suite.made("old-enum", enum), suite.made("new-enum", enum + variants)
+    old, new = suite.open_enum(155)
     status, printed = output(LOADER, *suite.call(old, new))
     suite.equal("155 variants", (status, printed.splitlines()[-1], len(printed) > 65_536), (LOAD, "Compatible;Minor;155", True))
     suite.equal("155 variants, by the oracle", (status, printed), suite.asked(old, new))
 
 
 def calls(suite: Suite):
-    """One values call and one report call for an answer, by whichever verdict, one values call for the refusal of an image."""
-    program, (old, new) = suite.folder / "counted", SAMPLE
+    """One values call and one report call for an answer, by whichever verdict, one values call for the refusal of an image, or of
+    the formats of two."""
+    program, (old, new) = suite.folder / "counted", suite.sample(2)
     names = re.findall(r"^uint64_t (\w+)\(", HEADER.read_text(), re.MULTILINE)
     wraps = [f"-Wl,--wrap={name}" for name in names]
     suite.equal("counted.c builds", build(program, *wraps, TESTS / "counted.c", *SOURCES, library()), 0)
-    made = [(["--list", old], "listing 1 listing_verdict 2"), (["--list", "/dev/null"], "listing_verdict 1")]
+    made = [(["--list", old], "listing 1 listing_verdict 2"), (["--list", "/dev/null"], "listing_verdict 1"), ([*MENDED, *SAMPLE], "values 1")]
     for verdict in VERDICTS:
         made += [([*verdict, old, new], "values 1 report 1"), ([*verdict, "--counts", old, new], "values 1 report 1")]
         made += [([*verdict, old, "/dev/null"], "values 1")]
@@ -276,10 +307,10 @@ def under_valgrind(suite: Suite):
 
 if __name__ == "__main__":
     by_verdict = (
-        by_each(samples, files, both_bad, of_record, counts, long_reports, recorded_aliases),
+        by_each(formats, samples, files, both_bad, of_record, counts, long_reports, recorded_aliases),
         by_each(another_answer, verdicts=VERDICTS[1:]),
         counts_by_verdict,
         told_apart,
     )
-    sayings = (refusals, no_images, places, alias_pairs)
+    sayings = (refusals, mixed, of_widths, no_images, places, alias_pairs)
     sys.exit(Suite.run(*by_verdict, listings, statuses, usage, asked_for_help, *sayings, calls, overruns, under_valgrind))

@@ -7,25 +7,28 @@
 #include <stdio.h>
 #include <string.h>
 
-/* `ride` with message `Drive`: `speed` u16 at 0, and in the new one `limit` u16 at 1. */
+/* All in format 2. `ride` with message `Drive`: `speed` u16 at 0, and in the new one `limit` u16 at 1. */
 static const uint8_t old_image[] = {
-    1, 0, 1, 0, 1, 0, 1, 0, 21, 0, 25, 0, 0, 0, 0, 0, 4, 'r', 'i', 'd', 'e', 0, 5, 'D', 'r', 'i', 'v', 'e', 0, 1, 0,
+    2, 0, 1, 0, 1, 0, 1, 0, 21, 0, 25, 0, 0, 0, 0, 0, 4, 'r', 'i', 'd', 'e', 0, 5, 'D', 'r', 'i', 'v', 'e', 0, 1, 0,
     0, 0, 0, 0, 5, 's', 'p', 'e', 'e', 'd', 0, 0, 0, 0, 2,
 };
 static const uint8_t new_image[] = {
-    1, 0, 1, 0, 1, 0, 1, 0, 21, 0, 40, 0, 0, 0, 0, 0, 4, 'r', 'i', 'd', 'e', 0, 5, 'D', 'r', 'i', 'v', 'e', 0, 2, 0,
+    2, 0, 1, 0, 1, 0, 1, 0, 21, 0, 40, 0, 0, 0, 0, 0, 4, 'r', 'i', 'd', 'e', 0, 5, 'D', 'r', 'i', 'v', 'e', 0, 2, 0,
     0, 0, 0, 0, 5, 's', 'p', 'e', 'e', 'd', 0, 0, 0, 0, 2, 1, 0, 0, 0, 5, 'l', 'i', 'm', 'i', 't', 0, 0, 0, 0, 2,
 };
 /* `A` is declared and has a field of type `B`, an import, which is a `u8` or, with another last byte, a `u16`. */
 static const uint8_t import_old[] = {
-    1, 0, 2, 0, 1, 0, 0, 0, 20, 0, 20, 0, 40, 0, 5, 0, 0, 0, 0, 0, 0, 1, 'A', 0, 1, 0, 0, 0, 0, 0, 1, 'x', 0, 0, 0, 3, 1, 0, 0, 0,
+    2, 0, 2, 0, 1, 0, 0, 0, 20, 0, 20, 0, 40, 0, 5, 0, 0, 0, 0, 0, 0, 1, 'A', 0, 1, 0, 0, 0, 0, 0, 1, 'x', 0, 0, 0, 3, 1, 0, 0, 0,
     4, 1, 'B', 0, 1,
 };
 /* `A` has a field of type `vec3<f32>` or, with another last byte, `vec3<f64>`. */
 static const uint8_t vector_old[] = {
-    1, 0, 1, 0, 1, 0, 0, 0, 16, 0, 18, 0, 0, 0, 0, 0, 0, 1, 'A', 0, 1, 0, 0, 0, 0, 0, 1, 'x', 0, 0, 0, 11, 0, 9,
+    2, 0, 1, 0, 1, 0, 0, 0, 16, 0, 18, 0, 0, 0, 0, 0, 0, 1, 'A', 0, 1, 0, 0, 0, 0, 0, 1, 'x', 0, 0, 0, 11, 0, 9,
 };
-static uint8_t import_new[sizeof import_old], vector_new[sizeof vector_old];
+/* Flags `A` of one byte or, with another byte before the two of the count, of two; and in format 1, which lacks that byte. */
+static const uint8_t width_old[] = {2, 0, 1, 0, 1, 0, 0, 0, 16, 0, 6, 0, 0, 0, 0, 0, 2, 1, 'A', 1, 0, 0};
+static const uint8_t width_none[] = {1, 0, 1, 0, 1, 0, 0, 0, 16, 0, 5, 0, 0, 0, 0, 0, 2, 1, 'A', 0, 0};
+static uint8_t import_new[sizeof import_old], vector_new[sizeof vector_old], width_new[sizeof width_old];
 static const char report[] = "FieldAdded;Major;Drive;+limit;field 'limit' @1 was added\nBreaking;Major;1\n";
 static const char listing[] = "0;message;Drive\n";
 
@@ -43,10 +46,11 @@ static const struct verdict {
     uint64_t (*report)(const uint8_t *, size_t, const uint8_t *, size_t, uint8_t *, size_t);
     bool loads_changed_import;
     bool loads_same_vector;
+    bool ignores_widths;
 } verdicts[] = {
-    {"the first", vexil_compat_may_load, vexil_compat_verdict, vexil_compat_values, vexil_compat_report, true, false},
-    {"with imports", vexil_compat_imports_may_load, vexil_compat_imports_verdict, vexil_compat_imports_values, vexil_compat_imports_report, false, false},
-    {"mended", vexil_compat_mended_may_load, vexil_compat_mended_verdict, vexil_compat_mended_values, vexil_compat_mended_report, true, true},
+    {"the first", vexil_compat_may_load, vexil_compat_verdict, vexil_compat_values, vexil_compat_report, true, false, true},
+    {"with imports", vexil_compat_imports_may_load, vexil_compat_imports_verdict, vexil_compat_imports_values, vexil_compat_imports_report, false, false, true},
+    {"mended", vexil_compat_mended_may_load, vexil_compat_mended_verdict, vexil_compat_mended_values, vexil_compat_mended_report, true, true, false},
 };
 
 #define HOLD(fact) hold(fact, #fact)
@@ -79,6 +83,21 @@ static void may_load(const struct verdict *by)
     HOLD(!by->may_load(vector_old, sizeof vector_old, vector_new, sizeof vector_new));
     HOLD(vexil_compat_may_load_by(by->values, old_image, old_len, old_image, old_len));
     HOLD(!vexil_compat_may_load_by(by->values, old_image, old_len, new_image, new_len));
+}
+
+/* A verdict that compares widths refuses an image that has none, also against itself. */
+static void widths(const struct verdict *by)
+{
+    const uint64_t mixed = by->ignores_widths ? VEXIL_COMPAT_REFUSAL_NONE : VEXIL_COMPAT_REFUSAL_MIXED;
+    const uint64_t both = by->ignores_widths ? VEXIL_COMPAT_SIDE_NONE : VEXIL_COMPAT_SIDE_BOTH;
+    HOLD(by->may_load(width_old, sizeof width_old, width_old, sizeof width_old));
+    HOLD(by->may_load(width_old, sizeof width_old, width_new, sizeof width_new) == by->ignores_widths);
+    HOLD(by->value(width_old, sizeof width_old, width_new, sizeof width_new, vexil_compat_count_of(VEXIL_COMPAT_KIND_WIDTH_CHANGED))
+         == !by->ignores_widths);
+    HOLD(by->may_load(width_none, sizeof width_none, width_none, sizeof width_none) == by->ignores_widths);
+    HOLD(by->value(width_none, sizeof width_none, width_new, sizeof width_new, VEXIL_COMPAT_SELECT_NUMBER) == mixed);
+    HOLD(by->value(width_old, sizeof width_old, width_none, sizeof width_none, VEXIL_COMPAT_SELECT_NUMBER) == mixed);
+    HOLD(by->value(width_old, sizeof width_old, width_none, sizeof width_none, VEXIL_COMPAT_SELECT_SIDE) == both);
 }
 
 static void answers(const struct verdict *by)
@@ -135,14 +154,16 @@ static void names(void)
     HOLD(is(vexil_compat_refusal_name(VEXIL_COMPAT_REFUSAL_NONE), "none"));
     HOLD(is(vexil_compat_refusal_name(VEXIL_COMPAT_REFUSAL_SHORT_HEAD), "short head"));
     HOLD(is(vexil_compat_refusal_name(VEXIL_COMPAT_REFUSAL_FULL), "full"));
+    HOLD(is(vexil_compat_refusal_name(VEXIL_COMPAT_REFUSAL_MIXED), "mixed"));
     HOLD(is(vexil_compat_side_name(VEXIL_COMPAT_SIDE_BOTH), "both"));
     HOLD(is(vexil_compat_bump_name(VEXIL_COMPAT_BUMP_MAJOR), "Major"));
     HOLD(is(vexil_compat_result_name(VEXIL_COMPAT_RESULT_BREAKING), "Breaking"));
     HOLD(is(vexil_compat_kind_name(VEXIL_COMPAT_KIND_FIELD_ADDED), "FieldAdded"));
-    HOLD(is(vexil_compat_kind_name(VEXIL_COMPAT_KIND_FLAGS_BIT_ORDINAL_CHANGED), "FlagsBitOrdinalChanged"));
+    HOLD(is(vexil_compat_kind_name(VEXIL_COMPAT_KIND_WIDTH_CHANGED), "WidthChanged"));
     HOLD(is(vexil_compat_refusal_name(VEXIL_COMPAT_REFUSAL_FULL + 1), "unknown"));
+    HOLD(is(vexil_compat_refusal_name(VEXIL_COMPAT_REFUSAL_MIXED + 1), "unknown"));
     HOLD(is(vexil_compat_side_name(4), "unknown") && is(vexil_compat_bump_name(3), "unknown") && is(vexil_compat_result_name(2), "unknown"));
-    HOLD(vexil_compat_count_of(VEXIL_COMPAT_KIND_FLAGS_BIT_ORDINAL_CHANGED) == VEXIL_COMPAT_VALUES - 1);
+    HOLD(vexil_compat_count_of(VEXIL_COMPAT_KIND_WIDTH_CHANGED) == VEXIL_COMPAT_VALUES - 1);
     HOLD(is(vexil_compat_kind_name(VEXIL_COMPAT_KINDS), "unknown") && is(vexil_compat_kind_name(UINT64_MAX), "unknown"));
 }
 
@@ -150,11 +171,14 @@ int main(void)
 {
     memcpy(import_new, import_old, sizeof import_old);
     memcpy(vector_new, vector_old, sizeof vector_old);
+    memcpy(width_new, width_old, sizeof width_old);
     import_new[sizeof import_new - 1] = 2;
     vector_new[sizeof vector_new - 1] = 10;
+    width_new[sizeof width_new - 3] = 2;
     for (size_t i = 0; i < sizeof verdicts / sizeof *verdicts; i++) {
         held = verdicts[i].name;
         may_load(&verdicts[i]);
+        widths(&verdicts[i]);
         answers(&verdicts[i]);
         nothing_lent(&verdicts[i]);
     }

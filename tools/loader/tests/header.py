@@ -10,7 +10,7 @@ import shutil
 import subprocess
 import sys
 
-from suite import HEADER, HERE, ROOT, SANITIZED, TESTS, Suite, build, framed, library, version
+from suite import HEADER, HERE, ROOT, SANITIZED, TESTS, Suite, build, framed, kinds, library, version
 from pairs import SAMPLE, SAMPLE_REPORT, VERDICTS, output, recorded, told
 
 WARNINGS = ["-Wall", "-Wextra", "-Wpedantic", "-Wconversion", "-Werror"]
@@ -77,10 +77,13 @@ def header(suite: Suite):
     for enum, body in enums.items():
         names = re.findall(r"^\s*VEXIL_COMPAT_(\w+?)_\w+ = (\d+)", body, re.MULTILINE)
         suite.equal(f"the prefix of {enum}", {prefix for prefix, _ in names}, {prefixes[enum]})
-        suite.equal(f"the numbers of {enum}", [int(number) for _, number in names], list(range(len(names))))
-    kinds = re.findall(r"VEXIL_COMPAT_KIND_(\w+) = ", enums["kind"])
-    words = re.findall(r'"(\w+)"', re.search(r"_kind_name\(.*?\n}\n", text, re.DOTALL)[0])[: len(kinds)]
-    suite.equal("the words of kinds", [re.sub(r"(?<!^)([A-Z])", r"_\1", word).upper() for word in words], kinds)
+        # Of refusals those of requests that are still to come are left free.
+        wanted = [*range(13), 16] if enum == "refusal" else list(range(len(names)))
+        suite.equal(f"the numbers of {enum}", [int(number) for _, number in names], wanted)
+    words = re.findall(r'"(\w+)"', re.search(r"_kind_name\(.*?\n}\n", text, re.DOTALL)[0])
+    suite.equal("the words of kinds", words, [*kinds(), "unknown"])
+    sizes = [int(re.search(rf"^#define VEXIL_COMPAT_{name} (\d+)$", text, re.MULTILINE)[1]) for name in ("KINDS", "VALUES")]
+    suite.equal("how many kinds and values", sizes, [len(kinds()), 5 + len(kinds())])
     pinned = (ROOT / "KIT-ID").read_text().strip()
     suite.equal("the header has the pinned kit", re.search(r'VEXIL_COMPAT_KIT "(.*)"', text)[1], pinned)
     proved_with = re.search(r"^kit (.*)$", (library().parent / "made-of").read_text(), re.MULTILINE)[1]

@@ -38,6 +38,12 @@ class Suite(pairs.Suite):
         self.equal(f"the image {name}", output(ORACLE, "make", source, image)[0], 0)
         return image
 
+    def open_enum(self, variants: int) -> list[Path]:
+        """An open enum in format 2, and the same with so many variants more."""
+        enum = "format 2\nnamespace\ndeclares Mode#0\n\n#0 enum Mode non_exhaustive width 8\n  @0 Stop\n"
+        more = "".join(f"  @{place} {'v' * 195}{place}\n" for place in range(1, variants + 1))
+        return [self.made("old-enum", enum), self.made("new-enum", enum + more)]
+
     def refused(self, name: str, words: list, printed: str, said: str):
         """The refusal on standard output, and one line on standard error."""
         self.equal(name, told(LOADER, *words), (REFUSED, printed, f"vexil-compat: {said}\n"))
@@ -71,6 +77,12 @@ def build(program: Path, *words) -> int:
 def library() -> Path:
     """The archive that the loading tool was built with."""
     return Path((ROOT / "target" / "loader" / "library").read_text().strip()) / "libvexil_compat.a"
+
+
+def kinds() -> list[str]:
+    """The kinds of change in the words of reports, by the names that the header has for their numbers."""
+    names = re.findall(r"VEXIL_COMPAT_KIND_(\w+) = ", HEADER.read_text())
+    return ["".join(word.capitalize() for word in name.split("_")) for name in names]
 
 
 def version() -> str:
