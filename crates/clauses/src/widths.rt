@@ -13,6 +13,7 @@ use parts::decls::width;
 use tally::Tally;
 use types::Reading;
 
+// Both as stored the same, or neither there.
 fn widths_equal(a: Width, b: Width) -> bool
     ensures { result ≡ sameOption eqb (widthOf a) (widthOf b) }
 {
