@@ -4,7 +4,7 @@ use crate::changes::{Bump, Comparison, CompatResult, COUNTS};
 use crate::limits::REPORT_BYTES;
 use crate::model::Reading;
 use crate::reader::read_image;
-use crate::refusal::{Read, Refusal, ALIAS_PAIR, FULL};
+use crate::refusal::{Read, Refusal, FULL};
 use crate::schema::Schema;
 use crate::writer::image;
 use crate::{imports, mended, model, vexil};
@@ -93,7 +93,7 @@ impl Answer {
 }
 
 /// A verdict on two images: that of 01, the one with imports, or the mended one
-///
+///
 #[derive(Clone, Copy, PartialEq, Debug)]
 pub enum Verdict {
     Plain,
@@ -138,6 +138,8 @@ impl Verdict {
             },
             Verdict::Mended => Reading {
                 types_equal: mended::types_equal,
+                width_change: mended::width_change,
+                mixed: mended::mixed,
                 ..model::PLAIN
             },
         }
@@ -211,8 +213,8 @@ fn hexadecimal(bytes: &[u8]) -> String {
 /// The answer, or how the model differs from `check`.
 fn compare(verdict: Verdict, old: &Schema, new: &Schema) -> Result<Answer, String> {
     let reading = verdict.reading();
-    if model::alias_pair(old, new, reading) {
-        return Ok(Answer::refused(ALIAS_PAIR, Side::Both));
+    if let Some(number) = model::refusal(old, new, reading) {
+        return Ok(Answer::refused(number, Side::Both));
     }
     let comparison = model::check(old, new, reading);
     match difference(verdict, old, new, &comparison) {
@@ -221,14 +223,18 @@ fn compare(verdict: Verdict, old: &Schema, new: &Schema) -> Result<Answer, Strin
     }
 }
 
-/// How the model's comparison by a verdict differs from what `check` says.
+/// How the model's comparison by a verdict differs from what `check` says, which knows
+/// of no widths.
 pub fn difference(
     verdict: Verdict,
     old: &Schema,
     new: &Schema,
     model: &Comparison,
 ) -> Option<String> {
+    let Some(model) = model.known_to_check() else {
+        return Some(format!("result and bump are of other changes: {model:?}"));
+    };
     let [old, new] = [old, new].map(|schema| verdict.for_check(schema));
     let detail = |detail: &str| verdict.from_check(detail);
-    vexil::difference(&old, &new, &detail, model)
+    vexil::difference(&old, &new, &detail, &model)
 }

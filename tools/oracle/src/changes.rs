@@ -1,8 +1,9 @@
-//! A change, with the names of compat.rs.
+//! A change, with the names of compat.rs and, behind them, that of document 02.
 
 macro_rules! change_kinds {
     ($($kind:ident)*) => {
-        /// The names of `ChangeKind`, in its order; the counts stand in this order.
+        /// The names of `ChangeKind`, in its order, and then `WidthChanged`, which R-6 adds;
+        /// the counts stand in this order.
         #[derive(Clone, Copy, PartialEq, Eq, PartialOrd, Ord, Debug)]
         pub enum ChangeKind {
             $($kind,)*
@@ -31,10 +32,17 @@ change_kinds! {
     FlagsBitAdded
     FlagsBitRemoved
     FlagsBitOrdinalChanged
+    WidthChanged
 }
 
 /// How many counts a verdict has.
-pub const COUNTS: usize = 18;
+pub const COUNTS: usize = 19;
+
+/// The kinds that document 01 has, in their order: those of `check`.
+pub fn of_check() -> impl Iterator<Item = ChangeKind> {
+    let kinds = CHANGE_KINDS.into_iter();
+    kinds.filter(|kind| *kind != ChangeKind::WidthChanged)
+}
 
 /// The kinds that no clause reports.
 pub const NEVER: [ChangeKind; 3] = [
@@ -95,6 +103,15 @@ impl Comparison {
             counts[change.kind as usize] += 1;
         }
         counts
+    }
+
+    /// Without the changes that `check` does not know of; `None` where result and bump are
+    /// not those of the changes.
+    pub fn known_to_check(&self) -> Option<Comparison> {
+        let changes = self.changes.iter();
+        let known = changes.filter(|change| change.kind != ChangeKind::WidthChanged);
+        let known = Comparison::of(known.cloned().collect());
+        (*self == Comparison::of(self.changes.clone())).then_some(known)
     }
 
     /// The report of document 01: one line a change, then the last line.

@@ -4,6 +4,7 @@ use crate::answer::{judge, Answer, Side, Verdict, SELECTORS};
 use crate::changes::CHANGE_KINDS;
 use crate::coverage::facts_for;
 use crate::edits::{damaged, edited, too_deep};
+use crate::formats::{any_formats, in_formats};
 use crate::limits::IMAGE_BYTES;
 use crate::listing::listing;
 use crate::made::pair_for;
@@ -174,7 +175,7 @@ pub fn random_made(verdict: Verdict, seed: u64, count: u64) -> Outcome {
     Ok(())
 }
 
-/// A release and the next one, or another; some of them damaged.
+/// A release and the next one, or another, each of any format; some of them damaged.
 pub fn random_pair(rng: &mut Rng) -> (Vec<u8>, Vec<u8>) {
     let most = *rng.pick(&[1, 3, 8, 24]);
     let old = random_schema(rng, most);
@@ -185,7 +186,8 @@ pub fn random_pair(rng: &mut Rng) -> (Vec<u8>, Vec<u8>) {
     if rng.once_in(60) {
         too_deep(rng, &mut new);
     }
-    let (mut old, mut new) = (image(&old), image(&new));
+    let formats = any_formats(rng);
+    let [mut old, mut new] = in_formats(rng, [old, new], formats).map(|schema| image(&schema));
     if rng.once_in(5) {
         old = damaged(rng, &old);
     }

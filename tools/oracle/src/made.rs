@@ -3,18 +3,29 @@
 use crate::answer::Verdict;
 use crate::commands::random_pair;
 use crate::edits::{damaged, too_deep};
-use crate::imports::import_pair;
-use crate::mended::mended_pair;
+use crate::formats::{any_formats, in_formats, mostly_second};
+use crate::imports::import_releases;
+use crate::mended::releases_in;
 use crate::rng::Rng;
 use crate::schema::Schema;
 use crate::writer::image;
 
-/// The images of a pair; now and then one of them is faulty.
+/// The images of a pair; now and then one of them is faulty. Formats are mixed, but for
+/// the mended verdict, which takes the second only.
 pub fn pair_for(verdict: Verdict, rng: &mut Rng) -> (Vec<u8>, Vec<u8>) {
     match verdict {
         Verdict::Plain => random_pair(rng),
-        Verdict::Imports => import_pair(rng),
-        Verdict::Mended => mended_pair(rng),
+        Verdict::Imports => {
+            let releases = import_releases(rng);
+            let formats = any_formats(rng);
+            let releases = in_formats(rng, releases, formats);
+            images(rng, releases)
+        }
+        Verdict::Mended => {
+            let [old, new] = mostly_second(rng);
+            let [old, new, _] = releases_in(rng, [old, new, new]);
+            images(rng, [old, new])
+        }
     }
 }
 

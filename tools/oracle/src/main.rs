@@ -10,6 +10,7 @@ mod commands;
 mod coverage;
 mod cursor;
 mod edits;
+mod formats;
 mod imports;
 #[cfg(library)]
 mod library;

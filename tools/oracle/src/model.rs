@@ -1,9 +1,10 @@
 //! The clauses of document 01 in its order: names by byte order, ordinals
 //! rising. Written from 01; `vexil` holds it against the real `check`. Which
-//! declarations are compared, and when their types are equal, is for the caller to
-//! say: `PLAIN` is 01's way.
+//! declarations are compared, when their types are equal, and what becomes of formats
+//! and widths, is for the caller to say: `PLAIN` is 01's way.
 
 use crate::changes::{Bump, Change, ChangeKind, Comparison};
+use crate::refusal::{ALIAS_PAIR, MIXED};
 use crate::schema::*;
 use crate::types::{encoding_display, type_display, types_equal};
 use std::collections::BTreeMap;
@@ -20,28 +21,46 @@ pub type Standing = for<'a> fn(&'a Schema) -> ByName<'a>;
 /// Whether two types, each behind its schema, count as equal.
 pub type TypesEqual = fn(&Schema, &Type, &Schema, &Type) -> bool;
 
+/// The widths of two declarations of one name and kind, if they are reported as changed.
+pub type WidthChange = fn(&Declaration, &Declaration) -> Option<[u8; 2]>;
+
+/// Whether two accepted images are refused by 16.
+pub type Mixed = fn(&Schema, &Schema) -> bool;
+
 /// What a verdict goes by where it may differ from that of 01.
 #[derive(Clone, Copy)]
 pub struct Reading {
     pub standing: Standing,
     pub types_equal: TypesEqual,
+    pub width_change: WidthChange,
+    pub mixed: Mixed,
 }
 
 pub const PLAIN: Reading = Reading {
     standing: surviving_declarations,
     types_equal,
+    width_change: |_, _| None,
+    mixed: |_, _| false,
 };
 
 pub fn check(old: &Schema, new: &Schema, reading: Reading) -> Comparison {
     let mut clauses = Clauses {
         old,
         new,
-        types_equal: reading.types_equal,
+        reading,
         changes: Vec::new(),
     };
     clauses.namespace();
     clauses.declarations(&(reading.standing)(old), &(reading.standing)(new));
     Comparison::of(clauses.changes)
+}
+
+/// The number that refuses two accepted images, if there is one.
+pub fn refusal(old: &Schema, new: &Schema, reading: Reading) -> Option<u8> {
+    match (reading.mixed)(old, new) {
+        true => Some(MIXED),
+        false => alias_pair(old, new, reading).then_some(ALIAS_PAIR),
+    }
 }
 
 /// Refusal 11: what stands under one name are generic aliases in both images.
@@ -88,7 +107,7 @@ pub fn kept<'a, K: Ord, V>(
 struct Clauses<'a> {
     old: &'a Schema,
     new: &'a Schema,
-    types_equal: TypesEqual,
+    reading: Reading,
     changes: Vec<Change>,
 }
 
@@ -138,6 +157,10 @@ impl Clauses<'_> {
             let detail = format!("'{name}' changed from {from} to {to}");
             self.report((DeclarationKindChanged, Major), name, None, detail);
             return;
+        }
+        if let Some([from, to]) = (self.reading.width_change)(old, new) {
+            let detail = format!("width changed from {from} to {to}");
+            self.report((WidthChanged, Major), name, None, detail);
         }
         match (&old.body, &new.body) {
             (Body::Message(om, of), Body::Message(nm, nf)) => {
@@ -263,7 +286,7 @@ impl Clauses<'_> {
     }
 
     fn equal(&self, old: &Type, new: &Type) -> bool {
-        (self.types_equal)(self.old, old, self.new, new)
+        (self.reading.types_equal)(self.old, old, self.new, new)
     }
 
     fn shown(&self, old: &Type, new: &Type) -> (String, String) {

@@ -103,11 +103,10 @@ impl Refusal {
     }
 }
 
-/// Its number, its word in document 01, and what was met where.
+/// Its number, its word, and what was met where.
 impl fmt::Display for Refusal {
     fn fmt(&self, f: &mut fmt::Formatter<'_>) -> fmt::Result {
-        let word = WORDS[usize::from(self.number) - 1];
-        write!(f, "refused {}: {word}: ", self.number)?;
+        write!(f, "refused {}: {}: ", self.number, word(self.number))?;
         match self.place().as_str() {
             "" => write!(f, "{}", self.found()),
             place => write!(f, "{place}: {}", self.found()),
@@ -129,19 +128,27 @@ pub const CODE: u8 = 9;
 pub const DEEP: u8 = 10;
 pub const ALIAS_PAIR: u8 = 11;
 pub const FULL: u8 = 12;
+/// Of document 02, R-6: after 10 and before 11.
+pub const MIXED: u8 = 16;
 
-/// The words of document 01's table, from number 1 on.
-const WORDS: [&str; 12] = [
-    "long",
-    "short head",
-    "format",
-    "crowded",
-    "contents",
-    "kind",
-    "name",
-    "body",
-    "code",
-    "deep",
-    "alias pair",
-    "full",
+/// The numbers that are given, each with its word in document 01 or 02.
+pub const WORDS: [(u8, &str); 13] = [
+    (LONG, "long"),
+    (SHORT_HEAD, "short head"),
+    (FORMAT, "format"),
+    (CROWDED, "crowded"),
+    (CONTENTS, "contents"),
+    (KIND, "kind"),
+    (NAME, "name"),
+    (BODY, "body"),
+    (CODE, "code"),
+    (DEEP, "deep"),
+    (ALIAS_PAIR, "alias pair"),
+    (FULL, "full"),
+    (MIXED, "mixed"),
 ];
+
+fn word(number: u8) -> &'static str {
+    let found = WORDS.iter().find(|(n, _)| *n == number);
+    found.map_or("", |(_, word)| word)
+}

@@ -5,7 +5,7 @@ use super::bodies::with_body;
 use super::Cases;
 use crate::limits::IMAGE_BYTES;
 
-fn refused_by(number: u8) -> Vec<u8> {
+pub fn refused_by(number: u8) -> Vec<u8> {
     match number {
         1 => vec![1; IMAGE_BYTES + 1],
         2 => vec![1, 0, 0],

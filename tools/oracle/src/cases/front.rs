@@ -114,7 +114,8 @@ fn segments(cases: &mut Cases) {
 fn order(cases: &mut Cases) {
     cases.beside_ride("2 before 3", ride()[1..8].to_vec());
     cases.beside_ride("3 before 4", head(0, [513, 513, 17]));
-    cases.beside_ride("3 before the rest of 2", head(2, [1, 1, 1]));
+    cases.beside_ride("3 before the rest of 2", head(3, [1, 1, 1]));
+    cases.beside_ride("the rest of 2, in format 2", head(2, [1, 1, 1]));
     cases.beside_ride("4 before the rest of 2", head(1, [1, 1, 17]));
     cases.beside_ride("2 before 7 in one segment", with_names(1, b"\x03a."));
     cases.beside_ride("7 before 2 of the next segment", with_names(2, b"\x01."));

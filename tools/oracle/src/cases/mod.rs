@@ -23,6 +23,7 @@ pub mod rich;
 pub mod sizes;
 mod typing;
 mod unions;
+mod widths;
 
 use crate::make::*;
 use crate::pinned::RECORDS;
@@ -63,6 +64,7 @@ pub fn all(seed: u64) -> Vec<Case> {
     encodings::add(&mut cases);
     unions::add(&mut cases);
     sizes::add(&mut cases);
+    let by_hand = cases.list.len();
     damage::add(&mut cases, &mut rng);
     randoms::add(&mut cases, &mut rng);
     refiled::add(&mut cases, seed);
@@ -71,6 +73,7 @@ pub fn all(seed: u64) -> Vec<Case> {
     mended::add(&mut cases, seed);
     // What later files pin comes after what was there before them.
     pinned::add(&mut cases, RECORDS);
+    widths::add(&mut cases, seed, by_hand);
     cases.list
 }
 

@@ -3,7 +3,7 @@
 use super::{Facts, Rows};
 use crate::answer::Pair;
 use crate::cases::Case;
-use crate::limits::{DELTAS, HEAD_BYTES, IMAGE_BYTES, NODES};
+use crate::limits::{DELTAS, FORMATS, HEAD_BYTES, IMAGE_BYTES, NODES};
 use crate::schema::*;
 
 pub fn facts(facts: &mut Facts, case: &Case, pair: &Pair) {
@@ -22,6 +22,7 @@ fn of_image(facts: &mut Facts, image: &[u8], schema: &Schema, side: &str) {
         schema.declarations.len(),
         schema.namespace.len(),
     );
+    fact(format!("format {}", schema.format));
     fact(format!("{} bytes", image.len()));
     fact(format!("N {n}"));
     fact(format!("M {m}"));
@@ -69,7 +70,11 @@ fn of_declaration(fact: &mut impl FnMut(String), declaration: &Declaration) {
                 .iter()
                 .for_each(|field| of_field(fact, field, "field"));
         }
-        Body::Enum(marks, _, _) => fact(format!("enum marks {}", marks.byte())),
+        Body::Enum(marks, width, _) => {
+            fact(format!("enum marks {}", marks.byte()));
+            fact(format!("enum width {width:?}"));
+        }
+        Body::Flags(width, _) => fact(format!("flags width {width:?}")),
         Body::Union(variants) => {
             let fields = variants.iter().flat_map(|variant| &variant.fields);
             fields.for_each(|field| of_field(fact, field, "variant's field"));
@@ -151,7 +156,20 @@ pub fn rows(rows: &mut Rows) {
         each(format!("limit {limit}"));
         each(format!("size {limit}"));
     }
+    of_formats(&mut each);
     of_types(&mut each);
+}
+
+fn of_formats(each: &mut impl FnMut(String)) {
+    for format in FORMATS {
+        each(format!("format {format}"));
+    }
+    for width in [None, Some(0), Some(1), Some(8), Some(16), Some(255)] {
+        each(format!("enum width {width:?}"));
+    }
+    for width in [None].into_iter().chain(WIRE_BYTES.map(Some)) {
+        each(format!("flags width {width:?}"));
+    }
 }
 
 fn of_types(each: &mut impl FnMut(String)) {

@@ -2,11 +2,11 @@
 //! word of its verdict.
 
 use crate::answer::Answer;
-use crate::changes::{Bump, ChangeKind, CHANGE_KINDS, NEVER};
+use crate::changes::{of_check, Bump, ChangeKind, CHANGE_KINDS, NEVER};
 
 pub const BUMPS: [Bump; 3] = [Bump::Patch, Bump::Minor, Bump::Major];
 
-/// Of two accepted images: a refusal is number 11.
+/// Of two accepted images that are not refused by 16: a refusal is number 11.
 pub fn facts(word: &str, plain: &Answer, other: &Answer) -> Vec<String> {
     if plain == other {
         return Vec::new();
@@ -36,10 +36,9 @@ fn counts(word: &str, plain: &Answer, other: &Answer) -> Vec<String> {
     facts.collect()
 }
 
-/// The kinds that come at all.
+/// The kinds of document 01 that come at all.
 pub fn live_kinds() -> impl Iterator<Item = ChangeKind> {
-    let kinds = CHANGE_KINDS.into_iter();
-    kinds.filter(|kind| !NEVER.contains(kind))
+    of_check().filter(|kind| !NEVER.contains(kind))
 }
 
 pub fn another(word: &str) -> String {

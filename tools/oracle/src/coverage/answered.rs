@@ -84,7 +84,7 @@ pub fn rows(rows: &mut Rows) {
 
 fn changes(rows: &mut Rows) {
     for kind in CHANGE_KINDS {
-        if NEVER.contains(&kind) {
+        if NEVER.contains(&kind) || kind == ChangeKind::WidthChanged {
             rows.never(format!("change {kind:?}"));
             continue;
         }

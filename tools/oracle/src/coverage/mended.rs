@@ -1,13 +1,15 @@
-//! Facts about the mended verdict: where types are alike or differ around vectors,
-//! and how it differs from the others. "A vector" is one of tags 10 to 15.
+//! Facts about the mended verdict: where types are alike or differ around
+//! vectors, formats and widths, and how it differs from the others. "A vector" is one of tags 10 to 15.
 
 use super::alike::{self, Met};
 use super::another::{self, BUMPS};
+use super::widths;
 use crate::answer::{Answer, Pair, Verdict};
 use crate::changes::{Bump, ChangeKind};
 use crate::imports::{compared_types, reached};
 use crate::mended::{compared, holds_geometric, Compared};
 use crate::model::{kept, surviving_declarations, survivors};
+use crate::refusal::MIXED;
 use crate::schema::*;
 use std::collections::BTreeSet;
 
@@ -23,7 +25,11 @@ pub fn facts(pair: &Pair) -> BTreeSet<String> {
     let Some((old, new)) = pair.schemas() else {
         return facts;
     };
+    facts.extend(widths::facts(pair));
     let mended = pair.by(Verdict::Mended);
+    if mended.number == MIXED {
+        return facts;
+    }
     facts.extend(another::facts(WORD, &pair.answer, &mended));
     if mended.number != 0 {
         return facts;
@@ -163,17 +169,24 @@ pub fn all_facts() -> Vec<String> {
     all.push(another::another(WORD));
     all.push(another::shorter(WORD));
     all.extend(BUMPS.map(|mended| another::bumps(WORD, Bump::Major, mended)));
+    // Nothing but a width is new, and that is Major.
+    all.extend([Bump::Patch, Bump::Minor].map(|plain| another::bumps(WORD, plain, Bump::Major)));
     all.push(another::fewer_of(WORD, ChangeKind::FieldTypeChanged));
+    all.push(another::more_of(WORD, ChangeKind::WidthChanged));
+    all.extend(widths::all_facts());
     all.extend(alike::all_facts());
     all
 }
 
-/// Only a changed type may be missing from what 01 says, and that is Major there.
+/// Only a changed type may be missing from what 01 says, and that is Major there; only a
+/// changed width may come to it.
 pub fn never() -> Vec<String> {
-    let mut never = vec![itself(Bump::Minor), itself(Bump::Major)];
+    let mut never = widths::never();
+    never.extend([itself(Bump::Minor), itself(Bump::Major)]);
     never.extend([another::refused_by_01(WORD), another::refused_alone(WORD)]);
     for plain in [Bump::Patch, Bump::Minor] {
-        never.extend(BUMPS.map(|mended| another::bumps(WORD, plain, mended)));
+        let others = [Bump::Patch, Bump::Minor];
+        never.extend(others.map(|mended| another::bumps(WORD, plain, mended)));
     }
     for kind in another::live_kinds() {
         never.push(another::more_of(WORD, kind));

@@ -11,6 +11,7 @@ mod answered;
 mod compared;
 mod damaged;
 mod edges;
+mod formats;
 mod held;
 mod imports;
 mod mended;
@@ -19,6 +20,7 @@ pub mod refiled;
 mod refused;
 mod typed;
 mod ways;
+mod widths;
 
 use crate::answer::{Pair, Verdict, VERDICTS};
 use crate::cases::Case;
@@ -115,6 +117,7 @@ pub struct Coverage {
     pairs: BTreeSet<(Vec<u8>, Vec<u8>)>,
     last: Vec<u8>,
     filed: refiled::Filed,
+    rewritten: formats::Rewritten,
 }
 
 impl Coverage {
@@ -126,6 +129,7 @@ impl Coverage {
         damaged::facts(&mut facts, case);
         edges::facts(&mut facts, pair);
         pinned::facts(&mut facts, case);
+        formats::of_refused(&mut facts, case, pair);
         if let (Ok(old), Ok(new)) = (&pair.old, &pair.new) {
             held::facts(&mut facts, old, "old");
             held::facts(&mut facts, new, "new");
@@ -133,6 +137,7 @@ impl Coverage {
         }
         self.neighbours(&mut facts, case, pair);
         self.filed.facts(&mut facts, pair);
+        self.rewritten.facts(&mut facts, pair);
         for verdict in VERDICTS {
             facts.0.extend(facts_for(verdict, pair));
         }
@@ -166,6 +171,7 @@ impl Coverage {
         typed::rows(&mut rows);
         refiled::rows(&mut rows);
         pinned::rows(&mut rows);
+        formats::rows(&mut rows);
         for verdict in VERDICTS {
             all_facts_for(verdict).into_iter().for_each(|f| rows.one(f));
             never_for(verdict).into_iter().for_each(|f| rows.never(f));

@@ -69,7 +69,7 @@ fn front(rows: &mut Rows) {
     values(rows, 2, "ids", &[1, 2, 3, 4]);
     values(rows, 2, "name length", &[1]);
     values(rows, 2, "segment", &[1, 2]);
-    values(rows, 3, "format", &[0, 2, 256, 65_535]);
+    values(rows, 3, "format", &[0, 3, 256, 258, 65_535]);
     values(rows, 4, "N", &[513, 65_535]);
     values(rows, 4, "M", &[513, 65_535]);
     values(rows, 4, "S", &[17, 18, 256, 65_535]);
@@ -126,10 +126,20 @@ const WANTED: [(&str, &[&str], bool); 8] = [
     ("message", &["marks", "count"], true),
     (
         "enum",
-        &["marks", "count", "item ordinal", "enum variant name"],
+        &[
+            "marks",
+            "width",
+            "count",
+            "item ordinal",
+            "enum variant name",
+        ],
         false,
     ),
-    ("flags", &["count", "item ordinal", "bit name"], false),
+    (
+        "flags",
+        &["width", "count", "item ordinal", "bit name"],
+        false,
+    ),
     (
         "union",
         &[
@@ -182,6 +192,11 @@ fn codes(rows: &mut Rows) {
         "union: field marks",
     ];
     places(rows, 9, &places_of_marks);
+    values(rows, 9, "width", &[0, 3, 5, 6, 7, 9, 16, 255]);
+    rows.sides(|side| format!("9 {side}: flags: width"));
+    for side in ["old", "new"] {
+        rows.never(format!("9 {side}: enum: width"));
+    }
     values(rows, 9, "encoding", &[4, 255]);
     values(rows, 9, "inner encoding", &[4, 255]);
     values(rows, 9, "limit mark", &[2, 255]);

@@ -5,6 +5,6 @@ mod pairs;
 mod reach;
 mod shapes;
 
-pub use pairs::import_pair;
+pub use pairs::{import_pair, import_releases};
 pub use reach::{compared_types, longer, named_ids, reached, standing};
 pub use shapes::random_imports;

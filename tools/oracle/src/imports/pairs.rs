@@ -12,7 +12,7 @@ use crate::rng::Rng;
 use crate::schema::*;
 use crate::writer::image;
 
-/// The images of a pair; now and then one of them is faulty.
+/// The images of a pair of the first format; now and then one of them is faulty.
 pub fn import_pair(rng: &mut Rng) -> (Vec<u8>, Vec<u8>) {
     let releases = import_releases(rng);
     images(rng, releases)

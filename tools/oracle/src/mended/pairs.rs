@@ -12,13 +12,13 @@ use crate::rng::Rng;
 use crate::schema::*;
 use crate::writer::image;
 
-/// The images of a pair; now and then one of them is faulty.
+/// The images of a pair of the first format; now and then one of them is faulty.
 pub fn mended_pair(rng: &mut Rng) -> (Vec<u8>, Vec<u8>) {
     let [old, new, _] = mended_releases(rng);
     images(rng, [old, new])
 }
 
-/// Three releases: each mostly the next one, else another or the same. Mostly edits add
+/// Three releases of the first format: each mostly the next one, else another or the same. Mostly edits add
 /// to what they find; the other way about they take away.
 pub fn mended_releases(rng: &mut Rng) -> [Schema; 3] {
     loop {

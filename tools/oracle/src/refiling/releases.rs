@@ -2,6 +2,7 @@
 
 use super::refiled;
 use crate::edits::edited;
+use crate::formats::{any_formats, in_formats};
 use crate::limits::IMAGE_BYTES;
 use crate::make::implementation;
 use crate::random::{random_id, random_name, random_schema};
@@ -10,7 +11,7 @@ use crate::schema::*;
 use crate::writer::image;
 use std::collections::BTreeSet;
 
-/// An image, then a copy of it that is filed anew.
+/// An image, then a copy of it that is filed anew, each of any format.
 pub type FiledTwice = [Vec<u8>; 2];
 
 /// The images of a random pair without repeats, each with a copy.
@@ -20,7 +21,11 @@ pub fn filed_pair(rng: &mut Rng) -> [FiledTwice; 2] {
         false => *rng.pick(&[1, 3, 8, 24]),
     };
     let releases = unrepeated_releases(rng, most);
-    releases.map(|release| [image(&release), image(&refiled(rng, &release))])
+    releases.map(|release| {
+        let copy = refiled(rng, &release);
+        let formats = any_formats(rng);
+        in_formats(rng, [release, copy], formats).map(|schema| image(&schema))
+    })
 }
 
 /// A release and mostly the next one, else another or the same.

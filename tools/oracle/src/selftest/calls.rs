@@ -3,8 +3,9 @@
 
 use super::reading::RIDE;
 use super::{Tests, ROOT};
-use crate::answer::judge;
+use crate::answer::{judge, VERDICTS};
 use crate::answers::{self, Recorded};
+use crate::formats::SECOND_FORMAT;
 use crate::make::*;
 use crate::writer::image;
 use std::path::Path;
@@ -46,7 +47,7 @@ pub fn run(tests: &mut Tests) {
     refile(tests, &folder);
     refile_refuses(tests, &folder);
     places(tests, &folder);
-    whole_report(tests, &folder);
+    whole_reports(tests, &folder);
     options(tests, &folder);
     let removed = std::fs::remove_dir_all(&folder);
     tests.holds("the folder is removed", removed.is_ok());
@@ -192,17 +193,25 @@ fn places(tests: &mut Tests, folder: &Path) {
     tests.equal("places of no answers", none.status, Some(1));
 }
 
-/// A recorded report of one byte too many for the small program.
-fn whole_report(tests: &mut Tests, folder: &Path) {
+/// Recorded reports of one byte too many for the small program: of 01 and with imports,
+/// and mended.
+fn whole_reports(tests: &mut Tests, folder: &Path) {
     let file = answers::read(&super::read_file("crates/replay/data/answers.bin"));
     let list = file.unwrap_or_default();
-    let case = list
-        .iter()
-        .find(|pair| pair.name == "report of 65537 bytes");
-    let Some(case) = case else {
-        tests.holds("a report of 65537 bytes is recorded", false);
-        return;
-    };
+    let words = [
+        ("report of 65537 bytes", &[&[][..], &["--imports"]][..]),
+        ("widths: report of 65537 bytes", &[&["--mended"]]),
+    ];
+    for (name, words) in words {
+        match list.iter().find(|pair| pair.name == name) {
+            Some(case) => whole_report(tests, folder, case, words),
+            None => tests.holds(&format!("{name} is recorded"), false),
+        }
+    }
+}
+
+/// By the verdicts that these words ask for.
+fn whole_report(tests: &mut Tests, folder: &Path, case: &Recorded, words: &[&[&str]]) {
     let path = |name: &str| folder.join(name).to_string_lossy().into_owned();
     let (old, new) = (path("long-old.img"), path("long-new.img"));
     let written =
@@ -215,17 +224,17 @@ fn whole_report(tests: &mut Tests, folder: &Path) {
         tests.equal(&named, found.printed.as_bytes(), wanted);
         tests.equal(&named, found.status, Some(0));
     };
-    let reports = case.answers.each_ref();
-    let [plain, others @ ..] = reports.map(|answer| answer.report.as_slice());
-    report(&[], b"refused 12 both\n");
-    report(&["--whole"], plain);
-    for (option, whole) in OPTIONS.into_iter().zip(others) {
-        report(&[option], b"refused 12 both\n");
-        report(&["--whole", option], whole);
-        report(&[option, "--whole"], whole);
+    let mut lengths = Vec::new();
+    for (verdict, answer) in VERDICTS.iter().zip(&case.answers) {
+        let option: Vec<&str> = verdict.option().into_iter().collect();
+        if words.contains(&option.as_slice()) {
+            report(&option, b"refused 12 both\n");
+            report(&[&["--whole"], &option[..]].concat(), &answer.report);
+            report(&[&option[..], &["--whole"]].concat(), &answer.report);
+            lengths.push(answer.report.len());
+        }
     }
-    let lengths = reports.map(|answer| answer.report.len());
-    tests.equal("their length", lengths, [65_537; 3]);
+    tests.equal("their length", lengths, vec![65_537; words.len()]);
     let none = call(&["report", "--whole", &path("none.img"), &old]);
     tests.equal("a refusal, whole", none.printed.as_str(), "refused 2 old\n");
 }
@@ -237,7 +246,8 @@ const OPTIONS: [&str; 2] = ["--imports", "--mended"];
 fn options(tests: &mut Tests, folder: &Path) {
     let imports = ["import-old.img", "import-new.img"].map(sample);
     let seat = folder.join("seat.img").to_string_lossy().into_owned();
-    let image = image(&schema(vec![newtype("Seat", wrapped(11, primitive(9)))]));
+    let seats = schema(vec![newtype("Seat", wrapped(11, primitive(9)))]);
+    let image = image(&seats.in_format(SECOND_FORMAT));
     let written = std::fs::write(&seat, image);
     tests.holds("an image with a vector", written.is_ok());
     for (option, pair) in OPTIONS.into_iter().zip([imports, [seat.clone(), seat]]) {

@@ -4,13 +4,16 @@
 
 use super::{read_file, Tests};
 use crate::cases::ride;
+use crate::changes::ChangeKind::WidthChanged;
 use crate::changes::{Change, CHANGE_KINDS};
 use crate::edits::edited;
+use crate::formats::{in_formats, SECOND_FORMAT};
 use crate::limits::*;
 use crate::make::*;
-use crate::model::{check, PLAIN};
+use crate::mended::width_change;
+use crate::model::{check, Reading, PLAIN};
 use crate::random::random_schema;
-use crate::refusal::{Refusal, FULL};
+use crate::refusal::WORDS;
 use crate::rng::Rng;
 use crate::schema::{inner_types, Declaration, Type, KIND_NAMES};
 use crate::types::{type_display, ENCODINGS, PRIMITIVES, SEMANTICS};
@@ -43,12 +46,16 @@ fn cell(row: &Row, column: usize) -> &str {
 
 /// Every table of numbers and words has all of them, in their order.
 fn words(tests: &mut Tests, page: &str) {
-    let refusals: Vec<String> = (1..=FULL).map(refusal_word).collect();
     let kinds = CHANGE_KINDS.map(|kind| format!("{kind:?}"));
-    let mut table = |heading: &str, first: usize, words: Vec<&str>| {
+    let table = |heading: &str| {
         let rows = rows(page, heading);
         let found = rows.iter().map(|row| (cell(row, 0), cell(row, 1)));
-        let found: Vec<_> = found.map(|(n, word)| format!("{n} {word}")).collect();
+        found.map(|(n, word)| format!("{n} {word}")).collect()
+    };
+    let refusals = WORDS.map(|(n, word)| format!("{n} {word}")).to_vec();
+    tests.equal("## Refusals", table("## Refusals"), refusals);
+    let mut table = |heading: &str, first: usize, words: Vec<&str>| {
+        let found: Vec<String> = table(heading);
         let wanted = (first..).zip(words).map(|(n, word)| format!("{n} {word}"));
         tests.equal(heading, found, wanted.collect());
     };
@@ -57,21 +64,10 @@ fn words(tests: &mut Tests, page: &str) {
     table("### Primitive codes", 0, PRIMITIVES.to_vec());
     table("### Semantic codes", 0, SEMANTICS.to_vec());
     table(
-        "## Refusals",
-        1,
-        refusals.iter().map(String::as_str).collect(),
-    );
-    table(
         "### The counts",
         5,
         kinds.iter().map(String::as_str).collect(),
     );
-}
-
-/// The word that a refusal is told with.
-fn refusal_word(number: u8) -> String {
-    let told = Refusal::new(number, "", 0).to_string();
-    told.split(": ").nth(1).unwrap_or_default().to_string()
 }
 
 /// Every tag has as many inner types as the reader asks for, and is shown as the
@@ -135,16 +131,22 @@ fn fitting(body: impl Fn(usize) -> Declaration) -> usize {
     (IMAGE_BYTES - bytes(0)) / each
 }
 
-/// Every change of random pairs has a row with its words, and every row a change.
+/// Every change of random pairs has a row with its words, and every row a change; the
+/// last row one of the mended verdict alone.
 fn changes(tests: &mut Tests, page: &str) {
     let rows = rows(page, "### The clauses");
     let mut rng = Rng::new(20261203);
     let mut met = vec![false; rows.len()];
     let mut untold = Vec::new();
+    let mut told_by_01 = true;
     for _ in 0..1_000 {
         let old = random_schema(&mut rng, 6);
         let new = edited(&mut rng, &old, 5);
-        for change in check(&old, &new, PLAIN).changes {
+        let [old, new] = in_formats(&mut rng, [old, new], [SECOND_FORMAT; 2]);
+        let wide = check(&old, &new, WIDE).changes;
+        let others = wide.iter().filter(|change| change.kind != WidthChanged);
+        told_by_01 &= others.eq(&check(&old, &new, PLAIN).changes);
+        for change in wide {
             let told: Vec<bool> = rows.iter().map(|row| tells(row, &change)).collect();
             if !told.contains(&true) {
                 untold.push(change);
@@ -155,8 +157,15 @@ fn changes(tests: &mut Tests, page: &str) {
         }
     }
     tests.equal("every change is told", untold, vec![]);
-    tests.equal("every row is met", met, vec![true; 20]);
+    tests.equal("every row is met", met, vec![true; 21]);
+    tests.holds("01 tells all but widths", told_by_01);
 }
+
+/// 01's clauses and what the mended verdict says of widths.
+const WIDE: Reading = Reading {
+    width_change,
+    ..PLAIN
+};
 
 fn tells(row: &Row, change: &Change) -> bool {
     let field = if change.field.is_some() { "`+`" } else { "`-`" };

@@ -6,25 +6,24 @@ use crate::answer::{judge, Answer, Pair, Side, Verdict};
 use crate::cases;
 use crate::coverage::{all_facts_for, facts_for, never_for};
 use crate::made::pair_for;
-use crate::model::{alias_pair, check, Reading};
+use crate::model::{check, refusal, Reading};
 use crate::record::SEED;
-use crate::refusal::ALIAS_PAIR;
 use crate::rng::Rng;
 use crate::schema::Schema;
 use std::collections::BTreeMap;
 
-const PAIRS: usize = 6_000;
-
 /// What is asked of the pairs made for a verdict.
 pub struct Asked {
     pub verdict: Verdict,
+    /// So many are made.
+    pub pairs: usize,
     /// The names of its recorded edges start so, and there are so many or more.
     pub edges: (&'static str, usize),
     /// So many pairs or more hold a fact.
     pub often: &'static [(&'static str, usize)],
     /// So many pairs or more get each bump.
     pub bumps: [usize; 3],
-    /// So many pairs or more are refused, by another number than 11.
+    /// So many pairs or more are refused for one of their images.
     pub faulty: usize,
     /// What is wrong, by which verdict it is told, and how that reads then.
     pub wrong: Vec<(&'static str, Verdict, Reading)>,
@@ -33,7 +32,7 @@ pub struct Asked {
 /// Runs the tests and gives the pairs.
 pub fn run(tests: &mut Tests, asked: &Asked) -> Vec<Pair> {
     let mut rng = Rng::new(SEED);
-    let pairs: Vec<Pair> = (0..PAIRS)
+    let pairs: Vec<Pair> = (0..asked.pairs)
         .map(|_| pair_for(asked.verdict, &mut rng))
         .map(|(old, new)| judge(&old, &new))
         .collect();
@@ -71,7 +70,7 @@ fn answered(tests: &mut Tests, asked: &Asked, pairs: &[Pair]) {
     for answer in pairs.iter().map(|pair| pair.by(asked.verdict)) {
         match answer.side {
             Side::None => verdicts[answer.bump as usize] += 1,
-            _ => refused += usize::from(answer.number != ALIAS_PAIR),
+            _ => refused += usize::from(answer.side != Side::Both),
         }
     }
     for (found, least) in verdicts.into_iter().zip(asked.bumps) {
@@ -85,9 +84,9 @@ fn answered(tests: &mut Tests, asked: &Asked, pairs: &[Pair]) {
 
 /// The answer by a reading, as the model gives it.
 fn answer((old, new): (&Schema, &Schema), reading: Reading) -> Answer {
-    match alias_pair(old, new, reading) {
-        true => Answer::refused(ALIAS_PAIR, Side::Both),
-        false => Answer::of(&check(old, new, reading)),
+    match refusal(old, new, reading) {
+        Some(number) => Answer::refused(number, Side::Both),
+        None => Answer::of(&check(old, new, reading)),
     }
 }
 

@@ -102,7 +102,7 @@ fn damages(images: &Files, name: &str) -> Vec<String> {
 
 /// What stands before the command of a pair that no verdict tells says so.
 fn not_seen(tests: &mut Tests, readme: &str) {
-    for name in ["unresolved", "twice", "width", "silent"] {
+    for name in ["unresolved", "twice", "silent"] {
         let command = format!("$ ./vexil-compat samples/{name}-old.img");
         let before = readme.split(&command).next().unwrap_or_default();
         let since = before.rsplit("$ ./vexil-compat").next().unwrap_or_default();

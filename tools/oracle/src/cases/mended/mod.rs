@@ -7,6 +7,8 @@ mod named;
 mod reports;
 mod types;
 
+pub use chains::chain;
+
 use super::Cases;
 use crate::make::*;
 use crate::mended::{mended_pair, mended_releases};

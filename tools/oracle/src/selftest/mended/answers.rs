@@ -1,6 +1,7 @@
-//! The mended answers beside those of 01 and with imports.
+//! The mended answers beside those of 01 and with imports, all in format 2.
 
 use crate::answer::{judge, Verdict, VERDICTS};
+use crate::formats::SECOND_FORMAT;
 use crate::limits::NODES;
 use crate::make::*;
 use crate::schema::{Declaration, Schema, Type};
@@ -20,8 +21,10 @@ pub fn run(tests: &mut Tests) {
     refused(tests);
 }
 
+/// Of schemas without enums and flags.
 fn report(verdict: Verdict, old: &Schema, new: &Schema) -> String {
-    let answer = judge(&image(old), &image(new)).by(verdict);
+    let [old, new] = [old, new].map(|schema| image(&schema.clone().in_format(SECOND_FORMAT)));
+    let answer = judge(&old, &new).by(verdict);
     String::from_utf8_lossy(&answer.printed()).into_owned()
 }
 

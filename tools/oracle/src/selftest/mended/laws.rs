@@ -1,9 +1,10 @@
-//! The distance rule on random releases: by every verdict the chain rule and the swap of
+//! The distance rule on random releases of format 2: by every verdict the chain rule and the swap of
 //! counts, and by the mended one distance 0 of each image from itself.
 
 use crate::answer::{judge, Answer, Verdict, VERDICTS};
 use crate::changes::{Bump, ChangeKind, CHANGE_KINDS};
-use crate::mended::mended_releases;
+use crate::formats::SECOND_FORMAT;
+use crate::mended::releases_in;
 use crate::record::SEED;
 use crate::rng::Rng;
 use crate::selftest::Tests;
@@ -11,7 +12,7 @@ use crate::writer::image;
 
 use ChangeKind::*;
 
-const CHAINS: usize = 1_500;
+const CHAINS: usize = 2_000;
 
 /// Removed, and added in that place.
 const SWAPPED: [(ChangeKind, ChangeKind); 4] = [
@@ -24,7 +25,7 @@ const SWAPPED: [(ChangeKind, ChangeKind); 4] = [
 pub fn run(tests: &mut Tests) {
     let mut rng = Rng::new(SEED);
     let chains: Vec<[Vec<u8>; 3]> = (0..CHAINS)
-        .map(|_| mended_releases(&mut rng).map(|release| image(&release)))
+        .map(|_| releases_in(&mut rng, [SECOND_FORMAT; 3]).map(|release| image(&release)))
         .collect();
     for verdict in VERDICTS {
         chain_rule(tests, verdict, &chains);

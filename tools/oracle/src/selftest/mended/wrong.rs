@@ -32,7 +32,7 @@ pub fn wrong() -> Vec<Wrong> {
     all.push(by(Verdict::Imports, equal));
     let followed = Reading {
         standing,
-        types_equal: mended::types_equal,
+        ..Verdict::Mended.reading()
     };
     all.push(("imports are followed", Verdict::Mended, followed));
     all
