@@ -31,7 +31,7 @@ class Record:
     """The file of recorded answers, read from front to back; tools/oracle/README.md gives its form."""
 
     def __init__(self, data: bytes):
-        assert data[:8] == b"VEXANSW4", f"recorded answers of another form: {data[:8]}"
+        assert data[:8] == b"VEXANSW5", f"recorded answers of another form: {data[:8]}"
         self.data, self.at = data, 8
         self.pairs, self.counts, *_ = self.numbers("6I")
 

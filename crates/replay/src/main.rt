@@ -262,7 +262,7 @@ fn replay_file(rt: &impl Print, file: &mut impl Read) -> Step {
     if !file::fill(file, &mut magic, 8) {
         return Step::Broken;
     }
-    if magic != *b"VEXANSW4" {
+    if magic != *b"VEXANSW5" {
         return Step::Broken;
     }
     let first = file::read_u32(file);
