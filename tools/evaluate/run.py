@@ -4,7 +4,7 @@
 Of each recorded pair that is small enough it writes two theorems: the selectors, and the report, that the definitions give for these bytes
 are the recorded ones, by `refl`. The theorems are checked in a temporary repository, 20 to a file. Not part of the gate: some hundred
 pairs take a minute. The answers are those of the Rust; with --imports or --mended those of the model by that verdict, of the pairs on which it
-has another.
+has another, those that it does not refuse first.
 """
 
 import shutil
@@ -71,6 +71,7 @@ def main():
     answers = recorded()
     if verdict != PLAIN:
         answers = (other for plain, other in zip(recorded(), recorded(verdict)) if plain != other)
+        answers = sorted(answers, key=lambda pair: pair[3][0])
     small = [pair for pair in answers if len(pair[1]) + len(pair[2]) < IMAGES and len(pair[4]) < REPORT]
     pairs = small[first : first + count]
     with tempfile.TemporaryDirectory() as folder:
