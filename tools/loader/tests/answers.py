@@ -65,10 +65,13 @@ def counts_by_verdict(suite: Suite):
 
 
 def told_apart(suite: Suite):
-    """A changed import is Breaking by the verdict with imports alone; the wheel's vectors are not by the mended one alone, until one changes."""
+    """A changed import is Breaking by the verdict with imports alone, a changed width by the mended one alone; the wheel's vectors are not by the
+    mended one alone, until one changes."""
     for verdict in VERDICTS:
         imports = DO_NOT_LOAD if verdict == IMPORTS else LOAD
         suite.equal(f"an import that changes {verdict}", output(LOADER, *verdict, *sample_files("import-old", "import-new"))[0], imports)
+        widths = DO_NOT_LOAD if verdict == MENDED else LOAD
+        suite.equal(f"a width that changes {verdict}", output(LOADER, *verdict, *sample_files("width-old", "width-new"))[0], widths)
         vectors = LOAD if verdict == MENDED else DO_NOT_LOAD
         for old, new in ((1, 1), (1, 2), (2, 3), (1, 3), (4, 4)):
             suite.equal(f"wheel {old} {new} {verdict}", output(LOADER, *verdict, *sample_files(f"wheel-{old}", f"wheel-{new}"))[0], vectors)
