@@ -41,9 +41,9 @@ extern "C" {
 #endif
 
 /* The version of this header: the first number rises if a program may have to change, the second if something is added. */
-#define VEXIL_COMPAT_VERSION_MAJOR 1
-#define VEXIL_COMPAT_VERSION_MINOR 2
-#define VEXIL_COMPAT_VERSION "1.2"
+#define VEXIL_COMPAT_VERSION_MAJOR 2
+#define VEXIL_COMPAT_VERSION_MINOR 0
+#define VEXIL_COMPAT_VERSION "2.0"
 
 /* The toolchain that the library is proved with, as `rt version` names it. */
 #define VEXIL_COMPAT_KIT "rattle-kit-13f logic dac8208d650f15bf"

@@ -48,6 +48,6 @@ pub fn print_help(rt: &(impl Print + Eprint)) {
 
 // The version is that of the header for C.
 pub fn print_version(rt: &(impl Print + Eprint)) {
-    let written = println!(rt; "vexil_compat 1.2");
+    let written = println!(rt; "vexil_compat 2.0");
     warn_unless(rt, written);
 }
