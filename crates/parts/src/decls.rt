@@ -74,6 +74,7 @@ pub fn stores_width(image: &[u8], at: usize) -> bool
     if !is_measured(image[at]) {
         return false;
     }
+    // Not `reader::contents::format`, which asks for a whole head: where a declaration stands there need not be one.
     has_widths(u16_at(image, 0))
 }
 

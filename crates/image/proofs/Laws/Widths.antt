@@ -1,13 +1,13 @@
 -- Widths, case by case: a format without them, and one that stores them. Assumes nothing.
 use mathlib.Core.Path.{◌≡◌, refl, ◌∙◌, sym}
-use mathlib.Core.Bool.{Bool, true, false}
-use mathlib.Core.Option.{Option, none, some}
+use mathlib.Core.Bool.{true, false}
+use mathlib.Core.Option.{some}
 use mathlib.Core.List.{List}
 use Prim.Native.Nat.{ℕ}
-use lib.ListN.{length, get_or}
+use lib.ListN.{get_or}
 use Rattle.image.specs.Formats.{hasWidths}
-use Rattle.image.specs.Parse.{Parsed, ok, bind, pick, byteAt}
-use Rattle.image.specs.Widths.{wireBitsAt, wireBytes, wireBytesAt, widthAt}
+use Rattle.image.specs.Parse.{Parsed, pick, byteAt}
+use Rattle.image.specs.Widths.{wireBytes, wireBytesAt, widthAt}
 use Rattle.image.specs.Reads.{skip}
 use Rattle.image.specs.declared.Read.{Read}
 use Rattle.image.specs.declared.Read.TheVariants.{At, Refused}

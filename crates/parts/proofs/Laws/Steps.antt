@@ -14,7 +14,7 @@ use Rattle.image.specs.Fields.{marksOf, marksAt}
 use Rattle.image.specs.Formats.{hasWidths}
 use Rattle.image.specs.Widths.{wireBitsAt, wireBytesAt, widthAt}
 use Rattle.image.specs.WellFormed.{Good, valueOr, endOf}
-use Rattle.image.proofs.Laws.Sure.{Named, byte-sure, code-sure, number-sure, name-sure}
+use Rattle.image.proofs.Laws.Sure.{Sure, sure-ok, sure-no, Named, byte-sure, code-sure, number-sure, name-sure}
 use Rattle.image.proofs.Laws.Good.{sure-good, good-first}
 use Rattle.parts.specs.Promise.{NameHere, nameIn, nameEnd}
 
@@ -22,6 +22,12 @@ pub good-is : {A : Type 0} (d : A) (p : Parsed A) → Good p → p ≡ ok (value
 unfolding Good valueOr endOf
 good-is d (ok a n) g = refl
 good-is d (no k) g = absurd g
+
+-- what is known of every answer
+pub itself : {A : Type 0} (d : A) (p : Parsed A) → Sure (λ a n. Good p × (a ≡ valueOr d p) × (n ≡ endOf p)) p
+unfolding Good valueOr endOf
+itself d (ok a n) = sure-ok (tt, refl, refl)
+itself d (no k) = sure-no
 
 -- a read whose value is known, and what follows it
 module _ {A B : Type 0} {p : Parsed A} (f : A → ℕ → Parsed B) {a : A} {n : ℕ} (e : p ≡ ok a n) where

@@ -1,5 +1,5 @@
 use Rattle.std.proofs.Common.{arith, sym, ◌∙◌}
-use Rattle.parts.proofs.Laws.Decls.{items-after, items-after-width}
+use Rattle.parts.proofs.Laws.Counted.{items-after, items-after-width}
 use Rattle.members.proofs.items.decl_items.Goals as goal
 
 pub width_place-place-requires : goal.width_place-place-requires

@@ -1,6 +1,7 @@
 -- `parts::decls::width_place` meets its contract. Assumes nothing.
 use Rattle.std.proofs.Common.{arith, ℕ, ◌+◌, ap, sym, ◌∙◌}
-use Rattle.parts.proofs.Laws.Decls.{kind-there, decl-kind, decl-head, name-there, place-marked, place-plain}
+use Rattle.parts.proofs.Laws.Widths.{place-marked, place-plain}
+use Rattle.parts.proofs.Laws.Decls.{kind-there, decl-kind, decl-head, name-there}
 use Rattle.parts.proofs.decls.width_place.Goals as goal
 
 pub overflow_add-at : goal.overflow_add-at
