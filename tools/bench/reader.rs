@@ -50,10 +50,12 @@ fn images(file: &[u8]) -> Vec<&[u8]> {
         for _ in 0..2 {
             at += 4 + number(at);
         }
-        // The answer of 01, and the one with imports where it is another.
+        // The answer of 01, and each of the two others where it is another.
         let past = |at: usize| at + 8 + 4 * counts + number(at + 4);
         at = past(at);
-        at = if file[at] == 0 { at + 1 } else { past(at + 1) };
+        for _ in 0..2 {
+            at = if file[at] == 0 { at + 1 } else { past(at + 1) };
+        }
     }
     assert_eq!(at, file.len());
     list

@@ -3,7 +3,7 @@
 #
 #   tools/bench/run.sh reader   the reader of images against the oracle's, on the accepted recorded images of 32,768 bytes
 #   tools/bench/run.sh verdict  the library's verdict against `check`, on the recorded pairs and on generated ones, and the one with imports
-#                               and the mended one against it
+#                               and the mended one against it, the mended one on the pairs in format 2
 #   tools/bench/run.sh          both
 set -euo pipefail
 here=$(cd "$(dirname "${BASH_SOURCE[0]}")" && pwd)

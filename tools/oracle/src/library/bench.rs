@@ -6,8 +6,10 @@ use super::timed::*;
 use super::{worst, IMPORTS, MENDED, PLAIN};
 use crate::answers;
 use crate::commands::Outcome;
+use crate::formats::SECOND_FORMAT;
 use crate::record::SEED;
 use crate::rng::Rng;
+use crate::schema::FIRST_FORMAT;
 
 /// Classes of the larger image: its length is below the number.
 const CLASSES: [(&str, usize); 5] = [
@@ -83,8 +85,8 @@ fn print_beside_head(word: &str) {
 
 /// Another verdict beside that of 01 on a class of pairs, and the pair of it on which it
 /// takes longest.
-fn print_beside(name: &str, verdict: Side, class: &[&Pair]) {
-    let sides = [verdict, library_verdict];
+fn print_beside(name: &str, [verdict, plain]: [Side; 2], class: &[&Pair]) {
+    let sides = [verdict, plain];
     let timed = class.iter().map(|pair| (best(sides, pair), pair));
     if let Some(([most, beside], pair)) = timed.max_by(|a, b| a.0[0].total_cmp(&b.0[0])) {
         let [other, plain] = measure(sides, class, RUNS).map(|(median, _)| median);
@@ -97,17 +99,19 @@ fn print_beside(name: &str, verdict: Side, class: &[&Pair]) {
 fn print_imports(pairs: &[Pair]) {
     print_beside_head("with imports");
     for (name, class) in classes(pairs) {
-        print_beside(name, imports_verdict, &class);
+        print_beside(name, [imports_verdict, library_verdict], &class);
     }
 }
 
-/// Of each class those that hold a vector, a quaternion or a matrix, and the others.
+/// Of each class those that hold a vector, a quaternion or a matrix, and the others, all
+/// in format 2.
 fn print_mended(pairs: &[Pair]) {
     print_beside_head("mended");
     for (name, class) in classes(pairs) {
         let (with, without): (Vec<_>, Vec<_>) = class.into_iter().partition(|p| p.vectors);
-        print_beside(&format!("{name}, vectors"), mended_verdict, &with);
-        print_beside(&format!("{name}, none"), mended_verdict, &without);
+        let sides: [Side; 2] = [mended_verdict, second_verdict];
+        print_beside(&format!("{name}, vectors"), sides, &with);
+        print_beside(&format!("{name}, none"), sides, &without);
     }
 }
 
@@ -153,7 +157,13 @@ fn classes(pairs: &[Pair]) -> Vec<(&'static str, Vec<&Pair>)> {
 fn generated() -> Vec<Vec<Pair>> {
     let mut rng = Rng::new(SEED);
     let mut next = |declarations: usize, place: usize| loop {
-        let (old, new) = releases(&mut rng, declarations);
+        // Every other pair is of format 2.
+        let format = if place % 2 == 0 {
+            FIRST_FORMAT
+        } else {
+            SECOND_FORMAT
+        };
+        let (old, new) = releases(&mut rng, declarations, format);
         let name = format!("generated {declarations}, {place}");
         if let Some(pair) = Pair::of(name, old, new) {
             return pair;

@@ -2,6 +2,7 @@
 //! asked for, each with a name of its own, and ordinals that count up.
 
 use crate::edits::edited;
+use crate::formats::in_formats;
 use crate::limits::IMAGE_BYTES;
 use crate::make::schema;
 use crate::random::random_declaration;
@@ -11,12 +12,12 @@ use crate::writer::image;
 
 const MOST_EDITS: usize = 6;
 
-/// The images of a release with so many declarations and of the next one.
-pub fn releases(rng: &mut Rng, declarations: usize) -> (Vec<u8>, Vec<u8>) {
+/// The images of a release with so many declarations and of the next one, of one format.
+pub fn releases(rng: &mut Rng, declarations: usize, format: u16) -> (Vec<u8>, Vec<u8>) {
     loop {
         let old = release(rng, declarations);
         let new = edited(rng, &old, MOST_EDITS);
-        let (old, new) = (image(&old), image(&new));
+        let [old, new] = in_formats(rng, [old, new], [format; 2]).map(|s| image(&s));
         if old.len().max(new.len()) <= IMAGE_BYTES {
             return (old, new);
         }

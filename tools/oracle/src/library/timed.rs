@@ -2,13 +2,16 @@
 
 use super::{Calls, IMPORTS, MENDED, PLAIN};
 use crate::answer::{judge, SELECTORS};
+use crate::formats::SECOND_FORMAT;
 use crate::imports::compared_types;
 use crate::ir::CompiledSchema;
+use crate::limits::IMAGE_BYTES;
 use crate::mended::holds_geometric;
 use crate::reader::read_image;
 use crate::schema::Schema;
 use crate::vexil::compat::check;
 use crate::vexil::compile;
+use crate::writer::image;
 use std::hint::black_box;
 use std::time::Instant;
 
@@ -23,6 +26,8 @@ pub struct Pair {
     pub name: String,
     old: Vec<u8>,
     new: Vec<u8>,
+    /// The same in format 2, which the mended verdict asks for.
+    second: [Vec<u8>; 2],
     built: [CompiledSchema; 2],
     /// One of tags 10 to 15 stands in a type of either image.
     pub vectors: bool,
@@ -35,7 +40,8 @@ fn holds_vectors(schema: &Schema) -> bool {
 }
 
 impl Pair {
-    /// A pair that gets a verdict, the same from the library as from the Rust.
+    /// A pair that gets a verdict, the same from the library as from the Rust, in its own
+    /// formats and in format 2.
     pub fn of(name: String, old: Vec<u8>, new: Vec<u8>) -> Option<Pair> {
         let pair = judge(&old, &new);
         let found = PLAIN.verdict(&old, &new, BUMP);
@@ -44,11 +50,18 @@ impl Pair {
             return None;
         };
         let built = [compile(&older), compile(&newer)];
-        let vectors = [older, newer].iter().any(holds_vectors);
+        let vectors = [&older, &newer].into_iter().any(holds_vectors);
+        let second = [older, newer].map(|schema| image(&schema.in_format(SECOND_FORMAT)));
+        if second.iter().any(|image| image.len() > IMAGE_BYTES) {
+            return None;
+        }
+        let found = PLAIN.verdict(&second[0], &second[1], BUMP);
+        assert_eq!(found, pair.answer.select(BUMP), "{name} in format 2");
         Some(Pair {
             name,
             old,
             new,
+            second,
             built,
             vectors,
         })
@@ -70,19 +83,28 @@ pub fn imports_verdict(pair: &Pair) {
     black_box(IMPORTS.verdict(&pair.old, &pair.new, BUMP));
 }
 
+/// In format 2, as the mended one.
+pub fn second_verdict(pair: &Pair) {
+    let [old, new] = &pair.second;
+    black_box(PLAIN.verdict(old, new, BUMP));
+}
+
 pub fn mended_verdict(pair: &Pair) {
-    black_box(MENDED.verdict(&pair.old, &pair.new, BUMP));
+    let [old, new] = &pair.second;
+    black_box(MENDED.verdict(old, new, BUMP));
 }
 
 pub fn values(calls: &Calls, pair: &Pair) {
     let mut out = [0; SELECTORS as usize];
-    calls.values(&pair.old, &pair.new, &mut out);
+    let [old, new] = &pair.second;
+    calls.values(old, new, &mut out);
     black_box(out);
 }
 
 pub fn report(calls: &Calls, pair: &Pair) {
     let mut out = vec![0; REPORT_ROOM];
-    let length = calls.report(&pair.old, &pair.new, &mut out);
+    let [old, new] = &pair.second;
+    let length = calls.report(old, new, &mut out);
     assert_ne!(length, 0, "the report of {}", pair.name);
     black_box(out);
 }

@@ -3,11 +3,12 @@
 //! with what can't be foretold of each. Of all orders a random one takes longest, and of
 //! all pairs those in which everything is removed and something else is added.
 
+use crate::formats::SECOND_FORMAT;
 use crate::limits::{ENTRIES, IMAGE_BYTES};
 use crate::make::*;
 use crate::record::SEED;
 use crate::rng::Rng;
-use crate::schema::{Declaration, Field, Type};
+use crate::schema::{Declaration, Field, Schema, Type};
 use crate::writer::image;
 
 /// A name, and the images.
@@ -63,6 +64,11 @@ fn random_type(rng: &mut Rng, node: usize) -> Type {
     }
 }
 
+/// Of format 2, which every call takes, and without a namespace.
+fn of_schema(schema: Schema) -> Vec<u8> {
+    image(&schema.in_namespace(&[]).in_format(SECOND_FORMAT))
+}
+
 /// One declaration with as many items as there is room for, under numbers from `first`
 /// on, in a random order: the image, and how many.
 fn filled<T: Clone>(
@@ -71,7 +77,7 @@ fn filled<T: Clone>(
     declared: impl Fn(Vec<T>) -> Declaration,
     next: impl Fn(&mut Rng, u32) -> T,
 ) -> (Vec<u8>, usize) {
-    let image_of = |items| image(&schema(vec![declared(items)]).in_namespace(&[]));
+    let image_of = |items| of_schema(schema(vec![declared(items)]));
     let front = image_of(Vec::new()).len();
     let mut room = IMAGE_BYTES - front;
     let mut items = Vec::new();
@@ -113,7 +119,7 @@ fn long_names() -> Named {
             let name = "n".repeat(length - end.len()) + &end;
             newtype(&name, named((n + 1) % count))
         });
-        image(&schema(declared.collect()).in_namespace(&[]))
+        of_schema(schema(declared.collect()))
     };
     let name = format!("{count} newtypes with names of {length} bytes, others added");
     (name, image_of('a'), image_of('b'))
