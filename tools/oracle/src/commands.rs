@@ -1,7 +1,7 @@
 //! The subcommands.
 
-use crate::answer::{judge, Answer, Side, Verdict, SELECTORS};
-use crate::changes::CHANGE_KINDS;
+use crate::answer::{judge, Answer, Side, Verdict, SELECTORS, VERDICTS};
+use crate::changes::{CHANGE_KINDS, COUNTS};
 use crate::coverage::facts_for;
 use crate::edits::{damaged, edited, too_deep};
 use crate::formats::{any_formats, in_formats};
@@ -11,6 +11,7 @@ use crate::made::pair_for;
 use crate::random::random_schema;
 use crate::reader::read_image;
 use crate::refiling::{refiled, repeat};
+use crate::refusal::{FULL, MIXED};
 use crate::rng::Rng;
 use crate::text;
 #[cfg(vexil)]
@@ -120,33 +121,60 @@ pub fn number(text: &str) -> Result<u64, String> {
     text.parse().map_err(|_| format!("not a number: {text}"))
 }
 
-/// Pairs of random releases, some of them damaged, through the model and `check`.
-pub fn random(seed: u64, count: u64) -> Outcome {
-    let mut rng = Rng::new(seed);
-    let mut refusals = [0u64; 12];
-    let mut bumps = [0u64; 3];
-    let mut kinds = vec![0u64; CHANGE_KINDS.len()];
-    for _ in 0..count {
-        let (old, new) = random_pair(&mut rng);
-        let answer = judge(&old, &new).answer;
-        match answer.side {
-            Side::None => bumps[answer.bump as usize] += 1,
-            _ => refusals[usize::from(answer.number)] += 1,
+/// What was answered by one verdict.
+struct Tally {
+    refusals: BTreeMap<u8, u64>,
+    bumps: [u64; 3],
+    kinds: [u64; COUNTS],
+}
+
+impl Tally {
+    fn new() -> Tally {
+        let numbers = (1..FULL).chain([MIXED]);
+        Tally {
+            refusals: numbers.map(|number| (number, 0)).collect(),
+            bumps: [0; 3],
+            kinds: [0; COUNTS],
         }
-        for (sum, count) in kinds.iter_mut().zip(answer.counts) {
+    }
+
+    fn add(&mut self, answer: &Answer) {
+        match answer.side {
+            Side::None => self.bumps[answer.bump as usize] += 1,
+            _ => *self.refusals.entry(answer.number).or_default() += 1,
+        }
+        for (sum, count) in self.kinds.iter_mut().zip(answer.counts) {
             *sum += u64::from(count);
         }
     }
-    println!("{count} pairs, seed {seed}");
-    println!(
-        "verdicts: {} Patch, {} Minor, {} Major",
-        bumps[0], bumps[1], bumps[2]
-    );
-    for (number, count) in refusals.iter().enumerate().skip(1) {
-        println!("refused {number}: {count}");
+
+    fn print(&self, prefix: &str) {
+        let [patch, minor, major] = self.bumps;
+        println!("{prefix}verdicts: {patch} Patch, {minor} Minor, {major} Major");
+        for (number, count) in &self.refusals {
+            println!("{prefix}refused {number}: {count}");
+        }
+        for (kind, count) in CHANGE_KINDS.iter().zip(self.kinds) {
+            println!("{prefix}{kind:?}: {count}");
+        }
     }
-    for (kind, count) in CHANGE_KINDS.iter().zip(kinds) {
-        println!("{kind:?}: {count}");
+}
+
+/// Pairs of random releases of both formats, some of them damaged, by every verdict
+/// through the model and `check`.
+pub fn random(seed: u64, count: u64) -> Outcome {
+    let mut rng = Rng::new(seed);
+    let mut tallies = VERDICTS.map(|verdict| (verdict, Tally::new()));
+    for _ in 0..count {
+        let (old, new) = random_pair(&mut rng);
+        let pair = judge(&old, &new);
+        for (verdict, tally) in &mut tallies {
+            tally.add(&pair.by(*verdict));
+        }
+    }
+    println!("{count} pairs, seed {seed}");
+    for (verdict, tally) in tallies {
+        tally.print(verdict.prefix());
     }
     Ok(())
 }

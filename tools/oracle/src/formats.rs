@@ -10,11 +10,12 @@ pub const SECOND_FORMAT: u16 = 2;
 /// Wire bits that come often; any other byte may.
 const WIRE_BITS: [u8; 8] = [0, 1, 7, 8, 16, 32, 254, 255];
 
-/// Each of either format, as often as the other.
+/// All of the second format, which every verdict takes, or each of either.
 pub fn any_formats<const N: usize>(rng: &mut Rng) -> [u16; N] {
-    [(); N].map(|_| match rng.once_in(2) {
-        true => FIRST_FORMAT,
-        false => SECOND_FORMAT,
+    let second = rng.once_in(2);
+    [(); N].map(|_| match second || rng.once_in(2) {
+        true => SECOND_FORMAT,
+        false => FIRST_FORMAT,
     })
 }
 

@@ -1,7 +1,7 @@
 //! The pairs whose answers are recorded, in the order of the file.
 
 mod bodies;
-mod both_bad;
+pub mod both_bad;
 mod contents;
 mod damage;
 mod edges;

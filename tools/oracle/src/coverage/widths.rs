@@ -246,7 +246,12 @@ fn unlisted<'a>(
     let entries = ids.filter_map(|id| Some((id, schema.get(id)?)));
     let others = entries.filter(|(_, d)| !standing(&d.name));
     others
-        .filter_map(|(id, d)| Some(((d.kind(), d.name.as_str()), (width(d)?, reached.contains(&id)))))
+        .filter_map(|(id, d)| {
+            Some((
+                (d.kind(), d.name.as_str()),
+                (width(d)?, reached.contains(&id)),
+            ))
+        })
         .collect()
 }
 
@@ -302,10 +307,13 @@ pub fn all_facts() -> Vec<String> {
     all.extend(BUMPS.map(ignored));
     let answers = || {
         let verdicts = BUMPS.map(|bump| format!("{bump:?}"));
-        verdicts.into_iter().chain([format!("refused {ALIAS_PAIR}")])
+        verdicts
+            .into_iter()
+            .chain([format!("refused {ALIAS_PAIR}")])
     };
     for (old, new) in FORMATS.into_iter().flat_map(|o| FORMATS.map(|n| (o, n))) {
-        let said = |word: &str, what: String| format!("widths: formats {old} and {new}, {word}: {what}");
+        let said =
+            |word: &str, what: String| format!("widths: formats {old} and {new}, {word}: {what}");
         all.extend(answers().map(|what| said("01", what)));
         all.extend(answers().map(|what| said("with imports", what)));
         match [old, new] {
@@ -314,7 +322,9 @@ pub fn all_facts() -> Vec<String> {
         }
     }
     all.extend(BUMPS.map(|bump| format!("widths: refused by 16, where 01 says {bump:?}")));
-    all.push(format!("widths: refused by 16, where 01 refuses by {ALIAS_PAIR}"));
+    all.push(format!(
+        "widths: refused by 16, where 01 refuses by {ALIAS_PAIR}"
+    ));
     all
 }
 

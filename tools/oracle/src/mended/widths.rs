@@ -16,5 +16,7 @@ pub fn width_change(old: &Declaration, new: &Declaration) -> Option<[u8; 2]> {
 
 /// Whether either image or both are of the format without widths.
 pub fn mixed(old: &Schema, new: &Schema) -> bool {
-    [old, new].iter().any(|schema| schema.format == FIRST_FORMAT)
+    [old, new]
+        .iter()
+        .any(|schema| schema.format == FIRST_FORMAT)
 }

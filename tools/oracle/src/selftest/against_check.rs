@@ -2,10 +2,11 @@
 
 use super::Tests;
 use crate::answer::{difference, Verdict, VERDICTS};
-use crate::changes::{Bump, Comparison, CompatResult, CHANGE_KINDS, NEVER};
+use crate::changes::{Bump, ChangeKind, Comparison, CompatResult, CHANGE_KINDS, NEVER};
+use crate::formats::SECOND_FORMAT;
 use crate::make::*;
 use crate::model;
-use crate::schema::Schema;
+use crate::schema::{Declaration, Schema};
 use crate::vexil::{panics, CHECK_IS_RUN};
 
 pub fn run(tests: &mut Tests) {
@@ -23,6 +24,48 @@ pub fn run(tests: &mut Tests) {
     for verdict in VERDICTS {
         a_difference_is_seen(tests, verdict, &old, &new);
     }
+    let (old, new) = wider();
+    let changes = model::check(&old, &new, Verdict::Mended.reading()).changes;
+    let kinds = changes.iter().map(|change| change.kind);
+    let widths = kinds.filter(|kind| *kind == ChangeKind::WidthChanged);
+    tests.equal("a width that check does not know of", widths.count(), 1);
+    a_difference_is_seen(tests, Verdict::Mended, &old, &new);
+    of_widths_alone(tests);
+}
+
+/// A pair with a change of width between others.
+fn wider() -> (Schema, Schema) {
+    let (old, new) = pair();
+    let with = |schema: Schema, width| {
+        let [message, other] = ["A", "Z"].map(|name| {
+            let entry = schema.registry[0].clone();
+            entry.map(|entry| Declaration {
+                name: name.to_string(),
+                ..entry
+            })
+        });
+        let wide = flags("F", vec![]).of_width(width);
+        let entries = vec![message, Some(wide), other];
+        let all = crate::make::schema(vec![]).with_entries(entries);
+        all.listing(&[0, 1, 2]).in_format(SECOND_FORMAT)
+    };
+    (with(old, 1), with(new, 2))
+}
+
+/// Nothing but a width changes: result and bump are seen, too.
+fn of_widths_alone(tests: &mut Tests) {
+    let of = |width| schema(vec![flags("F", vec![]).of_width(width)]).in_format(SECOND_FORMAT);
+    let (old, new) = (of(1), of(2));
+    let right = model::check(&old, &new, Verdict::Mended.reading());
+    let difference = |model: &Comparison| difference(Verdict::Mended, &old, &new, model);
+    tests.equal("a width alone", difference(&right), None);
+    let silent = Comparison {
+        result: CompatResult::Compatible,
+        bump: Bump::Patch,
+        ..right
+    };
+    let seen = difference(&silent).is_some();
+    tests.holds("a width that is called Compatible is seen", seen);
 }
 
 fn pair() -> (Schema, Schema) {

@@ -32,7 +32,10 @@ fn faults(width: u8, bits: u32) -> Declaration {
 
 fn ninth_bit(cases: &mut Cases) {
     let of = |width, bits| {
-        let status = vec![field(0, "faults", named(1)), field(1, "speed", primitive(2))];
+        let status = vec![
+            field(0, "faults", named(1)),
+            field(1, "speed", primitive(2)),
+        ];
         second(vec![message("Status", status), faults(width, bits)])
     };
     all_ways(cases, "a ninth bit", &of(1, 8), &of(2, 9));
@@ -99,7 +102,11 @@ fn beside_in_enum(cases: &mut Cases) {
     both("a variant added, open", &of(8, 2, one), &of(16, 2, two));
     both("a variant added, closed", &of(8, 0, one), &of(16, 0, two));
     both("opened, a variant added", &of(8, 0, one), &of(16, 2, two));
-    both("opened, one gone, one added", &of(8, 0, two), &of(16, 2, other));
+    both(
+        "opened, one gone, one added",
+        &of(8, 0, two),
+        &of(16, 2, other),
+    );
     both("one gone, one added", &of(16, 2, two), &of(8, 2, other));
     both("a variant renamed", &of(8, 2, one), &of(16, 2, &[(0, "x")]));
     both("kept, opened", &of(8, 0, two), &of(8, 2, other));
@@ -192,10 +199,17 @@ fn vectors(cases: &mut Cases) {
     let seat = || newtype("Seat", wrapped(11, primitive(9)));
     let of = |width| second(vec![seat(), faults(width, 1)]);
     all_ways(cases, "beside a vector", &of(1), &of(2));
-    let other = second(vec![newtype("Seat", wrapped(10, primitive(9))), faults(2, 1)]);
+    let other = second(vec![
+        newtype("Seat", wrapped(10, primitive(9))),
+        faults(2, 1),
+    ]);
     all_ways(cases, "beside a vector that changes", &of(1), &other);
     let variants = |name: &str| -> Vec<Variant> {
-        vec![variant(0, name, vec![field(0, "at", wrapped(13, primitive(9)))])]
+        vec![variant(
+            0,
+            name,
+            vec![field(0, "at", wrapped(13, primitive(9)))],
+        )]
     };
     let of = |width, name: &str| second(vec![union("U", variants(name)), faults(width, 1)]);
     all_ways(cases, "beside a quaternion", &of(1, "a"), &of(2, "b"));

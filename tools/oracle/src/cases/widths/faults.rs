@@ -58,18 +58,33 @@ fn order(cases: &mut Cases) {
         &[&[1, 1, b'E', 3, 8, 1, 0][..], &bit].concat(),
     );
     // The bytes of format 1: a width of 1, and half a count or half a name.
-    body("flags of format 1", &[2, 1, b'F', 1, 0, 0, 0, 0, 0, 1, b'a']);
-    body("an enum of format 1", &[1, 1, b'E', 0, 1, 0, 0, 0, 0, 0, 1, b'a']);
+    body(
+        "flags of format 1",
+        &[2, 1, b'F', 1, 0, 0, 0, 0, 0, 1, b'a'],
+    );
+    body(
+        "an enum of format 1",
+        &[1, 1, b'E', 0, 1, 0, 0, 0, 0, 0, 1, b'a'],
+    );
     body("flags without bits of format 1", &[2, 1, b'F', 0, 0]);
-    body("an enum without variants of format 1", &[1, 1, b'E', 0, 0, 0]);
+    body(
+        "an enum without variants of format 1",
+        &[1, 1, b'E', 0, 0, 0],
+    );
     // Those of format 2 in format 1.
     let mut first = |name: &str, body: &[u8]| {
         let body = vec![Some(body.to_vec())];
         let image = Parts::around(&names(&["ride"]), &[0], body).bytes();
         cases.beside_ride(&format!("widths: {name}, in format 1"), image);
     };
-    first("flags of format 2", &[2, 1, b'F', 1, 1, 0, 0, 0, 0, 0, 1, b'a']);
-    first("an enum of format 2", &[1, 1, b'E', 0, 8, 1, 0, 0, 0, 0, 0, 1, b'a']);
+    first(
+        "flags of format 2",
+        &[2, 1, b'F', 1, 1, 0, 0, 0, 0, 0, 1, b'a'],
+    );
+    first(
+        "an enum of format 2",
+        &[1, 1, b'E', 0, 8, 1, 0, 0, 0, 0, 0, 1, b'a'],
+    );
     first("flags of none", &[2, 1, b'F', 0, 0, 0]);
     first("an enum of none", &[1, 1, b'E', 0, 0, 0, 0]);
     // Three bytes for a count of 3 and so many bits, that are a width of 3.
@@ -108,7 +123,9 @@ fn two_bodies(cases: &mut Cases) {
 /// Format 3 and others beside each of the two that are known; the order with 2 and 4.
 fn formats(cases: &mut Cases) {
     let second = image(&second_ride());
-    for format in [0_u16, 3, 4, 5, 128, 255, 256, 257, 258, 512, 513, 514, 65_535] {
+    for format in [
+        0_u16, 3, 4, 5, 128, 255, 256, 257, 258, 512, 513, 514, 65_535,
+    ] {
         let mut other = second.clone();
         other[..2].copy_from_slice(&format.to_le_bytes());
         let name = format!("widths: format {format}");
@@ -117,7 +134,11 @@ fn formats(cases: &mut Cases) {
     }
     let head = |format: u16, counts: [u16; 3]| {
         let parts = Parts::around(&[], &[], vec![]);
-        let head = Parts { format, counts, ..parts };
+        let head = Parts {
+            format,
+            counts,
+            ..parts
+        };
         head.bytes()
     };
     cases.beside_ride("widths: 3 before 4", head(3, [513, 513, 17]));

@@ -74,7 +74,11 @@ fn refused(cases: &mut Cases) {
     // A width in format 2 that is refused beside an image of format 1.
     let lamps = super::bodies::with_body(vec![2, 1, b'F', 3, 0, 0]);
     let other = image(&schema(vec![alias("A")]));
-    cases.bytes("widths: 9 of a width before 16", lamps.clone(), other.clone());
+    cases.bytes(
+        "widths: 9 of a width before 16",
+        lamps.clone(),
+        other.clone(),
+    );
     cases.bytes("widths: 9 of a width before 16, new", other, lamps);
 }
 
@@ -97,7 +101,11 @@ fn aliases(cases: &mut Cases) {
     let one = schema(vec![alias("A")]);
     in_each_format(cases, "widths: an alias pair", &one, &one);
     let wide = |width| vec![alias("A"), of_kind(1, "E").of_width(width)];
-    cases.pair("widths: 11 beside a width", &second(wide(8)), &second(wide(9)));
+    cases.pair(
+        "widths: 11 beside a width",
+        &second(wide(8)),
+        &second(wide(9)),
+    );
     let reached = schema(vec![newtype("N", named(1)), alias("A")]).listing(&[0]);
     in_each_format(cases, "widths: an alias pair reached", &reached, &reached);
 }

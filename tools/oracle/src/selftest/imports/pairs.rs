@@ -15,7 +15,7 @@ pub fn run(tests: &mut Tests) {
     });
     let asked = Asked {
         verdict: Verdict::Imports,
-        pairs: 6_000,
+        pairs: 7_000,
         edges: ("imports: ", 200),
         often: &OFTEN,
         bumps: [1_200, 200, 1_800],
