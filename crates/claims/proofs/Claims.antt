@@ -6,6 +6,7 @@ use Rattle.refusals.proofs.Refusals.{only-ten, exactly-if}
 use Rattle.written.proofs.Accepted.{accepted-exactly}
 use Rattle.rules.specs.Survivors.{viewOf}
 use Rattle.rules.specs.Types.{sameType}
+use Rattle.rules.specs.Changes.{ordinalKinds}
 use Rattle.rules.specs.Clauses.{changes}
 use Rattle.rules.specs.Answer.{Policy, compared, outcome, plainReading, plain}
 use Rattle.rules.specs.Refusals.{Numbered, AcceptedPair}
@@ -15,7 +16,7 @@ use Rattle.rules.specs.Mended.{mended}
 use Rattle.rules.proofs.Answer.{plain-numbered}
 use Rattle.rules.proofs.Refusals.{policy-refusals, report-refusals, clauses-told, verdict-refusals}
 use Rattle.rules.proofs.Bound.{Bounded, selector-bound, plain-bounded}
-use Rattle.rules.proofs.Ordinals.{Ordinary, clauses-ordinary, ordinalKinds, no-ordinal-changed, no-width-changed}
+use Rattle.rules.proofs.Unreported.{Ordinary, clauses-ordinary, no-ordinal-changed, no-width-changed}
 use Rattle.rules.proofs.Calls.{room-enough, same_text, rest-stays}
 use Rattle.rules.proofs.Edges.{edges}
 use Rattle.rules.proofs.Pinned.{pinned}

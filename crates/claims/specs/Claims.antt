@@ -6,7 +6,7 @@
 -- listing call returns `textLength` of `outcome image room` and leaves `written` of it. That each call does so, for all bytes, buffers and
 -- selectors, within bounds and to an end, is its contract, which has no precondition. The value of this page is proofs/Claims.antt. Assumes
 -- nothing.
-use Rattle.std.specs.Prelude.{◌≡◌, false, ◌↔◌, [], ◌∷◌, ℕ, ◌^◌, ◌≤◌, ◌<◌, length, take, drop}
+use Rattle.std.specs.Prelude.{◌≡◌, false, ◌↔◌, ℕ, ◌^◌, ◌≤◌, ◌<◌, length, take, drop}
 use Rattle.maps.specs.Lists.{All}
 use Rattle.image.specs.Schema.{Ty, Schema}
 use Rattle.image.specs.Parse.{ok, no}
@@ -15,7 +15,7 @@ use Rattle.refusals.specs.Refusals.{ExactlyIf}
 use Rattle.written.specs.Limits.{Each, Byte, Within}
 use Rattle.written.specs.Writer.{write}
 use Rattle.rules.specs.Survivors.{viewOf}
-use Rattle.rules.specs.Changes.{kindAt, FieldOrdinalChanged, VariantOrdinalChanged, FlagsBitOrdinalChanged, WidthChanged}
+use Rattle.rules.specs.Changes.{kindAt, ordinalKinds, WidthChanged}
 use Rattle.rules.specs.Clauses.{changes}
 use Rattle.rules.specs.Answer.{Policy, compared, outcome, verdictBy, returnedBy, leavesBy, plainReading, plain}
 use Rattle.rules.specs.Refusals.{AcceptedPair, AliasPair, PolicyRefusals, ReportRefusals, VerdictRefusals}
@@ -54,8 +54,7 @@ module _ (policy : Policy) where
     pub clauses : (old new : Image) (a : AcceptedPair old new Get)
         → outcome policy old new ≡ compared (changes policy.reading (policy.view a.oldSchema) (policy.view a.newSchema))
     -- "The three `..OrdinalChanged` counts are 0."
-    pub ordinals : (old new : Image)
-        → All (λ kind. countBetween (verdictBy policy) kind old new ≡ 0) ((kindAt FieldOrdinalChanged) ∷ kindAt VariantOrdinalChanged ∷ kindAt FlagsBitOrdinalChanged ∷ [])
+    pub ordinals : (old new : Image) → All (λ kind. countBetween (verdictBy policy) kind old new ≡ 0) ordinalKinds
     -- who asks for the length first has room enough; the text is one and the same in every buffer that holds it; the bytes past it stay
     pub roomEnough : (old new out : Image) → verdictBy policy old new 4 ≤ length out → returnedBy policy old new out ≡ verdictBy policy old new 4
     pub sameText : (old new out out' : Image) → verdictBy policy old new 4 ≤ length out → verdictBy policy old new 4 ≤ length out'

@@ -15,9 +15,9 @@ use Rattle.image.specs.Parse.{Parsed, ok, no}
 use Rattle.image.specs.Image.{readImage}
 use Rattle.rules.specs.Survivors.{Registry, nameOf, ordinalOf, fieldMap, variantOrdinal, variantMap, declarations, View, viewOf}
 use Rattle.rules.specs.Clauses.{Reading, Context, context, compareTypes, compareFields, fieldRules, compareFieldSets, compareMessages, compareEnums, compareFlags, unionRules, compareUnions, compareNewtypes, compareKind, kindChanged, compareAlike, compareDecls, declText, declRules, changes, typesOf}
-use Rattle.rules.specs.Answer.{Policy, judged, onSide, firstFault, aliasCheck, usual, plainReading, plain, comparePair, acceptNew, acceptOld, outcome}
+use Rattle.rules.specs.Answer.{Policy, judged, onSide, firstFault, aliasCheck, usual, plainReading, comparePair, acceptNew, acceptOld, outcome}
 use Rattle.rules.specs.Reached.{namedOf, namedFrom, firstSet, reachedSet}
-use Rattle.rules.specs.Imports.{standingWith, viewWith, importsView, imports}
+use Rattle.rules.specs.Imports.{standingWith, viewWith, importsView}
 use Rattle.rules.specs.Ignored.{unsized, unsizedSchema, SameUnsized, Ignores, EarlierIgnore}
 use Rattle.rules.proofs.Forgotten.{Keeps, registryLeft, viewLeft, standing-forgotten, resolve-forgotten, alias-forgotten, namedFrom-forgotten, marks-forgotten, rounds-forgotten}
 

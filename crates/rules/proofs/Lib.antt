@@ -2,7 +2,7 @@
 -- reading of types. Answer: the four cases of two images. Distance: the distance rule. Refusals: when each number is given.
 -- MendedRefusals: when each is by the mended verdict.
 -- Calls: what both calls say together.
--- Ordinals: the counts that are always 0. Sizes, Texts, Scales, Weights, Held, Bound: how long a report can be.
+-- Unreported: the kinds that no clause reports, whose counts are always 0. Sizes, Texts, Scales, Weights, Held, Bound: how long a report can be.
 -- ReachedSets, Reached: what is computed is what is reached through named nodes. Standing: what stands with a set of ids. Imports: the
 -- verdict with imports. Agreed: readings that agree on the types that are compared. Widths: a reading that reports widths. Mended: the three
 -- answers of the type comparison, and the mended verdict.
@@ -25,7 +25,7 @@ pub mod Distance
 pub mod Refusals
 pub mod MendedRefusals
 pub mod Calls
-pub mod Ordinals
+pub mod Unreported
 pub mod Sizes
 pub mod Texts
 pub mod Scales

@@ -19,7 +19,7 @@ use Rattle.maps.proofs.Reorderings.{In}
 use Rattle.rules.specs.Equal.{Sound, never}
 use Rattle.rules.specs.Survivors.{View, viewOf}
 use Rattle.rules.specs.Types.{resolve, sameLabel, sameType, holdsVector}
-use Rattle.rules.specs.Changes.{kindAt, WidthChanged}
+use Rattle.rules.specs.Changes.{kindAt, ordinalKinds, WidthChanged}
 use Rattle.rules.specs.Clauses.{clausesBy, changes, comparedTypes}
 use Rattle.rules.specs.Verdict.{any}
 use Rattle.rules.specs.Outcome.{selected, select}
@@ -34,7 +34,7 @@ use Rattle.rules.proofs.Standing.{view-rises}
 use Rattle.rules.proofs.MendedRefusals.{mixed-fault, unmixed_checks, mended-numbers, mended-numbered}
 use Rattle.rules.proofs.Bound.{Bounded, survivors-sized}
 use Rattle.rules.proofs.Distance.{even-distance-rule}
-use Rattle.rules.proofs.Ordinals.{Ordinary, ordinalKinds}
+use Rattle.rules.proofs.Unreported.{Ordinary}
 use Rattle.rules.proofs.Widths.{widths-lawful, widths-ordinary, widths-light, without-widths}
 
 -- ---- the answers

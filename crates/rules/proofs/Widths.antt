@@ -8,7 +8,7 @@ use Prim.Native.Nat.{ℕ, ◌+◌, ◌≤◌}
 use native.Mathlib.Nat.{le_trans}
 use native.Mathlib.Omega.{arith}
 use lib.Dec.{eqb}
-use lib.ListN.{length, length-append}
+use lib.ListN.{length}
 use Rattle.maps.specs.Lists.{total, count}
 use Rattle.maps.specs.Orders.{before}
 use Rattle.maps.specs.Keyed.{lookup}
@@ -30,7 +30,7 @@ use Rattle.rules.proofs.Readings.{Besides, OneKind, Lawful, nothing-besides}
 use Rattle.rules.proofs.Chain.{test-chained}
 use Rattle.rules.proofs.Self.{test-self}
 use Rattle.rules.proofs.Swap.{test-swap}
-use Rattle.rules.proofs.Ordinals.{Ordinary, only-other, nothing-other}
+use Rattle.rules.proofs.Unreported.{Ordinary, only-other, nothing-other}
 use Rattle.rules.proofs.Sizes.{declSize}
 use Rattle.rules.proofs.Texts.{optionLength, fromTo-length}
 use Rattle.rules.proofs.Scales.{heavy, type-one, lineLength, only-weight}
@@ -69,7 +69,7 @@ width-length (some w) = decimal-length w
 widths-weight : (x y : Decl) → total lineLength (compareWidths x y) ≤ 150 + length x.name
 unfolding compareWidths bytes optionLength
 widths-weight x y =
-    le_trans (only-weight _ _) (simp (length-append, fromTo-length) (omega (arith, width-length x.width, width-length y.width)))
+    le_trans (only-weight _ _) (simp (fromTo-length) (omega (arith, width-length x.width, width-length y.width)))
 
 pub widths-light : (same : Ty → Ty → Bool) → Light (widthsBy same)
 unfolding total heavy declSize
@@ -151,7 +151,7 @@ module _ (same : Ty → Ty → Bool) (R S : Registry) where
       go : (b : Bool) → countOf (kindAt WidthChanged) (cond b (compareAlike wide x y) (kindChanged x y)) ≡ 0
           → cond b (compareAlike wide x y) (kindChanged x y) ≡ cond b (compareAlike clauses x y) (kindChanged x y)
       go true z =
-          let e = count-append (λ (c : Change). eqb c.kind 18) (compareWidths x y) (compareKind (kindOf x.kind) wide x y ++ []) in
+          let e = count-append (λ (c : Change). eqb c.kind (kindAt WidthChanged)) (compareWidths x y) (compareKind (kindOf x.kind) wide x y ++ []) in
           rw (widths_none x y (omega (arith, e)), kinds-same (kindOf x.kind) x y)
       go false z = refl
 
@@ -162,5 +162,5 @@ without-widths same x y z =
     let r = declRules (context (widthsBy same) x.registry y.registry) in
     let s = declRules (context (clausesBy same) x.registry y.registry) in
     let n = compareNamespaces x.namespace y.namespace in
-    let e = count-append (λ (c : Change). eqb c.kind 18) n (compare nameOf before r x.standing y.standing) in
-    ap (λ cs. n ++ cs) (compare-none 18 nameOf before r s refl refl (decls-none same x.registry y.registry) x.standing y.standing (omega (arith, e)))
+    let e = count-append (λ (c : Change). eqb c.kind (kindAt WidthChanged)) n (compare nameOf before r x.standing y.standing) in
+    ap (λ cs. n ++ cs) (compare-none (kindAt WidthChanged) nameOf before r s refl refl (decls-none same x.registry y.registry) x.standing y.standing (omega (arith, e)))

@@ -42,6 +42,10 @@ kindAt FlagsBitRemoved = 16
 kindAt FlagsBitOrdinalChanged = 17
 kindAt WidthChanged = 18
 
+-- "The three `..OrdinalChanged`"
+abbrev pub ordinalKinds : List ℕ
+ordinalKinds = (kindAt FieldOrdinalChanged) ∷ kindAt VariantOrdinalChanged ∷ kindAt FlagsBitOrdinalChanged ∷ []
+
 -- how many kinds are counted
 abbrev pub kindCount : ℕ
 kindCount = 19

@@ -16,7 +16,7 @@ use Rattle.maps.specs.Compare.{Rules, unmatched, matched, between, compare}
 use Rattle.image.specs.Schema.{Name, Marks, Ty, Field, Variant, Decl, Schema}
 use Rattle.image.specs.Kinds.{Kind, kindOf, message, enum, flags, union, newtype, config, alias, trait, impl, other}
 use Rattle.rules.specs.Survivors.{nameOf, ordinalOf, fieldMap, variantOrdinal, variantMap, View}
-use Rattle.rules.specs.Changes.{Bump, Change, only, kindCount, kindAt, FieldOrdinalChanged, VariantOrdinalChanged, FlagsBitOrdinalChanged, WidthChanged}
+use Rattle.rules.specs.Changes.{Bump, Change, only, kindCount, kindAt, ordinalKinds, FieldOrdinalChanged, VariantOrdinalChanged, FlagsBitOrdinalChanged, WidthChanged}
 use Rattle.rules.specs.Clauses.{compareNamespaces, Reading, clausesBy, Context, context, compareTypes, compareFieldNames, compareEncodings, compareDeprecated, compareFields, fieldRules, compareFieldSets, compareMessages, variantGone, variantCame, enumRules, compareNonExhaustive, compareEnums, flagsRules, compareFlags, unionRules, compareUnions, compareNewtypes, compareKind, kindChanged, compareAlike, compareDecls, declRules, changes}
 use Rattle.rules.specs.Verdict.{countOf}
 use Rattle.rules.specs.Outcome.{Outcome, select}
@@ -197,11 +197,7 @@ module _ (j : ℕ) (out : outside j ≡ true) where
       go (verdict {x = x} {y = y} a b i) =
           count-selected j l (changes p.reading (p.view x) (p.view y)) ∙ none-counted _ (changes-other p.reading o (p.view x) (p.view y))
 
--- the three
-abbrev pub ordinalKinds : List ℕ
-ordinalKinds = (kindAt FieldOrdinalChanged) ∷ kindAt VariantOrdinalChanged ∷ kindAt FlagsBitOrdinalChanged ∷ []
-
--- of any verdict that reports none of them besides
+-- the three, of any verdict that reports none of them besides
 pub no-ordinal-changed : (p : Policy) → All (λ j. Ordinary j p.reading) ordinalKinds → (old new : List ℕ)
     → All (λ kind. countBetween (verdictBy p) kind old new ≡ 0) ordinalKinds
 unfolding All outside
