@@ -22,7 +22,7 @@ use Rattle.rules.specs.Mended.{mendedReading, mended}
 use Rattle.rules.specs.MendedRefusals.{Mixed, Given, MendedRefusals}
 use Rattle.rules.proofs.Answer.{here_or_later, here-found, here_passed, tested, untested, usual-fault, alias-fault}
 use Rattle.rules.proofs.Standing.{view-rises}
-use Rattle.rules.proofs.Refusals.{pair_found, pair-given, policy-refusals, accepted-exactly, Paired, Faultless, Faulty, faultless-told, verdict-exactly, fault-exactly, old-exactly, new-exactly, both-sides, number-given, number-reported, no-fault}
+use Rattle.rules.proofs.Refusals.{pair_found, pair-given, accepted-exactly, Paired, Faultless, Faulty, faultless-told, verdict-exactly, fault-exactly, sided, number-given, number-reported, no-fault}
 
 -- ---- what the checks of the pair find: 16, or 11 of two images that are not mixed
 
@@ -131,14 +131,15 @@ module _ (x y : Schema) where
 -- ---- when each number is given
 
 mended-paired : Paired mended
-mended-paired = record { alone = λ x. refl; beyond = λ x y f e. go f (mended-numbers x y f e).0 }
+mended-paired = record {
+  alone = λ x. refl;
+  beyond = λ x y f e. go f (mended-numbers x y f e).0;
+  sides = λ x y f e. (mended-numbers x y f e).1;
+}
   where
     go : (f : Fault) → (f.number ≡ 16) ⊎ (f.number ≡ 11) → 10 < f.number
     go f (inl q) = omega arith
     go f (inr q) = omega arith
-
-sides : (x y : Schema) (f : Fault) → firstFault mended.pair x y ≡ some f → f.side ≡ number bothSides
-sides x y f e = (mended-numbers x y f e).1
 
 given-pair : (last : ℕ) → 11 ≤ last → (x y : Schema) (f : Fault) → firstFault mended.pair x y ≡ some f → Given last f.number
 given-pair last h x y f e = go (mended-numbers x y f e).0
@@ -155,19 +156,12 @@ module _ (old new : List ℕ) where
 
   pub mended-refusals : MendedRefusals old new
   unfolding verdictBy
-  mended-refusals =
-      let r = policy-refusals mended mended-numbered old new in
-      record {
-        verdict = accepted-exactly (verdict-exactly mended mended-paired old new) faultless-exactly;
-        mixed = accepted-exactly (fault-exactly mended mended-paired old new 16 (omega arith)) mixed_exactly;
-        mixedSides = both-sides mended mended-paired old new sides 16 (omega arith);
-        aliasPair = accepted-exactly (fault-exactly mended mended-paired old new 11 (omega arith)) aliased_exactly;
-        bothSides = both-sides mended mended-paired old new sides 11 (omega arith);
-        oldRefused = old-exactly mended mended-paired old new sides;
-        newRefused = new-exactly mended mended-paired old new sides;
-        noSide = r.noSide;
-        refusal = r.refusal;
-        given = number-given mended mended-paired old new (Given 11) (λ n h. Given.base (omega arith)) (given-pair 11 (omega arith));
-        givenReported = λ room.
-            number-reported mended mended-paired old new (Given 12) (λ n h. Given.base (omega arith)) (given-pair 12 (omega arith)) room (Given.base (omega arith));
-      }
+  mended-refusals = record {
+    verdict = accepted-exactly (verdict-exactly mended mended-paired old new) faultless-exactly;
+    mixed = accepted-exactly (fault-exactly mended mended-paired old new 16 (omega arith)) mixed_exactly;
+    aliasPair = accepted-exactly (fault-exactly mended mended-paired old new 11 (omega arith)) aliased_exactly;
+    sides = sided mended mended-paired old new mended-numbered;
+    given = number-given mended mended-paired old new (Given 11) (λ n h. Given.base (omega arith)) (given-pair 11 (omega arith));
+    givenReported = λ room.
+        number-reported mended mended-paired old new (Given 12) (λ n h. Given.base (omega arith)) (given-pair 12 (omega arith)) room (Given.base (omega arith));
+  }

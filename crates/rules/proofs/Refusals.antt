@@ -25,7 +25,7 @@ use Rattle.rules.specs.Verdict.{alias, isAlias, any, aliasPair}
 use Rattle.rules.specs.Outcome.{Outcome, selected, select}
 use Rattle.image.specs.Codes.{number, bothSides}
 use Rattle.rules.specs.Answer.{Fault, fault, Policy, compared, firstFault, outcome, verdictBy, reportBy, usual}
-use Rattle.rules.specs.Refusals.{Passes, Decided, oldRefused, oldAlone, newRefused, newAlone, pairRefused, verdict, Numbered, PolicyRefusals, ReportRefusals, AcceptedPair, NewRefused, Alias, AliasPair, VerdictRefusals}
+use Rattle.rules.specs.Refusals.{Passes, Decided, oldRefused, oldAlone, newRefused, newAlone, pairRefused, verdict, Numbered, PolicyRefusals, ReportRefusals, AcceptedPair, NewRefused, Sided, Alias, AliasPair, VerdictRefusals}
 use Rattle.rules.proofs.Outcomes.{not-answered, nothing-told, nothing_written, fit-full, fit-filled, fit-else}
 use Rattle.rules.proofs.Answer.{decided, decides, exactly, usual-fault, alias-fault, usual-numbered}
 
@@ -164,9 +164,11 @@ pub accepted-exactly : {A : Type 0} {old new : List ℕ} {P Q : Schema → Schem
     → ((x y : Schema) → P x y ↔ Q x y) → A ↔ AcceptedPair old new Q
 accepted-exactly e f = (λ a. accepted-so (λ x y. (f x y).0) (e.0 a), λ b. e.1 (accepted-so (λ x y. (f x y).1) b))
 
+-- no image is refused alone, and a pair by a number over 10 with both sides
 pub record Paired (p : Policy) : Type 0 where
   pub alone : (x : Schema) → p.alone x ≡ none
   pub beyond : (x y : Schema) (f : Fault) → firstFault p.pair x y ≡ some f → 10 < f.number
+  pub sides : (x y : Schema) (f : Fault) → firstFault p.pair x y ≡ some f → f.side ≡ number bothSides
 
 -- the pair has no fault, and one with such a number
 abbrev pub Faultless : Policy → Schema → Schema → Type 0
@@ -238,54 +240,62 @@ module _ (p : Policy) (paired : Paired p) (old new : List ℕ) where
   pub fault-exactly : (n : ℕ) → 10 < n → (select result 0 ≡ n) ↔ AcceptedPair old new (Faulty p n)
   fault-exactly n h = (fault-only n h (decided p old new), fault-given n)
 
-  -- ---- those of one image, where a fault of the pair has both sides
+  -- ---- those of one image, and the sides
 
-  module _ (sides : (x y : Schema) (f : Fault) → firstFault p.pair x y ≡ some f → f.side ≡ number bothSides) where
-    old-only : (k : ℕ) {o : Outcome} → Of o → (select o 0 ≡ k) × (select o 1 ≡ 1) → readImage old ≡ no k
-    unfolding select selected
-    old-only k (oldRefused l q) z = q ∙ ap no z.0
-    old-only k (oldAlone q e) z = none_alone e
-    old-only k (newRefused a l q) z = absurd (omega (arith, z.1))
-    old-only k (newAlone a q e) z = none_alone e
-    old-only k (pairRefused a b e) z = absurd (omega (arith, z.1, sides _ _ _ e))
-    old-only k (verdict a b e) z = absurd (omega (arith, z.1))
+  old-only : (k : ℕ) {o : Outcome} → Of o → (select o 0 ≡ k) × (select o 1 ≡ 1) → readImage old ≡ no k
+  unfolding select selected
+  old-only k (oldRefused l q) z = q ∙ ap no z.0
+  old-only k (oldAlone q e) z = none_alone e
+  old-only k (newRefused a l q) z = absurd (omega (arith, z.1))
+  old-only k (newAlone a q e) z = none_alone e
+  old-only k (pairRefused a b e) z = absurd (omega (arith, z.1, paired.sides _ _ _ e))
+  old-only k (verdict a b e) z = absurd (omega (arith, z.1))
 
-    old-given : (k : ℕ) → readImage old ≡ no k → (select result 0 ≡ k) × (select result 1 ≡ 1)
-    unfolding select selected
-    old-given k e = let d = decides p old new (oldRefused (only-ten old k e) e) in (ap (λ o. select o 0) d, ap (λ o. select o 1) d)
+  old-given : (k : ℕ) → readImage old ≡ no k → (select result 0 ≡ k) × (select result 1 ≡ 1)
+  unfolding select selected
+  old-given k e = let d = decides p old new (oldRefused (only-ten old k e) e) in (ap (λ o. select o 0) d, ap (λ o. select o 1) d)
 
-    pub old-exactly : (k : ℕ) → ((select result 0 ≡ k) × (select result 1 ≡ 1)) ↔ (readImage old ≡ no k)
-    old-exactly k = (old-only k (decided p old new), old-given k)
+  old-exactly : (k : ℕ) → ((select result 0 ≡ k) × (select result 1 ≡ 1)) ↔ (readImage old ≡ no k)
+  old-exactly k = (old-only k (decided p old new), old-given k)
 
-    new-only : (k : ℕ) {o : Outcome} → Of o → (select o 0 ≡ k) × (select o 1 ≡ 2) → NewRefused old new k
-    unfolding select selected
-    new-only k (oldRefused l q) z = absurd (omega (arith, z.1))
-    new-only k (oldAlone q e) z = none_alone e
-    new-only k (newRefused {x = x} a l q) z = record { oldSchema = x; oldEnd = a.end; oldRead = a.read; newRead = q ∙ ap no z.0 }
-    new-only k (newAlone a q e) z = none_alone e
-    new-only k (pairRefused a b e) z = absurd (omega (arith, z.1, sides _ _ _ e))
-    new-only k (verdict a b e) z = absurd (omega (arith, z.1))
+  new-only : (k : ℕ) {o : Outcome} → Of o → (select o 0 ≡ k) × (select o 1 ≡ 2) → NewRefused old new k
+  unfolding select selected
+  new-only k (oldRefused l q) z = absurd (omega (arith, z.1))
+  new-only k (oldAlone q e) z = none_alone e
+  new-only k (newRefused {x = x} a l q) z = record { oldSchema = x; oldEnd = a.end; oldRead = a.read; newRead = q ∙ ap no z.0 }
+  new-only k (newAlone a q e) z = none_alone e
+  new-only k (pairRefused a b e) z = absurd (omega (arith, z.1, paired.sides _ _ _ e))
+  new-only k (verdict a b e) z = absurd (omega (arith, z.1))
 
-    new-given : (k : ℕ) → NewRefused old new k → (select result 0 ≡ k) × (select result 1 ≡ 2)
-    unfolding select selected
-    new-given k r =
-        let d = decides p old new (newRefused (passes old r.oldSchema r.oldEnd r.oldRead) (only-ten new k r.newRead) r.newRead) in
-        (ap (λ o. select o 0) d, ap (λ o. select o 1) d)
+  new-given : (k : ℕ) → NewRefused old new k → (select result 0 ≡ k) × (select result 1 ≡ 2)
+  unfolding select selected
+  new-given k r =
+      let d = decides p old new (newRefused (passes old r.oldSchema r.oldEnd r.oldRead) (only-ten new k r.newRead) r.newRead) in
+      (ap (λ o. select o 0) d, ap (λ o. select o 1) d)
 
-    pub new-exactly : (k : ℕ) → ((select result 0 ≡ k) × (select result 1 ≡ 2)) ↔ NewRefused old new k
-    new-exactly k = (new-only k (decided p old new), new-given k)
+  new-exactly : (k : ℕ) → ((select result 0 ≡ k) × (select result 1 ≡ 2)) ↔ NewRefused old new k
+  new-exactly k = (new-only k (decided p old new), new-given k)
 
-    sided : (n : ℕ) → 10 < n → {o : Outcome} → Of o → select o 0 ≡ n → select o 1 ≡ number bothSides
-    unfolding select selected
-    sided n h (oldRefused l q) z = absurd (omega arith)
-    sided n h (oldAlone q e) z = none_alone e
-    sided n h (newRefused a l q) z = absurd (omega arith)
-    sided n h (newAlone a q e) z = none_alone e
-    sided n h (pairRefused a b e) z = sides _ _ _ e
-    sided n h (verdict a b e) z = absurd (omega arith)
+  both-sides : {o : Outcome} → Of o → 10 < select o 0 → select o 1 ≡ number bothSides
+  unfolding select selected
+  both-sides (oldRefused l q) z = absurd (omega arith)
+  both-sides (oldAlone q e) z = none_alone e
+  both-sides (newRefused a l q) z = absurd (omega arith)
+  both-sides (newAlone a q e) z = none_alone e
+  both-sides (pairRefused a b e) z = paired.sides _ _ _ e
+  both-sides (verdict a b e) z = absurd (omega arith)
 
-    pub both-sides : (n : ℕ) → 10 < n → select result 0 ≡ n → select result 1 ≡ number bothSides
-    both-sides n h = sided n h (decided p old new)
+  pub sided : Numbered p → Sided p old new
+  unfolding verdictBy
+  sided numbered =
+      let r = policy-refusals p numbered old new in
+      record {
+        oldRefused = old-exactly;
+        newRefused = new-exactly;
+        bothSides = both-sides (decided p old new);
+        noSide = r.noSide;
+        refusal = r.refusal;
+      }
 
   -- ---- all numbers: what holds of 0 to 10 and of those of the pair holds of the number, and of the report's if it holds of 12
 
@@ -329,7 +339,11 @@ module _ (view : Schema → View) (rise : (s : Schema) → Rising nameOf before 
   eleven x y f e = let q = (usual-fault view x y f e).1 in (ap (λ (g : Fault). g.number) q, ap (λ (g : Fault). g.side) q)
 
   usual-paired : Paired policy
-  usual-paired = record { alone = λ x. refl; beyond = λ x y f e. omega (arith, (eleven x y f e).0) }
+  usual-paired = record {
+    alone = λ x. refl;
+    beyond = λ x y f e. omega (arith, (eleven x y f e).0);
+    sides = λ x y f e. (eleven x y f e).1;
+  }
 
   unpaired : (x y : Schema) → Faultless policy x y ↔ ¬ AliasPair view x y
   unpaired x y = (
@@ -351,18 +365,11 @@ module _ (view : Schema → View) (rise : (s : Schema) → Rising nameOf before 
 
     pub verdict-refusals : VerdictRefusals view reading old new
     unfolding verdictBy
-    verdict-refusals =
-        let sides = λ (x y : Schema) (f : Fault) (e : firstFault policy.pair x y ≡ some f). (eleven x y f e).1 in
-        let r = policy-refusals policy (usual-numbered view reading) old new in
-        record {
-          verdict = accepted-exactly (verdict-exactly policy usual-paired old new) unpaired;
-          aliasPair = accepted-exactly (fault-exactly policy usual-paired old new 11 (omega arith)) aliased;
-          oldRefused = old-exactly policy usual-paired old new sides;
-          newRefused = new-exactly policy usual-paired old new sides;
-          noSide = r.noSide;
-          bothSides = both-sides policy usual-paired old new sides 11 (omega arith);
-          refusal = r.refusal;
-          most = number-given policy usual-paired old new (λ n. n ≤ 11) (λ n h. omega arith) (λ x y f e. omega (arith, (eleven x y f e).0));
-          mostReported = λ room.
-              number-reported policy usual-paired old new (λ n. n ≤ 12) (λ n h. omega arith) (λ x y f e. omega (arith, (eleven x y f e).0)) room (omega arith);
-        }
+    verdict-refusals = record {
+      verdict = accepted-exactly (verdict-exactly policy usual-paired old new) unpaired;
+      aliasPair = accepted-exactly (fault-exactly policy usual-paired old new 11 (omega arith)) aliased;
+      sides = sided policy usual-paired old new (usual-numbered view reading);
+      most = number-given policy usual-paired old new (λ n. n ≤ 11) (λ n h. omega arith) (λ x y f e. omega (arith, (eleven x y f e).0));
+      mostReported = λ room.
+          number-reported policy usual-paired old new (λ n. n ≤ 12) (λ n h. omega arith) (λ x y f e. omega (arith, (eleven x y f e).0)) room (omega arith);
+    }

@@ -1,13 +1,11 @@
 -- R-6, of the mended verdict: when each number is given, with which side. 1 to 10 come first, then 16, then 11. Assumes nothing.
 use Rattle.std.specs.Prelude.{◌≡◌, ◌↔◌, List, ℕ, ◌≤◌}
 use Rattle.image.specs.Schema.{Schema}
-use Rattle.image.specs.Codes.{number, notRefused, aliasPairRefusal, fullRefusal, mixedRefusal, noSide, oldSide, newSide, bothSides}
-use Rattle.image.specs.Parse.{no}
-use Rattle.image.specs.Image.{readImage}
+use Rattle.image.specs.Codes.{number, notRefused, aliasPairRefusal, fullRefusal, mixedRefusal}
 use Rattle.rules.specs.Survivors.{viewOf}
 use Rattle.rules.specs.Outcome.{select}
 use Rattle.rules.specs.Answer.{verdictBy, reportBy}
-use Rattle.rules.specs.Refusals.{Refusal, AcceptedPair, NewRefused, AliasPair}
+use Rattle.rules.specs.Refusals.{AcceptedPair, Sided, AliasPair}
 use Rattle.rules.specs.Mended.{mended}
 
 -- "16 mixed, in the mended verdict if either image or both are format 1"
@@ -28,18 +26,12 @@ module _ (old new : List ℕ) where
   pub record MendedRefusals : Type 0 where
     -- two images get a verdict exactly if none of 1 to 11 and 16 applies to them
     pub verdict : (answer 0 ≡ number notRefused) ↔ AcceptedPair old new (λ x y. ¬ Mixed x y × ¬ AliasPair viewOf x y)
-    -- 16: "side both, after 10 and before 11"
+    -- 16: "after 10 and before 11"
     pub mixed : (answer 0 ≡ number mixedRefusal) ↔ AcceptedPair old new Mixed
-    pub mixedSides : answer 0 ≡ number mixedRefusal → answer 1 ≡ number bothSides
     -- 11
     pub aliasPair : (answer 0 ≡ number aliasPairRefusal) ↔ AcceptedPair old new (λ x y. ¬ Mixed x y × AliasPair viewOf x y)
-    pub bothSides : answer 0 ≡ number aliasPairRefusal → answer 1 ≡ number bothSides
-    -- 1 to 10, "old before new"
-    pub oldRefused : (k : ℕ) → ((answer 0 ≡ k) × (answer 1 ≡ number oldSide)) ↔ (readImage old ≡ no k)
-    pub newRefused : (k : ℕ) → ((answer 0 ≡ k) × (answer 1 ≡ number newSide)) ↔ NewRefused old new k
-    -- "A verdict has number 0 and side none."
-    pub noSide : answer 0 ≡ number notRefused → answer 1 ≡ number noSide
-    pub refusal : ¬ (answer 0 ≡ number notRefused) → Refusal answer
+    -- 1 to 10, all sides, and what a refusal is; of 16 "side both"
+    pub sides : Sided mended old new
     -- the number is one of 0 to 11 and 16, and the report's, with a buffer of so many bytes, one of 0 to 12 and 16
     pub given : Given (number aliasPairRefusal) (answer 0)
     pub givenReported : (room : ℕ) → Given (number fullRefusal) (select (reportBy mended old new room) 0)

@@ -73,7 +73,7 @@ pub record ReportRefusals (p : Policy) (old new : List ℕ) (room : ℕ) : Type 
   pub nothing : (select (reportBy p old new room) 0 ≡ number notRefused → ⊥) → textLength (reportBy p old new room) ≡ 0
   pub untouched : (select (reportBy p old new room) 0 ≡ number notRefused → ⊥) → (out : List ℕ) → written (reportBy p old new room) out ≡ out
 
--- ---- of a verdict whose one check is 11: that of document 01, and others over another view or by another reading
+-- ---- of a verdict that refuses no image alone, and pairs with side both
 
 -- both images are accepted, and P holds of what they hold
 pub record AcceptedPair (old new : List ℕ) (P : Schema → Schema → Type 0) : Type 0 where
@@ -91,6 +91,24 @@ pub record NewRefused (old new : List ℕ) (k : ℕ) : Type 0 where
   pub oldEnd : ℕ
   pub oldRead : readImage old ≡ ok oldSchema oldEnd
   pub newRead : readImage new ≡ no k
+
+-- of the verdict call: with which side each number is given, and what a refusal is
+module _ (p : Policy) (old new : List ℕ) where
+  -- by selector
+  abbrev answerBy : ℕ → ℕ
+  answerBy = verdictBy p old new
+
+  pub record Sided : Type 0 where
+    -- 1 to 10, "old before new"
+    pub oldRefused : (k : ℕ) → ((answerBy 0 ≡ k) × (answerBy 1 ≡ number oldSide)) ↔ (readImage old ≡ no k)
+    pub newRefused : (k : ℕ) → ((answerBy 0 ≡ k) × (answerBy 1 ≡ number newSide)) ↔ NewRefused old new k
+    -- every other number: "11 and 12: both"
+    pub bothSides : number deepRefusal < answerBy 0 → answerBy 1 ≡ number bothSides
+    -- "A verdict has number 0 and side none."
+    pub noSide : answerBy 0 ≡ number notRefused → answerBy 1 ≡ number noSide
+    pub refusal : ¬ (answerBy 0 ≡ number notRefused) → Refusal answerBy
+
+-- ---- of a verdict whose one check is 11: that of document 01, and others over another view or by another reading
 
 module _ (view : Schema → View) where
   -- what stands of a name is a generic alias
@@ -116,13 +134,8 @@ module _ (view : Schema → View) (reading : Reading) (old new : List ℕ) where
     pub verdict : (answer 0 ≡ number notRefused) ↔ AcceptedPair old new (λ x y. AliasPair view x y → ⊥)
     -- 11
     pub aliasPair : (answer 0 ≡ number aliasPairRefusal) ↔ AcceptedPair old new (AliasPair view)
-    -- 1 to 10, "old before new"
-    pub oldRefused : (k : ℕ) → ((answer 0 ≡ k) × (answer 1 ≡ number oldSide)) ↔ (readImage old ≡ no k)
-    pub newRefused : (k : ℕ) → ((answer 0 ≡ k) × (answer 1 ≡ number newSide)) ↔ NewRefused old new k
-    -- "A verdict has number 0 and side none."  "11 and 12: both"
-    pub noSide : answer 0 ≡ number notRefused → answer 1 ≡ number noSide
-    pub bothSides : answer 0 ≡ number aliasPairRefusal → answer 1 ≡ number bothSides
-    pub refusal : (answer 0 ≡ number notRefused → ⊥) → Refusal answer
+    -- 1 to 10, all sides, and what a refusal is
+    pub sides : Sided (usual view reading) old new
     -- the number is one of 0 to 11, and the report's, with a buffer of so many bytes, one of 0 to 12
     pub most : answer 0 ≤ number aliasPairRefusal
     pub mostReported : (room : ℕ) → select (reportBy (usual view reading) old new room) 0 ≤ number fullRefusal
