@@ -33,7 +33,7 @@ pub enum Judged {
     Fault(u8, u8),
 }
 
-// How types are read.
+// How types are read, and whether widths are reported.
 fn reading_of(policy: Policy) -> Reading
     ensures { result ≡ readingIn policy }
 {

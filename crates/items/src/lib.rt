@@ -11,7 +11,7 @@ use parts::Run;
 use text::Mode;
 use types::Reading;
 
-// How a walk goes: whether its lines are written or only measured, and how types are read.
+// How a walk goes: whether its lines are written or only measured, how types are read, and whether widths are reported.
 #[derive(Clone, Copy)]
 pub struct Walk {
     pub mode: Mode,

@@ -6,7 +6,7 @@ use Rattle.rules.specs.Mended.{mendedReading}
 use Rattle.types.specs.declared.Reading.{Reading}
 use Rattle.types.specs.declared.Reading.TheVariants.{Plain, Mended}
 
--- plain: as document 01 says; mended: as R-5 does
+-- plain: as document 01 says; mended: as R-5 and R-6 do
 unfoldable pub readingOf : Reading → Definition
 readingOf Plain = plainReading
 readingOf Mended = mendedReading

@@ -7,7 +7,7 @@ pub mod names;
 pub mod namespaces;
 pub mod nodes;
 
-// How the types of two images are read: as document 01 says, or mended.
+// How two images are read, as document 01 says, or mended: when their types are equal, and whether widths are reported.
 #[derive(Clone, Copy)]
 pub enum Reading {
     Plain,
