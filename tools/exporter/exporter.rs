@@ -55,7 +55,7 @@
 //! A reader never meets two of these, for the count has no room: 256 names of
 //! inline bits (4, as for other counts) and 65,536 items (1, for an item has 5
 //! bytes or more). Of the other numbers 2, 3, 5, 6 and 8 tell of bytes that are
-//! not written here, 11 and 12 of two images.
+//! not written here, 11, 12 and 16 of two images.
 
 use crate::ast::{PrimitiveType, SemanticType, SubByteType};
 use crate::ir::{
