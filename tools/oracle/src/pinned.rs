@@ -19,7 +19,7 @@ macro_rules! files {
 }
 
 // A file more is its name here.
-files!("Pinned" "PinnedImports" "PinnedMended");
+files!("Pinned" "PinnedImports" "PinnedMended" "PinnedIgnored");
 
 /// What is said of a pair.
 #[derive(Clone, PartialEq, Debug)]
@@ -32,6 +32,8 @@ pub enum Said {
     Count(ChangeKind, u64),
     /// That there is a verdict.
     Verdict,
+    /// That both are accepted, and hold the same but for format and widths.
+    SameUnsized,
 }
 
 #[derive(Clone, PartialEq, Debug)]
@@ -148,6 +150,7 @@ fn said<'a>(field: &[&'a str]) -> Result<Vec<([&'a str; 2], Verdict, Said)>, Str
             ([*old, *new], asked(OF, call)?, count)
         }
         ["Verdict", call, old, new] => ([*old, *new], asked(OF, call)?, Said::Verdict),
+        ["SameUnsized", old, new] => ([*old, *new], Verdict::Plain, Said::SameUnsized),
         ["Steps", call, first, "(", rest @ ..] => {
             let verdict = asked(OF, call)?;
             let chain: Vec<&str> = [*first].into_iter().chain(list(rest)?).collect();

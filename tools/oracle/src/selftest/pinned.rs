@@ -4,21 +4,22 @@
 use super::Tests;
 use crate::answer::{judge, Answer, Verdict, SELECTORS};
 use crate::pinned::{pins, read, Pin, Said};
+use crate::reader::read_image;
 
 pub fn run(tests: &mut Tests) {
     for pin in pins() {
         let [old, new] = &pin.images;
         let answer = judge(old, new).by(pin.verdict);
         let name = format!("{} {:?}", pin.names.join(" "), pin.verdict);
-        tests.equal(&name, found(&answer, &pin.said), pin.said.clone());
+        tests.equal(&name, found(pin, &answer), pin.said.clone());
     }
     tests.holds("20 pins or more", pins().len() >= 20);
     form(tests);
 }
 
 /// What an answer says, in the way in which the pin says it.
-fn found(answer: &Answer, pinned: &Said) -> Said {
-    match pinned {
+fn found(pin: &Pin, answer: &Answer) -> Said {
+    match &pin.said {
         Said::Report(_) => {
             let report = String::from_utf8_lossy(&answer.report);
             Said::Report(report.lines().map(str::to_string).collect())
@@ -38,7 +39,17 @@ fn found(answer: &Answer, pinned: &Said) -> Said {
             Said::Count(*kind, answer.select(5 + *kind as u64))
         }
         Said::Verdict if answer.number == 0 => Said::Verdict,
+        Said::SameUnsized if unsized_alike(&pin.images) => Said::SameUnsized,
         _ => Said::Values(vec![answer.select(0)]),
+    }
+}
+
+/// Whether both are accepted, and hold the same but for format and widths.
+fn unsized_alike(images: &[Vec<u8>; 2]) -> bool {
+    let [old, new] = images.each_ref().map(|image| read_image(image));
+    match (old, new) {
+        (Ok(old), Ok(new)) => old.in_format(1) == new.in_format(1),
+        _ => false,
     }
 }
 
@@ -51,7 +62,7 @@ pub record Pinned : Type 0 where
   pub ";
 
 /// Fields, and the pins of each; none of one that is not understood.
-const FIELDS: [(&str, &str); 30] = [
+const FIELDS: [(&str, &str); 31] = [
     (
         "f : told a b ≡ lines (\"x (y)\" ∷ \"z\" ∷ [])",
         "a b Report([\"x (y)\", \"z\"])",
@@ -104,6 +115,7 @@ const FIELDS: [(&str, &str); 30] = [
         "f : Steps mendedOf a (b ∷ a ∷ [])",
         "a b mended Verdict, b a mended Verdict",
     ),
+    ("f : SameUnsized b a", "b a SameUnsized"),
     ("f : mendedOf a b ≡ lines (\"x\" ∷ [])", ""),
     ("f : distance mendedTold a b ≡ 0", ""),
     ("f : distance mended a b ≡ 0", ""),
