@@ -46,6 +46,7 @@ pub fn rows(rows: &mut Rows) {
     names(rows);
     bodies(rows);
     codes(rows);
+    depths(rows);
 }
 
 /// A value on each side.
@@ -213,6 +214,9 @@ fn codes(rows: &mut Rows) {
         "newtype: tag",
     ];
     places(rows, 9, &elsewhere);
+}
+
+fn depths(rows: &mut Rows) {
     let outer: Vec<u64> = (4..=15).collect();
     values(rows, 10, "node under tag", &outer);
     values(rows, 10, "delta", &[9]);

@@ -9,6 +9,7 @@ use crate::writer::{image, Parts};
 pub fn add(cases: &mut Cases) {
     values(cases);
     order(cases);
+    bodies_of_the_other_format(cases);
     two_bodies(cases);
     formats(cases);
 }
@@ -57,6 +58,12 @@ fn order(cases: &mut Cases) {
         "7 of a variant behind a width",
         &[&[1, 1, b'E', 3, 8, 1, 0][..], &bit].concat(),
     );
+}
+
+fn bodies_of_the_other_format(cases: &mut Cases) {
+    let mut body = |name: &str, bytes: &[u8]| {
+        cases.beside_ride(&format!("widths: {name}"), with_body(bytes.to_vec()));
+    };
     // The bytes of format 1: a width of 1, and half a count or half a name.
     body(
         "flags of format 1",
