@@ -27,12 +27,12 @@ use Rattle.rules.specs.Answer.{outcome, checked}
 use Rattle.rules.specs.Imports.{imports}
 use Rattle.rules.specs.Mended.{mended}
 use Rattle.rules.specs.Pinned.{hex, told}
-use Rattle.rules.specs.PinnedImports.{importsTold}
-use Rattle.rules.specs.PinnedMended.{mendedTold}
+use Rattle.rules.specs.PinnedImports.{imports_told}
+use Rattle.rules.specs.PinnedMended.{mended_told}
 use Rattle.rules.proofs.Computed.{reports}
 """
 # Of each verdict the outcome and the report in the definitions, and what is unfolded for them besides.
-NAMES = {PLAIN: ("checked", "told", ""), IMPORTS: ("outcome imports", "importsTold", " importsTold"), MENDED: ("outcome mended", "mendedTold", " mendedTold")}
+NAMES = {PLAIN: ("checked", "told", ""), IMPORTS: ("outcome imports", "imports_told", " imports_told"), MENDED: ("outcome mended", "mended_told", " mended_told")}
 
 
 def theorem(place, pair, verdict):

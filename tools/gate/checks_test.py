@@ -86,7 +86,7 @@ class Folders(unittest.TestCase):
             file.write_text(f"ghost use Rattle.{module}.{{Ty}};\n")
             self.assertEqual(checks.unfolded(self.root), [])
         for module in ("image.specs.Types", "reader.specs.Answer", "refusals.proofs.Refusals", "written.specs.Limits", "parts.proofs.Laws.Fields"):
-            file.write_text(f"ghost use Rattle.{module}.{{typeOf}};\n")
+            file.write_text(f"ghost use Rattle.{module}.{{type_of}};\n")
             self.assertEqual(
                 checks.unfolded(self.root),
                 [f"crates/maps/src/lib.rt: names Rattle.{module}, which is behind the promise of parts"],
@@ -120,9 +120,9 @@ class Folders(unittest.TestCase):
         for folder in ("src", "specs", "proofs"):
             (crate / folder).mkdir(parents=True)
         (crate / "src" / "lib.rt").write_text("")
-        (crate / "specs" / "Listing.antt").write_text("use Rattle.image.specs.Image.{readImage}\n")
+        (crate / "specs" / "Listing.antt").write_text("use Rattle.image.specs.Image.{read_image}\n")
         self.assertEqual(checks.unfolded(self.root), [])
-        (crate / "proofs" / "Laws.antt").write_text("use Rattle.image.specs.Image.{readImage}\n")
+        (crate / "proofs" / "Laws.antt").write_text("use Rattle.image.specs.Image.{read_image}\n")
         self.assertEqual(len(checks.unfolded(self.root)), 1)
 
     def test_a_crate_without_a_log_fails(self):

@@ -8,24 +8,24 @@ use Rattle.maps.specs.Compare.{unmatched, matched}
 use Rattle.maps.proofs.Walking.{covered_none}
 use Rattle.image.specs.Schema.{Name, Decl}
 use Rattle.text.specs.declared.Mode.{Mode}
-use Rattle.parts.specs.Promise.{declIn}
+use Rattle.parts.specs.Promise.{decl_in}
 use Rattle.parts.specs.declared.Entry.{Entry}
 use Rattle.parts.specs.declared.Entry.TheVariants.{Body, Unresolvable}
-use Rattle.rules.specs.Survivors.{nameOf}
+use Rattle.rules.specs.Survivors.{name_of}
 use Rattle.rules.specs.Reached.{IdSet}
-use Rattle.rules.specs.Imports.{standingWith}
-use Rattle.rules.specs.Clauses.{compareDecls, declRules}
+use Rattle.rules.specs.Imports.{standing_with}
+use Rattle.rules.specs.Clauses.{compare_decls, decl_rules}
 use Rattle.tally.specs.Reporting.{Ready, Ran}
 use Rattle.tally.specs.declared.Tally.{Tally}
 use Rattle.types.specs.declared.Reading.{Reading}
-use Rattle.survivors.specs.Answers.{Survives, namesCovered}
-use Rattle.survivors.proofs.Declarations.{survives-none, survives-body, survives-here}
-use Rattle.lines.specs.Clauses.{declRemoved, declAdded}
-use Rattle.lines.proofs.Clauses.{Reports, decl-removed, decl-added}
-use Rattle.items.specs.Pairs.{contextOf, DeclPair}
+use Rattle.survivors.specs.Answers.{Survives, names_covered}
+use Rattle.survivors.proofs.Declarations.{survives_none, survives_body, survives_here}
+use Rattle.lines.specs.Clauses.{decl_removed, decl_added}
+use Rattle.lines.proofs.Clauses.{Reports, decl_removed_lem, decl_added_lem}
+use Rattle.items.specs.Pairs.{context_of, DeclPair}
 use Rattle.items.specs.Sides.{on, off}
 use Rattle.items.specs.declared.Side.{Side}
-use Rattle.checking.specs.Decls.{standingOff, allOff, lone, unmatchedDecls, unmatchedIn, keptIn, DeclOn}
+use Rattle.checking.specs.Decls.{standing_off, all_off, lone, unmatched_decls, unmatched_in, kept_in, DeclOn}
 
 -- what stands under a name stands under one that equals it
 pub under : {m : List Decl} {s : List ℕ} {name key : Name} {r : Entry} → name ≡ key → Survives m s name r → Survives m s key r
@@ -34,47 +34,47 @@ under e h = rw (← e) h
 -- ---- on one side only, where n stand on the other
 
 module _ (reading : Reading) {old new : List ℕ} {a b : IdSet} {side : Side} {at : ℕ} (p : DeclOn old new a b side at) {n : List Decl} {q : Entry}
-    (k : Survives n (off side old new) (declIn (on side old new) at).name q) where
-  pub stands-off : {j : ℕ} → q ≡ Body j → unmatchedIn reading old new n side at ≡ []
-  unfolding unmatchedIn unmatched
-  stands-off e = rw (survives-body _ _ k e)
+    (k : Survives n (off side old new) (decl_in (on side old new) at).name q) where
+  pub stands_off : {j : ℕ} → q ≡ Body j → unmatched_in reading old new n side at ≡ []
+  unfolding unmatched_in unmatched
+  stands_off e = rw (survives_body _ _ k e)
 
   module _ (e : q ≡ Unresolvable) where
-    alone : unmatchedIn reading old new n side at ≡ lone reading old new side (declIn (on side old new) at)
-    unfolding unmatchedIn unmatched
-    alone = rw (survives-none _ _ k e)
+    alone : unmatched_in reading old new n side at ≡ lone reading old new side (decl_in (on side old new) at)
+    unfolding unmatched_in unmatched
+    alone = rw (survives_none _ _ k e)
 
-    pub removed : side ≡ Side.Old → Reports old new (declRemoved at) true (unmatchedIn reading old new n side at)
-    removed o = rw (alone, o) (decl-removed old new p.searchable.0.accepted p.searchable.1.accepted (contextOf reading old new) at (rw o at p.here))
+    pub removed : side ≡ Side.Old → Reports old new (decl_removed at) true (unmatched_in reading old new n side at)
+    removed o = rw (alone, o) (decl_removed_lem old new p.searchable.0.accepted p.searchable.1.accepted (context_of reading old new) at (rw o at p.here))
 
-    pub added : side ≡ Side.New → Reports old new (declAdded at) true (unmatchedIn reading old new n side at)
-    added o = rw (alone, o) (decl-added old new p.searchable.0.accepted p.searchable.1.accepted (contextOf reading old new) at (rw o at p.here))
+    pub added : side ≡ Side.New → Reports old new (decl_added at) true (unmatched_in reading old new n side at)
+    added o = rw (alone, o) (decl_added_lem old new p.searchable.0.accepted p.searchable.1.accepted (context_of reading old new) at (rw o at p.here))
 
 -- each name of what may stand on a side stands on the other
-pub none-unmatched : (reading : Reading) (old new : List ℕ) (a b : IdSet) (side : Side) {t : Bool} → t ≡ allOff old new a b side → t ≡ true
-    → unmatchedDecls reading old new a b side ≡ []
-unfolding unmatchedDecls standingWith namesCovered
-none-unmatched reading old new a b side e q = covered_none nameOf before (lone reading old new side) (standingOff old new a b side) _ (sym e ∙ q)
+pub none_unmatched : (reading : Reading) (old new : List ℕ) (a b : IdSet) (side : Side) {t : Bool} → t ≡ all_off old new a b side → t ≡ true
+    → unmatched_decls reading old new a b side ≡ []
+unfolding unmatched_decls standing_with names_covered
+none_unmatched reading old new a b side e q = covered_none name_of before (lone reading old new side) (standing_off old new a b side) _ (sym e ∙ q)
 
 -- ---- on both, where n stand in the new image
 
-module _ (reading : Reading) {old new : List ℕ} {a b : IdSet} {i : ℕ} (p : DeclOn old new a b Side.Old i) {n : List Decl} {q : Entry} (k : Survives n new (declIn old i).name q) where
-  pub new_none : q ≡ Unresolvable → keptIn reading old new n i ≡ []
-  unfolding keptIn matched
-  new_none e = rw (survives-none new _ k e)
+module _ (reading : Reading) {old new : List ℕ} {a b : IdSet} {i : ℕ} (p : DeclOn old new a b Side.Old i) {n : List Decl} {q : Entry} (k : Survives n new (decl_in old i).name q) where
+  pub new_none : q ≡ Unresolvable → kept_in reading old new n i ≡ []
+  unfolding kept_in matched
+  new_none e = rw (survives_none new _ k e)
 
   module _ {j : ℕ} (e : q ≡ Body j) where
-    both-kept : keptIn reading old new n i ≡ compareDecls (contextOf reading old new) (declIn old i) (declIn new j)
-    unfolding keptIn matched declRules
-    both-kept = rw (survives-body new _ k e)
+    both_kept : kept_in reading old new n i ≡ compare_decls (context_of reading old new) (decl_in old i) (decl_in new j)
+    unfolding kept_in matched decl_rules
+    both_kept = rw (survives_body new _ k e)
 
     module _ {m : Mode} {d : List ℕ} {t : Tally} where
       -- what comparing them asks, and gives
-      pub both-asks : Ready m d t (keptIn reading old new n i)
-          → DeclPair old new i j × Ready m d t (compareDecls (contextOf reading old new) (declIn old i) (declIn new j))
-      both-asks w = rw (← both-kept) (record { accepted = (p.searchable.0.accepted, p.searchable.1.accepted); here = (p.here, survives-here new _ k e) }, w)
+      pub both_asks : Ready m d t (kept_in reading old new n i)
+          → DeclPair old new i j × Ready m d t (compare_decls (context_of reading old new) (decl_in old i) (decl_in new j))
+      both_asks w = rw (← both_kept) (record { accepted = (p.searchable.0.accepted, p.searchable.1.accepted); here = (p.here, survives_here new _ k e) }, w)
 
-      pub both-ran : {u : Tally} {d' : List ℕ}
-          → Ran m d t (compareDecls (contextOf reading old new) (declIn old i) (declIn new j)) u d'
-          → Ran m d t (keptIn reading old new n i) u d'
-      both-ran w = rw both-kept w
+      pub both_ran : {u : Tally} {d' : List ℕ}
+          → Ran m d t (compare_decls (context_of reading old new) (decl_in old i) (decl_in new j)) u d'
+          → Ran m d t (kept_in reading old new n i) u d'
+      both_ran w = rw both_kept w

@@ -6,20 +6,20 @@ use Rattle.maps.specs.Orders.{before}
 use Rattle.maps.specs.Keyed.{lookup}
 use Rattle.maps.specs.Compare.{unmatched, matched, between}
 use Rattle.image.specs.Schema.{Name, Decl}
-use Rattle.parts.specs.Promise.{schemaOf, DeclHere, declIn}
+use Rattle.parts.specs.Promise.{schema_of, DeclHere, decl_in}
 use Rattle.parts.specs.declared.Entry.{Entry}
-use Rattle.parts.specs.Kinds.{kindOf}
-use Rattle.rules.specs.Survivors.{nameOf}
+use Rattle.parts.specs.Kinds.{kind_of}
+use Rattle.rules.specs.Survivors.{name_of}
 use Rattle.rules.specs.Reached.{IdSet}
-use Rattle.rules.specs.Imports.{standingWith, viewWith}
+use Rattle.rules.specs.Imports.{standing_with, view_with}
 use Rattle.rules.specs.Changes.{Change}
-use Rattle.rules.specs.Clauses.{compareNamespaces, compareKind, compareDecls, declRules, changes}
-use Rattle.rules.specs.Verdict.{alias, isAlias, aliasPair}
-use Rattle.types.specs.Readings.{readingOf}
+use Rattle.rules.specs.Clauses.{compare_namespaces, compare_kind, compare_decls, decl_rules, changes}
+use Rattle.rules.specs.Verdict.{alias, is_alias, alias_pair}
+use Rattle.types.specs.Readings.{reading_of}
 use Rattle.types.specs.declared.Reading.{Reading}
-use Rattle.survivors.specs.Answers.{Survives, Follows, namesCovered}
+use Rattle.survivors.specs.Answers.{Survives, Follows, names_covered}
 use Rattle.survivors.specs.Candidates.{Searchable}
-use Rattle.items.specs.Pairs.{contextOf}
+use Rattle.items.specs.Pairs.{context_of}
 use Rattle.items.specs.Sides.{on, off}
 use Rattle.items.specs.declared.Side.{Side}
 use Rattle.items.specs.declared.Side.TheVariants as side
@@ -30,10 +30,10 @@ module _ (old new : List ℕ) (a b : IdSet) where
 
   -- the declarations that stand on a side, and on the other
   abbrev pub standing : Side → List Decl
-  standing s = standingWith (on s a b) (schemaOf (on s old new))
+  standing s = standing_with (on s a b) (schema_of (on s old new))
 
-  abbrev pub standingOff : Side → List Decl
-  standingOff s = standingWith (off s a b) (schemaOf (off s old new))
+  abbrev pub standing_off : Side → List Decl
+  standing_off s = standing_with (off s a b) (schema_of (off s old new))
 
   -- ---- what the searches answer: the declaration that comes next on a side, and what stands on the other under the name of one
 
@@ -41,69 +41,69 @@ module _ (old new : List ℕ) (a b : IdSet) where
   NextOn s after r = Follows (standing s) (on s old new) after r
 
   abbrev pub NamesakeOff : Side → ℕ → Entry → Type 0
-  NamesakeOff s at r = Survives (standingOff s) (off s old new) (declIn (on s old new) at).name r
+  NamesakeOff s at r = Survives (standing_off s) (off s old new) (decl_in (on s old new) at).name r
 
   -- whether each name of what may stand on a side stands on the other
-  abbrev pub allOff : Side → Bool
-  allOff s = namesCovered (standingOff s) (on s old new) (on s a b)
+  abbrev pub all_off : Side → Bool
+  all_off s = names_covered (standing_off s) (on s old new) (on s a b)
 
   -- ---- 11
 
-  unfoldable pub bothAliases : Bool
-  bothAliases = aliasPair (viewWith a (schemaOf old)) (viewWith b (schemaOf new))
+  unfoldable pub both_aliases : Bool
+  both_aliases = alias_pair (view_with a (schema_of old)) (view_with b (schema_of new))
 
   -- of one name
-  unfoldable pub aliasesAt : Name → Bool
-  aliasesAt name = isAlias (lookup nameOf before name (standing side.Old)) && isAlias (lookup nameOf before name (standing side.New))
+  unfoldable pub aliases_at : Name → Bool
+  aliases_at name = is_alias (lookup name_of before name (standing side.Old)) && is_alias (lookup name_of before name (standing side.New))
 
   -- of what an id of the old image stands for: it is one too
-  unfoldable pub aliasesOf : Option Decl → Bool
-  aliasesOf none = false
-  aliasesOf (some d) = alias d && aliasesAt d.name
+  unfoldable pub aliases_of : Option Decl → Bool
+  aliases_of none = false
+  aliases_of (some d) = alias d && aliases_at d.name
 
 module _ (reading : Reading) (old new : List ℕ) where
   -- ---- one declaration: on one side only, where n stand on the other, it is gone or came
 
   abbrev pub lone : Side → Decl → List Change
-  lone side.Old = (declRules (contextOf reading old new)).gone
-  lone side.New = (declRules (contextOf reading old new)).came
+  lone side.Old = (decl_rules (context_of reading old new)).gone
+  lone side.New = (decl_rules (context_of reading old new)).came
 
-  unfoldable pub unmatchedIn : List Decl → Side → ℕ → List Change
-  unmatchedIn n s at = unmatched (lone s) (some (declIn (on s old new) at)) (lookup nameOf before (declIn (on s old new) at).name n)
+  unfoldable pub unmatched_in : List Decl → Side → ℕ → List Change
+  unmatched_in n s at = unmatched (lone s) (some (decl_in (on s old new) at)) (lookup name_of before (decl_in (on s old new) at).name n)
 
   -- an old one that stands among n in the new image too was kept
-  unfoldable pub keptIn : List Decl → ℕ → List Change
-  keptIn n i = matched (declRules (contextOf reading old new)).kept (some (declIn old i)) (lookup nameOf before (declIn old i).name n)
+  unfoldable pub kept_in : List Decl → ℕ → List Change
+  kept_in n i = matched (decl_rules (context_of reading old new)).kept (some (decl_in old i)) (lookup name_of before (decl_in old i).name n)
 
   -- two of one kind, and any two
-  abbrev pub ofKind : ℕ → ℕ → ℕ → List Change
-  ofKind kind i j = compareKind (kindOf kind) (contextOf reading old new) (declIn old i) (declIn new j)
+  abbrev pub of_kind : ℕ → ℕ → ℕ → List Change
+  of_kind kind i j = compare_kind (kind_of kind) (context_of reading old new) (decl_in old i) (decl_in new j)
 
-  abbrev pub ofDecls : ℕ → ℕ → List Change
-  ofDecls i j = compareDecls (contextOf reading old new) (declIn old i) (declIn new j)
+  abbrev pub of_decls : ℕ → ℕ → List Change
+  of_decls i j = compare_decls (context_of reading old new) (decl_in old i) (decl_in new j)
 
-  abbrev pub ofNamespaces : List Change
-  ofNamespaces = compareNamespaces (schemaOf old).namespace (schemaOf new).namespace
+  abbrev pub of_namespaces : List Change
+  of_namespaces = compare_namespaces (schema_of old).namespace (schema_of new).namespace
 
   -- ---- all that stand
 
   module _ (a b : IdSet) where
-    unfoldable pub unmatchedDecls : Side → List Change
-    unmatchedDecls s = between nameOf before (unmatched (lone s)) (standing old new a b s) (standingOff old new a b s)
+    unfoldable pub unmatched_decls : Side → List Change
+    unmatched_decls s = between name_of before (unmatched (lone s)) (standing old new a b s) (standing_off old new a b s)
 
-    abbrev pub unmatchedDecl : Side → ℕ → List Change
-    unmatchedDecl s at = unmatchedIn (standingOff old new a b s) s at
+    abbrev pub unmatched_decl : Side → ℕ → List Change
+    unmatched_decl s at = unmatched_in (standing_off old new a b s) s at
 
-    unfoldable pub keptDecls : List Change
-    keptDecls =
-        between nameOf before (matched (declRules (contextOf reading old new)).kept) (standing old new a b side.Old) (standing old new a b side.New)
+    unfoldable pub kept_decls : List Change
+    kept_decls =
+        between name_of before (matched (decl_rules (context_of reading old new)).kept) (standing old new a b side.Old) (standing old new a b side.New)
 
-    abbrev pub keptDecl : ℕ → List Change
-    keptDecl i = keptIn (standing old new a b side.New) i
+    abbrev pub kept_decl : ℕ → List Change
+    kept_decl i = kept_in (standing old new a b side.New) i
 
     -- all clauses
-    unfoldable pub allChanges : List Change
-    allChanges = changes (readingOf reading) (viewWith a (schemaOf old)) (viewWith b (schemaOf new))
+    unfoldable pub all_changes : List Change
+    all_changes = changes (reading_of reading) (view_with a (schema_of old)) (view_with b (schema_of new))
 
 -- both images can be searched, and at a place stands a declaration of a side
 pub record DeclOn (old new : List ℕ) (a b : IdSet) (s : Side) (at : ℕ) : Type 0 where

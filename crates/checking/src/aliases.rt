@@ -1,8 +1,8 @@
 // 11. "survivors of one name are generic aliases in both images": of all that stands.
 ghost use Rattle.std.specs.Prelude.{◌≡◌};
-ghost use Rattle.parts.specs.Promise.{DeclHere, declIn, entryDecl, EntryHere};
-ghost use Rattle.rules.specs.Verdict.{isAlias};
-ghost use Rattle.checking.specs.Decls.{BothSearchable, bothAliases, aliasesAt, aliasesOf};
+ghost use Rattle.parts.specs.Promise.{DeclHere, decl_in, entry_decl, EntryHere};
+ghost use Rattle.rules.specs.Verdict.{is_alias};
+ghost use Rattle.checking.specs.Decls.{BothSearchable, both_aliases, aliases_at, aliases_of};
 
 use parts::Entry;
 use parts::decls::{decl_kind, decl_name};
@@ -12,7 +12,7 @@ use survivors::decls::survivor;
 
 fn is_alias(image: &[u8], at: Entry) -> bool
     requires { EntryHere image.now at }
-    ensures { result ≡ isAlias (entryDecl image.now at) }
+    ensures { result ≡ is_alias (entry_decl image.now at) }
 {
     let Entry::Body(body) = at else {
         return false;
@@ -23,7 +23,7 @@ fn is_alias(image: &[u8], at: Entry) -> bool
 // Whether what stands under a name is a generic alias in both images.
 fn aliases_at(old: &[u8], new: &[u8], old_reached: &[bool], new_reached: &[bool], at: usize) -> bool
     requires { BothSearchable old.now new.now old_reached.now new_reached.now × DeclHere old.now at }
-    ensures { result ≡ aliasesAt old.now new.now old_reached.now new_reached.now (declIn old.now at).name }
+    ensures { result ≡ aliases_at old.now new.now old_reached.now new_reached.now (decl_in old.now at).name }
 {
     let name = decl_name(old, at);
     if !is_alias(old, survivor(old, old_reached, name)) {
@@ -36,7 +36,7 @@ fn aliases_at(old: &[u8], new: &[u8], old_reached: &[bool], new_reached: &[bool]
 // any name.
 fn aliases_of(old: &[u8], new: &[u8], old_reached: &[bool], new_reached: &[bool], at: Entry) -> bool
     requires { BothSearchable old.now new.now old_reached.now new_reached.now × EntryHere old.now at }
-    ensures { result ≡ aliasesOf old.now new.now old_reached.now new_reached.now (entryDecl old.now at) }
+    ensures { result ≡ aliases_of old.now new.now old_reached.now new_reached.now (entry_decl old.now at) }
 {
     let Entry::Body(body) = at else {
         return false;
@@ -50,7 +50,7 @@ fn aliases_of(old: &[u8], new: &[u8], old_reached: &[bool], new_reached: &[bool]
 // Whether what stands under some name is a generic alias in both images.
 pub fn alias_pair(old: &[u8], new: &[u8], old_reached: &[bool], new_reached: &[bool]) -> bool
     requires { BothSearchable old.now new.now old_reached.now new_reached.now }
-    ensures { result ≡ bothAliases old.now new.now old_reached.now new_reached.now }
+    ensures { result ≡ both_aliases old.now new.now old_reached.now new_reached.now }
 {
     let n = candidate_count(old, old_reached);
     let mut i = 0;

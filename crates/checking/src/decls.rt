@@ -2,7 +2,7 @@
 ghost use Rattle.tally.specs.Reporting.{Ready, Ran};
 ghost use Rattle.items.specs.Pairs.{DeclPair, KindPair};
 ghost use Rattle.items.specs.declared.Side.{Side};
-ghost use Rattle.checking.specs.Decls.{BothSearchable, DeclOn, ofKind, ofDecls, unmatchedDecls, unmatchedDecl, keptDecls, keptDecl};
+ghost use Rattle.checking.specs.Decls.{BothSearchable, DeclOn, of_kind, of_decls, unmatched_decls, unmatched_decl, kept_decls, kept_decl};
 
 use crate::sides::{all_off, namesake_off, next_on};
 use clauses::enums::compare_enums;
@@ -30,8 +30,8 @@ fn compare_kind(
     i: usize,
     j: usize,
 ) -> Tally
-    requires { KindPair kind old.now new.now i j × Ready walk.mode out.old t (ofKind walk.reading old.now new.now kind i j) }
-    ensures { Ran walk.mode out.old t (ofKind walk.reading old.now new.now kind i j) result out.new }
+    requires { KindPair kind old.now new.now i j × Ready walk.mode out.old t (of_kind walk.reading old.now new.now kind i j) }
+    ensures { Ran walk.mode out.old t (of_kind walk.reading old.now new.now kind i j) result out.new }
 {
     match kind {
         MESSAGE => compare_messages(walk, old, new, out, t, i, j),
@@ -54,8 +54,8 @@ fn compare_decls(
     i: usize,
     j: usize,
 ) -> Tally
-    requires { DeclPair old.now new.now i j × Ready walk.mode out.old t (ofDecls walk.reading old.now new.now i j) }
-    ensures { Ran walk.mode out.old t (ofDecls walk.reading old.now new.now i j) result out.new }
+    requires { DeclPair old.now new.now i j × Ready walk.mode out.old t (of_decls walk.reading old.now new.now i j) }
+    ensures { Ran walk.mode out.old t (of_decls walk.reading old.now new.now i j) result out.new }
 {
     let kind = decl_kind(old, i);
     if kind != decl_kind(new, j) {
@@ -78,8 +78,8 @@ fn unmatched_decl(
     side: Side,
     at: usize,
 ) -> Tally
-    requires { DeclOn old.now new.now old_reached.now new_reached.now side at × Ready walk.mode out.old t (unmatchedDecl walk.reading old.now new.now old_reached.now new_reached.now side at) }
-    ensures { Ran walk.mode out.old t (unmatchedDecl walk.reading old.now new.now old_reached.now new_reached.now side at) result out.new }
+    requires { DeclOn old.now new.now old_reached.now new_reached.now side at × Ready walk.mode out.old t (unmatched_decl walk.reading old.now new.now old_reached.now new_reached.now side at) }
+    ensures { Ran walk.mode out.old t (unmatched_decl walk.reading old.now new.now old_reached.now new_reached.now side at) result out.new }
 {
     let Entry::Unresolvable = namesake_off(side, old, new, old_reached, new_reached, at) else {
         return t;
@@ -102,8 +102,8 @@ pub fn unmatched_decls(
     t: Tally,
     side: Side,
 ) -> Tally
-    requires { BothSearchable old.now new.now old_reached.now new_reached.now × Ready walk.mode out.old t (unmatchedDecls walk.reading old.now new.now old_reached.now new_reached.now side) }
-    ensures { Ran walk.mode out.old t (unmatchedDecls walk.reading old.now new.now old_reached.now new_reached.now side) result out.new }
+    requires { BothSearchable old.now new.now old_reached.now new_reached.now × Ready walk.mode out.old t (unmatched_decls walk.reading old.now new.now old_reached.now new_reached.now side) }
+    ensures { Ran walk.mode out.old t (unmatched_decls walk.reading old.now new.now old_reached.now new_reached.now side) result out.new }
 {
     if all_off(side, old, new, old_reached, new_reached) {
         return t;
@@ -140,8 +140,8 @@ fn kept_decl(
     t: Tally,
     i: usize,
 ) -> Tally
-    requires { DeclOn old.now new.now old_reached.now new_reached.now Side.Old i × Ready walk.mode out.old t (keptDecl walk.reading old.now new.now old_reached.now new_reached.now i) }
-    ensures { Ran walk.mode out.old t (keptDecl walk.reading old.now new.now old_reached.now new_reached.now i) result out.new }
+    requires { DeclOn old.now new.now old_reached.now new_reached.now Side.Old i × Ready walk.mode out.old t (kept_decl walk.reading old.now new.now old_reached.now new_reached.now i) }
+    ensures { Ran walk.mode out.old t (kept_decl walk.reading old.now new.now old_reached.now new_reached.now i) result out.new }
 {
     let Entry::Body(j) = namesake_off(Side::Old, old, new, old_reached, new_reached, i) else {
         return t;
@@ -159,8 +159,8 @@ pub fn kept_decls(
     out: &mut [u8],
     t: Tally,
 ) -> Tally
-    requires { BothSearchable old.now new.now old_reached.now new_reached.now × Ready walk.mode out.old t (keptDecls walk.reading old.now new.now old_reached.now new_reached.now) }
-    ensures { Ran walk.mode out.old t (keptDecls walk.reading old.now new.now old_reached.now new_reached.now) result out.new }
+    requires { BothSearchable old.now new.now old_reached.now new_reached.now × Ready walk.mode out.old t (kept_decls walk.reading old.now new.now old_reached.now new_reached.now) }
+    ensures { Ran walk.mode out.old t (kept_decls walk.reading old.now new.now old_reached.now new_reached.now) result out.new }
 {
     let mut tally = t;
     let mut after = Entry::Unresolvable;

@@ -2,7 +2,7 @@
 ghost use Rattle.std.specs.Prelude.{◌≡◌};
 ghost use Rattle.parts.specs.Promise.{EntryHere};
 ghost use Rattle.items.specs.Sides.{on};
-ghost use Rattle.checking.specs.Decls.{BothSearchable, DeclOn, NextOn, NamesakeOff, allOff};
+ghost use Rattle.checking.specs.Decls.{BothSearchable, DeclOn, NextOn, NamesakeOff, all_off};
 
 use items::Side;
 use parts::Entry;
@@ -54,7 +54,7 @@ pub fn all_off(
     new_reached: &[bool],
 ) -> bool
     requires { BothSearchable old.now new.now old_reached.now new_reached.now }
-    ensures { result ≡ allOff old.now new.now old_reached.now new_reached.now side }
+    ensures { result ≡ all_off old.now new.now old_reached.now new_reached.now side }
 {
     match side {
         Side::Old => all_named(old, old_reached, new, new_reached),

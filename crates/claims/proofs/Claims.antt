@@ -2,125 +2,125 @@
 use mathlib.Core.Path.{◌≡◌}
 use Rattle.maps.specs.Lists.{All}
 use Rattle.image.specs.Schema.{Schema}
-use Rattle.refusals.proofs.Refusals.{only-ten, exactly-if}
-use Rattle.written.proofs.Accepted.{accepted-exactly}
-use Rattle.rules.specs.Survivors.{viewOf}
-use Rattle.rules.specs.Types.{sameType}
-use Rattle.rules.specs.Changes.{ordinalKinds}
+use Rattle.refusals.proofs.Refusals.{only_ten, exactly_if}
+use Rattle.written.proofs.Accepted.{accepted_exactly}
+use Rattle.rules.specs.Survivors.{view_of}
+use Rattle.rules.specs.Types.{same_type}
+use Rattle.rules.specs.Changes.{ordinal_kinds}
 use Rattle.rules.specs.Clauses.{changes}
-use Rattle.rules.specs.Answer.{Policy, compared, outcome, plainReading, plain}
+use Rattle.rules.specs.Answer.{Policy, compared, outcome, plain_reading, plain}
 use Rattle.rules.specs.Refusals.{Numbered, AcceptedPair}
 use Rattle.rules.specs.Distance.{Image}
-use Rattle.rules.specs.Imports.{importsView, imports}
+use Rattle.rules.specs.Imports.{imports_view, imports}
 use Rattle.rules.specs.Mended.{mended}
-use Rattle.rules.proofs.Answer.{plain-numbered}
-use Rattle.rules.proofs.Refusals.{policy-refusals, report-refusals, clauses-told, verdict-refusals}
-use Rattle.rules.proofs.Bound.{Bounded, selector-bound, plain-bounded}
-use Rattle.rules.proofs.Unreported.{Ordinary, clauses-ordinary, no-ordinal-changed, no-width-changed}
-use Rattle.rules.proofs.Calls.{room-enough, same_text, rest-stays}
+use Rattle.rules.proofs.Answer.{plain_numbered}
+use Rattle.rules.proofs.Refusals.{policy_refusals, report_refusals, clauses_told, verdict_refusals}
+use Rattle.rules.proofs.Bound.{Bounded, selector_bound, plain_bounded}
+use Rattle.rules.proofs.Unreported.{Ordinary, clauses_ordinary, no_ordinal_changed, no_width_changed}
+use Rattle.rules.proofs.Calls.{room_enough_lem, same_text_lem, rest_stays_lem}
 use Rattle.rules.proofs.Edges.{edges}
 use Rattle.rules.proofs.Pinned.{pinned}
-use Rattle.rules.proofs.Distance.{distance-rule}
-use Rattle.rules.proofs.Reached.{reached-is}
-use Rattle.rules.proofs.Standing.{view-rises}
-use Rattle.rules.proofs.Imports.{imports-rise, imported-holds, imports-numbered, imports-bounded, imports-refusals, imports-distance-rule}
-use Rattle.rules.proofs.ImportEdges.{import-edges}
-use Rattle.rules.proofs.PinnedImports.{pinned-imports}
-use Rattle.rules.proofs.Ignored.{earlier-ignore}
-use Rattle.rules.proofs.PinnedIgnored.{pinned-ignored}
-use Rattle.rules.proofs.Mended.{three-answers, mended-bounded, mended-ordinary, otherwise, mended-distance-rule}
-use Rattle.rules.proofs.MendedRefusals.{mended-numbered, mended-told, mended-refusals}
-use Rattle.rules.proofs.MendedEdges.{mended-edges}
-use Rattle.rules.proofs.PinnedMended.{pinned-mended}
-use Rattle.listing.proofs.Refusals.{listing-refusals}
+use Rattle.rules.proofs.Distance.{distance_rule}
+use Rattle.rules.proofs.Reached.{reached_is}
+use Rattle.rules.proofs.Standing.{view_rises}
+use Rattle.rules.proofs.Imports.{imports_rise, imported_holds, imports_numbered, imports_bounded, imports_refusals, imports_distance_rule}
+use Rattle.rules.proofs.ImportEdges.{import_edges}
+use Rattle.rules.proofs.PinnedImports.{pinned_imports}
+use Rattle.rules.proofs.Ignored.{earlier_ignore}
+use Rattle.rules.proofs.PinnedIgnored.{pinned_ignored}
+use Rattle.rules.proofs.Mended.{three_answers, mended_bounded, mended_ordinary, otherwise, mended_distance_rule}
+use Rattle.rules.proofs.MendedRefusals.{mended_numbered, mended_told_lem, mended_refusals}
+use Rattle.rules.proofs.MendedEdges.{mended_edges}
+use Rattle.rules.proofs.PinnedMended.{pinned_mended}
+use Rattle.listing.proofs.Refusals.{listing_refusals}
 use Rattle.listing.proofs.Ignored.{ignores}
-use Rattle.refiling.proofs.FilingOrder.{filing-order}
+use Rattle.refiling.proofs.FilingOrder.{filing_order}
 use Rattle.refiling.proofs.Relation.{refilings}
 use Rattle.claims.specs.Claims.{RefusingTwo, ComparingTwo, Refusing, Comparing, Importing, Mending, Widening, Claims}
 
 -- ---- of two images, by any verdict
 
 module _ (p : Policy) (numbered : Numbered p) where
-  refusing-two : {Numbers : Image → Image → Type 0} → Bounded p → ((old new : Image) → Numbers old new) → RefusingTwo p Numbers
-  refusing-two bounded numbers = record {
-    stages = policy-refusals p numbered;
+  refusing_two : {Numbers : Image → Image → Type 0} → Bounded p → ((old new : Image) → Numbers old new) → RefusingTwo p Numbers
+  refusing_two bounded numbers = record {
+    stages = policy_refusals p numbered;
     verdict = numbers;
-    report = report-refusals p numbered;
-    values = selector-bound p bounded;
+    report = report_refusals p numbered;
+    values = selector_bound p bounded;
   }
 
-  comparing-two : {Get : Schema → Schema → Type 0} → All (λ j. Ordinary j p.reading) ordinalKinds
-      → ((old new : Image) (a : AcceptedPair old new Get) → outcome p old new ≡ compared (changes p.reading (p.view a.oldSchema) (p.view a.newSchema)))
+  comparing_two : {Get : Schema → Schema → Type 0} → All (λ j. Ordinary j p.reading) ordinal_kinds
+      → ((old new : Image) (a : AcceptedPair old new Get) → outcome p old new ≡ compared (changes p.reading (p.view a.old_schema) (p.view a.new_schema)))
       → ComparingTwo p Get
-  comparing-two ordinary told = record {
+  comparing_two ordinary told = record {
     clauses = told;
-    ordinals = no-ordinal-changed p ordinary;
-    roomEnough = room-enough p numbered;
-    sameText = same_text p numbered;
-    restStays = rest-stays p numbered;
+    ordinals = no_ordinal_changed p ordinary;
+    room_enough = room_enough_lem p numbered;
+    same_text = same_text_lem p numbered;
+    rest_stays = rest_stays_lem p numbered;
   }
 
-plain-ordinary : All (λ j. Ordinary j plainReading) ordinalKinds
+plain_ordinary : All (λ j. Ordinary j plain_reading) ordinal_kinds
 unfolding All
-plain-ordinary = (clauses-ordinary sameType _, (clauses-ordinary sameType _, (clauses-ordinary sameType _, tt)))
+plain_ordinary = (clauses_ordinary same_type _, (clauses_ordinary same_type _, (clauses_ordinary same_type _, tt)))
 
 -- ---- the demands
 
 refusing : Refusing
 refusing = record {
-  accepted = accepted-exactly;
-  ten = only-ten;
-  five = exactly-if;
-  two = refusing-two plain plain-numbered plain-bounded (verdict-refusals viewOf view-rises plainReading);
-  listing = listing-refusals;
+  accepted = accepted_exactly;
+  ten = only_ten;
+  five = exactly_if;
+  two = refusing_two plain plain_numbered plain_bounded (verdict_refusals view_of view_rises plain_reading);
+  listing = listing_refusals;
 }
 
 comparing : Comparing
 comparing = record {
-  two = comparing-two plain plain-numbered plain-ordinary (clauses-told viewOf view-rises plainReading);
+  two = comparing_two plain plain_numbered plain_ordinary (clauses_told view_of view_rises plain_reading);
   edges = edges;
   pinned = pinned;
 }
 
 importing : Importing
 importing = record {
-  reached = reached-is;
-  imported = imported-holds;
-  refusing = refusing-two imports imports-numbered imports-bounded imports-refusals;
-  comparing = comparing-two imports imports-numbered plain-ordinary (clauses-told importsView imports-rise plainReading);
-  distance = imports-distance-rule;
-  edges = import-edges;
-  pinned = pinned-imports;
+  reached = reached_is;
+  imported = imported_holds;
+  refusing = refusing_two imports imports_numbered imports_bounded imports_refusals;
+  comparing = comparing_two imports imports_numbered plain_ordinary (clauses_told imports_view imports_rise plain_reading);
+  distance = imports_distance_rule;
+  edges = import_edges;
+  pinned = pinned_imports;
 }
 
 mending : Mending
 mending = record {
-  answers = three-answers;
-  refusing = refusing-two mended mended-numbered mended-bounded mended-refusals;
-  comparing = comparing-two mended mended-numbered mended-ordinary mended-told;
+  answers = three_answers;
+  refusing = refusing_two mended mended_numbered mended_bounded mended_refusals;
+  comparing = comparing_two mended mended_numbered mended_ordinary mended_told_lem;
   otherwise = otherwise;
-  distance = mended-distance-rule;
-  edges = mended-edges;
-  pinned = pinned-mended;
+  distance = mended_distance_rule;
+  edges = mended_edges;
+  pinned = pinned_mended;
 }
 
 widening : Widening
 widening = record {
-  ignored = earlier-ignore;
+  ignored = earlier_ignore;
   listing = ignores;
-  pinned = pinned-ignored;
-  plainCount = no-width-changed viewOf sameType;
-  importsCount = no-width-changed importsView sameType;
+  pinned = pinned_ignored;
+  plain_count = no_width_changed view_of same_type;
+  imports_count = no_width_changed imports_view same_type;
 }
 
 pub claims : Claims
 claims = record {
   refusing = refusing;
   comparing = comparing;
-  distance = distance-rule;
+  distance = distance_rule;
   importing = importing;
   mending = mending;
   widening = widening;
-  filing = filing-order;
+  filing = filing_order;
   filings = refilings;
 }

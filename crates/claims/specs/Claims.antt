@@ -1,29 +1,29 @@
 -- What is promised of the calls, demand by demand, in terms of what their contracts name. By the verdict of 01 the verdict call answers
--- `verdictOf old new selector`; the report call returns `returned old new out` and leaves `leaves old new out` in the buffer out; the values
+-- `verdict_of old new selector`; the report call returns `returned old new out` and leaves `leaves old new out` in the buffer out; the values
 -- call returns what the verdict call answers to 0, and leaves in each place of its buffer what that answers to the place's index (`Valued` of
--- the crate vexil_compat). Of the calls with imports the same holds with `verdictBy imports`, `returnedBy imports` and `leavesBy imports`, and
--- of the mended ones with `mended` in the place of `imports`. The listing's verdict call answers `listingVerdict image room selector`, and the
--- listing call returns `textLength` of `outcome image room` and leaves `written` of it. That each call does so, for all bytes, buffers and
+-- the crate vexil_compat). Of the calls with imports the same holds with `verdict_by imports`, `returned_by imports` and `leaves_by imports`, and
+-- of the mended ones with `mended` in the place of `imports`. The listing's verdict call answers `listing_verdict image room selector`, and the
+-- listing call returns `text_length` of `outcome image room` and leaves `written` of it. That each call does so, for all bytes, buffers and
 -- selectors, within bounds and to an end, is its contract, which has no precondition. The value of this page is proofs/Claims.antt. Assumes
 -- nothing.
 use Rattle.std.specs.Prelude.{◌≡◌, false, ◌↔◌, ℕ, ◌^◌, ◌≤◌, ◌<◌, length, take, drop}
 use Rattle.maps.specs.Lists.{All}
 use Rattle.image.specs.Schema.{Ty, Schema}
 use Rattle.image.specs.Parse.{ok, no}
-use Rattle.image.specs.Image.{readImage}
+use Rattle.image.specs.Image.{read_image}
 use Rattle.refusals.specs.Refusals.{ExactlyIf}
 use Rattle.written.specs.Limits.{Each, Byte, Within}
 use Rattle.written.specs.Writer.{write}
-use Rattle.rules.specs.Survivors.{viewOf}
-use Rattle.rules.specs.Changes.{kindAt, ordinalKinds, WidthChanged}
+use Rattle.rules.specs.Survivors.{view_of}
+use Rattle.rules.specs.Changes.{kind_at, ordinal_kinds, WidthChanged}
 use Rattle.rules.specs.Clauses.{changes}
-use Rattle.rules.specs.Answer.{Policy, compared, outcome, verdictBy, returnedBy, leavesBy, plainReading, plain}
+use Rattle.rules.specs.Answer.{Policy, compared, outcome, verdict_by, returned_by, leaves_by, plain_reading, plain}
 use Rattle.rules.specs.Refusals.{AcceptedPair, AliasPair, PolicyRefusals, ReportRefusals, VerdictRefusals}
-use Rattle.rules.specs.Distance.{Image, holdsVectors, countBetween, DistanceRule}
+use Rattle.rules.specs.Distance.{Image, holds_vectors, count_between, DistanceRule}
 use Rattle.rules.specs.Edges.{Edges}
 use Rattle.rules.specs.Pinned.{Pinned}
 use Rattle.rules.specs.Reached.{ReachedIs}
-use Rattle.rules.specs.Imports.{importsView, imports, Imported}
+use Rattle.rules.specs.Imports.{imports_view, imports, Imported}
 use Rattle.rules.specs.ImportEdges.{ImportEdges}
 use Rattle.rules.specs.PinnedImports.{PinnedImports}
 use Rattle.rules.specs.Mended.{ThreeAnswers, mended, Otherwise}
@@ -46,24 +46,24 @@ module _ (policy : Policy) where
     pub verdict : (old new : Image) → Numbers old new
     pub report : (old new : Image) (room : ℕ) → ReportRefusals policy old new room
     -- no value that is told is cut off
-    pub values : (old new : Image) (selector : ℕ) → verdictBy policy old new selector < 2 ^ 62
+    pub values : (old new : Image) (selector : ℕ) → verdict_by policy old new selector < 2 ^ 62
 
   -- demand 2, where two accepted images get a verdict if `Get` holds of what they hold
   pub record ComparingTwo (Get : Schema → Schema → Type 0) : Type 0 where
     -- all that is told of two images that get a verdict is made of the changes of the clauses
     pub clauses : (old new : Image) (a : AcceptedPair old new Get)
-        → outcome policy old new ≡ compared (changes policy.reading (policy.view a.oldSchema) (policy.view a.newSchema))
+        → outcome policy old new ≡ compared (changes policy.reading (policy.view a.old_schema) (policy.view a.new_schema))
     -- "The three `..OrdinalChanged` counts are 0."
-    pub ordinals : (old new : Image) → All (λ kind. countBetween (verdictBy policy) kind old new ≡ 0) ordinalKinds
+    pub ordinals : (old new : Image) → All (λ kind. count_between (verdict_by policy) kind old new ≡ 0) ordinal_kinds
     -- who asks for the length first has room enough; the text is one and the same in every buffer that holds it; the bytes past it stay
-    pub roomEnough : (old new out : Image) → verdictBy policy old new 4 ≤ length out → returnedBy policy old new out ≡ verdictBy policy old new 4
-    pub sameText : (old new out out' : Image) → verdictBy policy old new 4 ≤ length out → verdictBy policy old new 4 ≤ length out'
-        → take (returnedBy policy old new out) (leavesBy policy old new out) ≡ take (returnedBy policy old new out') (leavesBy policy old new out')
-    pub restStays : (old new out : Image) → drop (returnedBy policy old new out) (leavesBy policy old new out) ≡ drop (returnedBy policy old new out) out
+    pub room_enough : (old new out : Image) → verdict_by policy old new 4 ≤ length out → returned_by policy old new out ≡ verdict_by policy old new 4
+    pub same_text : (old new out out' : Image) → verdict_by policy old new 4 ≤ length out → verdict_by policy old new 4 ≤ length out'
+        → take (returned_by policy old new out) (leaves_by policy old new out) ≡ take (returned_by policy old new out') (leaves_by policy old new out')
+    pub rest_stays : (old new out : Image) → drop (returned_by policy old new out) (leaves_by policy old new out) ≡ drop (returned_by policy old new out) out
 
   -- demand 3, as 01 reads types: chain, self and swap
   abbrev Distances : Type 0
-  Distances = DistanceRule (verdictBy policy) (holdsVectors policy.view)
+  Distances = DistanceRule (verdict_by policy) (holds_vectors policy.view)
 
 -- ---- the demands
 
@@ -71,16 +71,16 @@ module _ (policy : Policy) where
 pub record Refusing : Type 0 where
   -- one image is accepted exactly if it is what is written of a schema within 01's limits; else its number is one of 1 to 10, and 1 to 5
   -- are given exactly if
-  pub accepted : (s : Image) → Each Byte s → (x : Schema) (n : ℕ) → (readImage s ≡ ok x n) ↔ (Within x × (s ≡ write x) × (n ≡ length s))
-  pub ten : (s : Image) (k : ℕ) → readImage s ≡ no k → (1 ≤ k) × (k ≤ 10)
+  pub accepted : (s : Image) → Each Byte s → (x : Schema) (n : ℕ) → (read_image s ≡ ok x n) ↔ (Within x × (s ≡ write x) × (n ≡ length s))
+  pub ten : (s : Image) (k : ℕ) → read_image s ≡ no k → (1 ≤ k) × (k ≤ 10)
   pub five : (s : Image) → ExactlyIf s
-  pub two : RefusingTwo plain (VerdictRefusals viewOf plainReading)
+  pub two : RefusingTwo plain (VerdictRefusals view_of plain_reading)
   -- and of the listing of one
   pub listing : (image : Image) (room : ℕ) → ListingRefusals image room
 
 -- Demand 2: "For every pair of images that 01 accepts, the changes, result and bump .. are proved equal to the clauses as 01 writes them."
 pub record Comparing : Type 0 where
-  pub two : ComparingTwo plain (λ x y. ¬ AliasPair viewOf x y)
+  pub two : ComparingTwo plain (λ x y. ¬ AliasPair view_of x y)
   -- the edges of 01, and what the Rust answered on whole pairs, by computation
   pub edges : Edges
   pub pinned : Pinned
@@ -93,8 +93,8 @@ pub record Importing : Type 0 where
   -- verdict is that of 01
   pub imported : Imported
   -- "A second verdict, with a report": the demands hold of it, over what stands then
-  pub refusing : RefusingTwo imports (VerdictRefusals importsView plainReading)
-  pub comparing : ComparingTwo imports (λ x y. ¬ AliasPair importsView x y)
+  pub refusing : RefusingTwo imports (VerdictRefusals imports_view plain_reading)
+  pub comparing : ComparingTwo imports (λ x y. ¬ AliasPair imports_view x y)
   -- "the distance rule covers it as well, its compared types being those of all entries that stand"
   pub distance : Distances imports
   -- its edges, and pairs of images on which it and the verdict of 01 differ, by computation
@@ -109,11 +109,11 @@ pub record Mending : Type 0 where
   -- WidthChanged; and where it does not refuse by 16, no width has changed, and one image has no vector, quaternion or matrix in a compared
   -- type, it is that of 01
   pub refusing : RefusingTwo mended MendedRefusals
-  pub comparing : ComparingTwo mended (λ x y. ¬ Mixed x y × ¬ AliasPair viewOf x y)
+  pub comparing : ComparingTwo mended (λ x y. ¬ Mixed x y × ¬ AliasPair view_of x y)
   pub otherwise : Otherwise
   -- "there every image that gets a verdict against itself is at distance 0 from itself. The chain rule covers the mended verdict as well.";
   -- and the swap of counts
-  pub distance : DistanceRule (verdictBy mended) (λ a. false)
+  pub distance : DistanceRule (verdict_by mended) (λ a. false)
   -- its edges, and images with vectors by the three verdicts, by computation
   pub edges : MendedEdges
   pub pinned : PinnedMended
@@ -126,8 +126,8 @@ pub record Widening : Type 0 where
   pub listing : ListingIgnores
   pub pinned : PinnedIgnored
   -- "The list of counts gains this name at its end, always 0 in the earlier verdicts."
-  pub plainCount : (old new : Image) → countBetween (verdictBy plain) (kindAt WidthChanged) old new ≡ 0
-  pub importsCount : (old new : Image) → countBetween (verdictBy imports) (kindAt WidthChanged) old new ≡ 0
+  pub plain_count : (old new : Image) → count_between (verdict_by plain) (kind_at WidthChanged) old new ≡ 0
+  pub imports_count : (old new : Image) → count_between (verdict_by imports) (kind_at WidthChanged) old new ≡ 0
 
 pub record Claims : Type 0 where
   pub refusing : Refusing

@@ -17,66 +17,66 @@ use Rattle.survivors.specs.declared.Ordinal.{Ordinal}
 use Rattle.survivors.specs.declared.Ordinal.TheVariants as ordinal
 use Rattle.survivors.specs.declared.Next.{Next}
 use Rattle.survivors.specs.declared.Next.TheVariants as next
-use Rattle.items.specs.Items.{ItemsIn, ItemIn, NextOn, rules, unmatchedItems, keptItems, keptAt, itemChanges}
+use Rattle.items.specs.Items.{ItemsIn, ItemIn, NextOn, rules, unmatched_items, kept_items, kept_at, item_changes}
 use Rattle.items.specs.declared.Side.{Side}
 use Rattle.items.specs.declared.Items.{Items}
-use Rattle.items.proofs.Walks.{walkRest, walkLeft, kept-all, kept-at, walk-less, walk-met, walk_start, walk_turn, walk-done}
+use Rattle.items.proofs.Walks.{walk_rest, walk_left, kept_all, kept_at_lem, walk_less, walk_met, walk_start, walk_turn, walk_done}
 
 -- ---- part by part
 
 -- what stands on one side only, removed and added
-abbrev pub loneParts : Reading → List ℕ → List ℕ → Items → List (List Change)
-loneParts reading old new x = unmatchedItems reading old new x Side.Old ∷ unmatchedItems reading old new x Side.New ∷ []
+abbrev pub lone_parts : Reading → List ℕ → List ℕ → Items → List (List Change)
+lone_parts reading old new x = unmatched_items reading old new x Side.Old ∷ unmatched_items reading old new x Side.New ∷ []
 
 -- and what was kept
-abbrev pub allParts : Reading → List ℕ → List ℕ → Items → List (List Change)
-allParts reading old new x = unmatchedItems reading old new x Side.Old ∷ unmatchedItems reading old new x Side.New ∷ keptItems reading old new x ∷ []
+abbrev pub all_parts : Reading → List ℕ → List ℕ → Items → List (List Change)
+all_parts reading old new x = unmatched_items reading old new x Side.Old ∷ unmatched_items reading old new x Side.New ∷ kept_items reading old new x ∷ []
 
 module _ (reading : Reading) (old new : List ℕ) (x : Items) where
-  pub all-parts : itemChanges reading old new x ≡ together (allParts reading old new x)
-  unfolding itemChanges compare unmatchedItems keptItems together
-  all-parts = refl
+  pub all_parts_lem : item_changes reading old new x ≡ together (all_parts reading old new x)
+  unfolding item_changes compare unmatched_items kept_items together
+  all_parts_lem = refl
 
   -- where nothing is reported of what was kept
-  pub lone_parts : keptItems reading old new x ≡ [] → itemChanges reading old new x ≡ together (loneParts reading old new x)
+  pub lone_parts_lem : kept_items reading old new x ≡ [] → item_changes reading old new x ≡ together (lone_parts reading old new x)
   unfolding together
-  lone_parts e = all-parts ∙ rw (e, append-nil)
+  lone_parts_lem e = all_parts_lem ∙ rw (e, append-nil)
 
 -- rules that report nothing of what was kept
-pub kept-silent : {K E C : Type 0} (key : E → K) (lt : K → K → Bool) (m n : List E) → between key lt {C = C} (matched (λ e f. [])) m n ≡ []
+pub kept_silent : {K E C : Type 0} (key : E → K) (lt : K → K → Bool) (m n : List E) → between key lt {C = C} (matched (λ e f. [])) m n ≡ []
 unfolding between flat_map matched
-kept-silent key lt [] n = refl
-kept-silent {E = E} {C = C} key lt (e ∷ m) n = rw (none-matched {E = E} {C = C} e (lookup key lt (key e) n)) (kept-silent key lt m n)
+kept_silent key lt [] n = refl
+kept_silent {E = E} {C = C} key lt (e ∷ m) n = rw (none_matched {E = E} {C = C} e (lookup key lt (key e) n)) (kept_silent key lt m n)
   where
-    none-matched : {E C : Type 0} (e : E) (o : Option E) → matched {C = C} (λ f g. []) (some e) o ≡ []
-    none-matched e none = refl
-    none-matched e (some f) = refl
+    none_matched : {E C : Type 0} (e : E) (o : Option E) → matched {C = C} (λ f g. []) (some e) o ≡ []
+    none_matched e none = refl
+    none_matched e (some f) = refl
 
 -- ---- the walk over what was kept
 
 -- what it has yet to report after an ordinal, and how many items it has yet to meet
-abbrev pub restKept : Reading → List ℕ → List ℕ → Items → Ordinal → List Change
-restKept reading old new x after = walkRest old new x (matched (rules reading old new x).kept) Side.Old after
+abbrev pub rest_kept : Reading → List ℕ → List ℕ → Items → Ordinal → List Change
+rest_kept reading old new x after = walk_rest old new x (matched (rules reading old new x).kept) Side.Old after
 
-abbrev pub leftKept : List ℕ → List ℕ → Items → Ordinal → ℕ
-leftKept old new x after = walkLeft old new x Side.Old after
+abbrev pub left_kept : List ℕ → List ℕ → Items → Ordinal → ℕ
+left_kept old new x after = walk_left old new x Side.Old after
 
 module _ {old new : List ℕ} {x : Items} (p : ItemsIn old new x) where
   module _ (after : Ordinal) {r : Next} (a : NextOn old new x Side.Old after r) {k i : ℕ} (e : r ≡ next.Is k i) where
-    pub kept_less : leftKept old new x (ordinal.Is k) < leftKept old new x after
-    kept_less = walk-less p Side.Old after a e
+    pub kept_less : left_kept old new x (ordinal.Is k) < left_kept old new x after
+    kept_less = walk_less p Side.Old after a e
 
     -- the old item that is met
-    pub kept-met : ItemIn old new x Side.Old i
-    kept-met = walk-met p Side.Old after a e
+    pub kept_met : ItemIn old new x Side.Old i
+    kept_met = walk_met p Side.Old after a e
 
   module _ (reading : Reading) {m : Mode} {d : List ℕ} {t : Tally} where
-    pub kept-start : Ready m d t (keptItems reading old new x) → Owed m d t (keptItems reading old new x) t d (restKept reading old new x ordinal.Nothing ∷ [])
-    kept-start q = walk_start p Side.Old (matched (rules reading old new x).kept) (kept-all reading old new x) q
+    pub kept_start : Ready m d t (kept_items reading old new x) → Owed m d t (kept_items reading old new x) t d (rest_kept reading old new x ordinal.Nothing ∷ [])
+    kept_start q = walk_start p Side.Old (matched (rules reading old new x).kept) (kept_all reading old new x) q
 
-    module _ {all : List Change} {t' : Tally} {d' : List ℕ} (after : Ordinal) (w : Owed m d t all t' d' (restKept reading old new x after ∷ [])) {r : Next} (a : NextOn old new x Side.Old after r) where
-      pub kept-turn : {k i : ℕ} → r ≡ next.Is k i → Owed m d t all t' d' (keptAt reading old new x k i ∷ restKept reading old new x (ordinal.Is k) ∷ [])
-      kept-turn {k} {i} e = walk_turn p Side.Old (matched (rules reading old new x).kept) after w a e (kept-at reading old new x k i)
+    module _ {all : List Change} {t' : Tally} {d' : List ℕ} (after : Ordinal) (w : Owed m d t all t' d' (rest_kept reading old new x after ∷ [])) {r : Next} (a : NextOn old new x Side.Old after r) where
+      pub kept_turn : {k i : ℕ} → r ≡ next.Is k i → Owed m d t all t' d' (kept_at reading old new x k i ∷ rest_kept reading old new x (ordinal.Is k) ∷ [])
+      kept_turn {k} {i} e = walk_turn p Side.Old (matched (rules reading old new x).kept) after w a e (kept_at_lem reading old new x k i)
 
-      pub kept-done : r ≡ next.Nothing → Ran m d t all t' d'
-      kept-done e = walk-done p Side.Old (matched (rules reading old new x).kept) after w a e
+      pub kept_done : r ≡ next.Nothing → Ran m d t all t' d'
+      kept_done e = walk_done p Side.Old (matched (rules reading old new x).kept) after w a e

@@ -1,6 +1,6 @@
 // 5. Enums. Renames and deprecation are silent.
 ghost use Rattle.tally.specs.Reporting.{Ready, Ran};
-ghost use Rattle.items.specs.Pairs.{KindPair, ofEnums};
+ghost use Rattle.items.specs.Pairs.{KindPair, of_enums};
 
 use crate::reporting::emit_if;
 use items::unmatched::unmatched_items;
@@ -20,8 +20,8 @@ pub fn compare_enums(
     i: usize,
     j: usize,
 ) -> Tally
-    requires { KindPair 1 old.now new.now i j × Ready walk.mode out.old t (ofEnums walk.reading old.now new.now i j) }
-    ensures { Ran walk.mode out.old t (ofEnums walk.reading old.now new.now i j) result out.new }
+    requires { KindPair 1 old.now new.now i j × Ready walk.mode out.old t (of_enums walk.reading old.now new.now i j) }
+    ensures { Ran walk.mode out.old t (of_enums walk.reading old.now new.now i j) result out.new }
 {
     let test = non_exhaustive(old, i) != non_exhaustive(new, j);
     let t = emit_if(walk, old, new, out, t, test, non_exhaustive_changed(i, j));

@@ -1,11 +1,11 @@
 // 4. Field sets, by ordinal.
 ghost use Rattle.std.specs.Prelude.{◌≡◌, eqb};
-ghost use Rattle.parts.specs.Promise.{ItemHere, fieldIn, limitOf};
+ghost use Rattle.parts.specs.Promise.{ItemHere, field_in, limit_of};
 ghost use Rattle.parts.specs.declared.Shape.{Shape};
-ghost use Rattle.rules.specs.Equal.{sameOption};
+ghost use Rattle.rules.specs.Equal.{same_option};
 ghost use Rattle.tally.specs.Reporting.{Ready, Ran};
-ghost use Rattle.items.specs.Pairs.{sameCoding, FieldPair, ofFields};
-ghost use Rattle.items.specs.Items.{FieldsIn, keptFields, fieldChanges, FieldAsked, FieldTold, FieldsTold};
+ghost use Rattle.items.specs.Pairs.{same_coding, FieldPair, of_fields};
+ghost use Rattle.items.specs.Items.{FieldsIn, kept_fields, field_changes, FieldAsked, FieldTold, FieldsTold};
 
 use crate::reporting::{compare_deprecated, compare_types, emit_if};
 use details::Scope;
@@ -22,7 +22,7 @@ use tally::Tally;
 use types::names::same_name;
 
 fn limits_equal(a: Limit, b: Limit) -> bool
-    ensures { result ≡ sameOption eqb (limitOf a) (limitOf b) }
+    ensures { result ≡ same_option eqb (limit_of a) (limit_of b) }
 {
     let Limit::Most(m) = a else {
         let Limit::Unlimited = b else {
@@ -39,7 +39,7 @@ fn limits_equal(a: Limit, b: Limit) -> bool
 // Whether two fields have the same encoding and the same limit.
 fn encodings_equal(old: &[u8], i: usize, new: &[u8], j: usize) -> bool
     requires { ItemHere Shape.Field old.now i × ItemHere Shape.Field new.now j }
-    ensures { result ≡ sameCoding (fieldIn old.now i) (fieldIn new.now j) }
+    ensures { result ≡ same_coding (field_in old.now i) (field_in new.now j) }
 {
     let a = field_encoding(old, i);
     let b = field_encoding(new, j);
@@ -63,8 +63,8 @@ fn compare_fields(
     i: usize,
     j: usize,
 ) -> Tally
-    requires { FieldPair old.now new.now scope i j × Ready walk.mode out.old t (ofFields walk.reading old.now new.now scope i j) }
-    ensures { Ran walk.mode out.old t (ofFields walk.reading old.now new.now scope i j) result out.new }
+    requires { FieldPair old.now new.now scope i j × Ready walk.mode out.old t (of_fields walk.reading old.now new.now scope i j) }
+    ensures { Ran walk.mode out.old t (of_fields walk.reading old.now new.now scope i j) result out.new }
 {
     let renamed = !same_name(item_name(old, i), item_name(new, j));
     let t = emit_if(walk, old, new, out, t, renamed, field_renamed(scope, i, j));
@@ -117,8 +117,8 @@ fn kept_fields(
     a: Run,
     b: Run,
 ) -> Tally
-    requires { FieldsIn old.now new.now scope a b × Ready walk.mode out.old t (keptFields walk.reading old.now new.now scope a b) }
-    ensures { Ran walk.mode out.old t (keptFields walk.reading old.now new.now scope a b) result out.new }
+    requires { FieldsIn old.now new.now scope a b × Ready walk.mode out.old t (kept_fields walk.reading old.now new.now scope a b) }
+    ensures { Ran walk.mode out.old t (kept_fields walk.reading old.now new.now scope a b) result out.new }
 {
     let items = Items {
         of: Owner::Fields(scope),
@@ -147,7 +147,7 @@ pub fn compare_field_sets(
     a: Run,
     b: Run,
 ) -> Tally
-    requires { FieldsIn old.now new.now scope a b × Ready walk.mode out.old t (fieldChanges walk.reading old.now new.now scope a b) }
+    requires { FieldsIn old.now new.now scope a b × Ready walk.mode out.old t (field_changes walk.reading old.now new.now scope a b) }
     ensures { FieldsTold walk old.now new.now out.old t result out.new scope a b }
 {
     let items = Items {

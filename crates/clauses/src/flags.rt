@@ -1,6 +1,6 @@
 // 6. Flags.
 ghost use Rattle.tally.specs.Reporting.{Ready, Ran};
-ghost use Rattle.items.specs.Pairs.{KindPair, ofFlags};
+ghost use Rattle.items.specs.Pairs.{KindPair, of_flags};
 
 use items::unmatched::unmatched_items;
 use items::{Items, Owner, Side, Walk};
@@ -17,8 +17,8 @@ pub fn compare_flags(
     i: usize,
     j: usize,
 ) -> Tally
-    requires { KindPair 2 old.now new.now i j × Ready walk.mode out.old t (ofFlags walk.reading old.now new.now i j) }
-    ensures { Ran walk.mode out.old t (ofFlags walk.reading old.now new.now i j) result out.new }
+    requires { KindPair 2 old.now new.now i j × Ready walk.mode out.old t (of_flags walk.reading old.now new.now i j) }
+    ensures { Ran walk.mode out.old t (of_flags walk.reading old.now new.now i j) result out.new }
 {
     let items = Items {
         of: Owner::Flags(i),

@@ -1,6 +1,6 @@
 // 4. A message: its fields, then its own `FieldDeprecated`.
 ghost use Rattle.tally.specs.Reporting.{Ready, Ran};
-ghost use Rattle.items.specs.Pairs.{KindPair, ofMessages};
+ghost use Rattle.items.specs.Pairs.{KindPair, of_messages};
 
 use crate::fields::compare_field_sets;
 use crate::reporting::compare_deprecated;
@@ -21,8 +21,8 @@ pub fn compare_messages(
     i: usize,
     j: usize,
 ) -> Tally
-    requires { KindPair 0 old.now new.now i j × Ready walk.mode out.old t (ofMessages walk.reading old.now new.now i j) }
-    ensures { Ran walk.mode out.old t (ofMessages walk.reading old.now new.now i j) result out.new }
+    requires { KindPair 0 old.now new.now i j × Ready walk.mode out.old t (of_messages walk.reading old.now new.now i j) }
+    ensures { Ran walk.mode out.old t (of_messages walk.reading old.now new.now i j) result out.new }
 {
     let a = decl_items(old, i);
     let b = decl_items(new, j);

@@ -1,6 +1,6 @@
 // 8. Newtypes.
 ghost use Rattle.tally.specs.Reporting.{Ready, Ran};
-ghost use Rattle.items.specs.Pairs.{KindPair, ofNewtypes};
+ghost use Rattle.items.specs.Pairs.{KindPair, of_newtypes};
 
 use crate::reporting::compare_types;
 use items::Walk;
@@ -18,8 +18,8 @@ pub fn compare_newtypes(
     i: usize,
     j: usize,
 ) -> Tally
-    requires { KindPair 4 old.now new.now i j × Ready walk.mode out.old t (ofNewtypes walk.reading old.now new.now i j) }
-    ensures { Ran walk.mode out.old t (ofNewtypes walk.reading old.now new.now i j) result out.new }
+    requires { KindPair 4 old.now new.now i j × Ready walk.mode out.old t (of_newtypes walk.reading old.now new.now i j) }
+    ensures { Ran walk.mode out.old t (of_newtypes walk.reading old.now new.now i j) result out.new }
 {
     let a = inner_type(old, i);
     let b = inner_type(new, j);

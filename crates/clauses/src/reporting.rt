@@ -2,8 +2,8 @@
 ghost use Rattle.std.specs.Prelude.{not, ◌&&◌};
 ghost use Rattle.rules.specs.Changes.{only};
 ghost use Rattle.tally.specs.Reporting.{Ready, Ran};
-ghost use Rattle.lines.specs.Sites.{changeOf, SiteHere};
-ghost use Rattle.items.specs.Pairs.{TypePair, ofTypes};
+ghost use Rattle.lines.specs.Sites.{change_of, SiteHere};
+ghost use Rattle.items.specs.Pairs.{TypePair, of_types};
 
 use items::Walk;
 use lines::Site;
@@ -21,8 +21,8 @@ pub fn emit_if(
     test: bool,
     site: Site,
 ) -> Tally
-    requires { SiteHere old.now new.now site × Ready walk.mode out.old t (only test (changeOf old.now new.now site)) }
-    ensures { Ran walk.mode out.old t (only test (changeOf old.now new.now site)) result out.new }
+    requires { SiteHere old.now new.now site × Ready walk.mode out.old t (only test (change_of old.now new.now site)) }
+    ensures { Ran walk.mode out.old t (only test (change_of old.now new.now site)) result out.new }
 {
     if !test {
         return t;
@@ -42,8 +42,8 @@ pub(crate) fn compare_types(
     j: usize,
     site: Site,
 ) -> Tally
-    requires { TypePair old.now new.now i j site × Ready walk.mode out.old t (ofTypes walk.reading old.now new.now i j site) }
-    ensures { Ran walk.mode out.old t (ofTypes walk.reading old.now new.now i j site) result out.new }
+    requires { TypePair old.now new.now i j site × Ready walk.mode out.old t (of_types walk.reading old.now new.now i j site) }
+    ensures { Ran walk.mode out.old t (of_types walk.reading old.now new.now i j site) result out.new }
 {
     let reading = walk.reading;
     let test = !types_equal(reading, old, i, new, j);
@@ -61,8 +61,8 @@ pub(crate) fn compare_deprecated(
     is: bool,
     site: Site,
 ) -> Tally
-    requires { SiteHere old.now new.now site × Ready walk.mode out.old t (only (not was && is) (changeOf old.now new.now site)) }
-    ensures { Ran walk.mode out.old t (only (not was && is) (changeOf old.now new.now site)) result out.new }
+    requires { SiteHere old.now new.now site × Ready walk.mode out.old t (only (not was && is) (change_of old.now new.now site)) }
+    ensures { Ran walk.mode out.old t (only (not was && is) (change_of old.now new.now site)) result out.new }
 {
     if was {
         return t;

@@ -1,7 +1,7 @@
 // 7. Unions: shared ordinals compare fields, under the declaration's name, two colons and the old variant's name.
 ghost use Rattle.tally.specs.Reporting.{Ready, Ran};
-ghost use Rattle.items.specs.Pairs.{KindPair, ofUnions};
-ghost use Rattle.items.specs.Items.{VariantsIn, keptVariants, VariantAsked, VariantTold};
+ghost use Rattle.items.specs.Pairs.{KindPair, of_unions};
+ghost use Rattle.items.specs.Items.{VariantsIn, kept_variants, VariantAsked, VariantTold};
 
 use crate::fields::compare_field_sets;
 use details::Scope;
@@ -52,8 +52,8 @@ fn kept_variants(
     a: Run,
     b: Run,
 ) -> Tally
-    requires { VariantsIn old.now new.now decl a b × Ready walk.mode out.old t (keptVariants walk.reading old.now new.now decl a b) }
-    ensures { Ran walk.mode out.old t (keptVariants walk.reading old.now new.now decl a b) result out.new }
+    requires { VariantsIn old.now new.now decl a b × Ready walk.mode out.old t (kept_variants walk.reading old.now new.now decl a b) }
+    ensures { Ran walk.mode out.old t (kept_variants walk.reading old.now new.now decl a b) result out.new }
 {
     let items = Items {
         of: Owner::Union(decl),
@@ -81,8 +81,8 @@ pub fn compare_unions(
     i: usize,
     j: usize,
 ) -> Tally
-    requires { KindPair 3 old.now new.now i j × Ready walk.mode out.old t (ofUnions walk.reading old.now new.now i j) }
-    ensures { Ran walk.mode out.old t (ofUnions walk.reading old.now new.now i j) result out.new }
+    requires { KindPair 3 old.now new.now i j × Ready walk.mode out.old t (of_unions walk.reading old.now new.now i j) }
+    ensures { Ran walk.mode out.old t (of_unions walk.reading old.now new.now i j) result out.new }
 {
     let a = decl_items(old, i);
     let b = decl_items(new, j);

@@ -1,9 +1,9 @@
 // Widths of enums and flags: no clause compares them, and the mended reading reports them first.
 ghost use Rattle.std.specs.Prelude.{◌≡◌, eqb};
-ghost use Rattle.parts.specs.Promise.{widthOf};
-ghost use Rattle.rules.specs.Equal.{sameOption};
+ghost use Rattle.parts.specs.Promise.{width_of};
+ghost use Rattle.rules.specs.Equal.{same_option};
 ghost use Rattle.tally.specs.Reporting.{Ready, Ran};
-ghost use Rattle.items.specs.Pairs.{DeclPair, ofFirst};
+ghost use Rattle.items.specs.Pairs.{DeclPair, of_first};
 
 use crate::reporting::emit_if;
 use items::Walk;
@@ -15,7 +15,7 @@ use types::Reading;
 
 // Both as stored the same, or neither there.
 fn widths_equal(a: Width, b: Width) -> bool
-    ensures { result ≡ sameOption eqb (widthOf a) (widthOf b) }
+    ensures { result ≡ same_option eqb (width_of a) (width_of b) }
 {
     let Width::Wire(m) = a else {
         let Width::Absent = b else {
@@ -39,8 +39,8 @@ pub fn compare_widths(
     i: usize,
     j: usize,
 ) -> Tally
-    requires { DeclPair old.now new.now i j × Ready walk.mode out.old t (ofFirst walk.reading old.now new.now i j) }
-    ensures { Ran walk.mode out.old t (ofFirst walk.reading old.now new.now i j) result out.new }
+    requires { DeclPair old.now new.now i j × Ready walk.mode out.old t (of_first walk.reading old.now new.now i j) }
+    ensures { Ran walk.mode out.old t (of_first walk.reading old.now new.now i j) result out.new }
 {
     match walk.reading {
         Reading::Plain => t,

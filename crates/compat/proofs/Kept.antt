@@ -5,87 +5,87 @@ use mathlib.Core.Option.{Option, none, or_else}
 use mathlib.Core.List.{List, [], ◌∷◌}
 use Prim.Native.Nat.{ℕ}
 use Rattle.image.specs.Schema.{Schema}
-use Rattle.parts.specs.Promise.{schemaOf}
-use Rattle.rules.specs.Survivors.{View, viewOf}
-use Rattle.rules.specs.Verdict.{aliasPair}
-use Rattle.rules.specs.Answer.{Fault, firstFault, aliasCheck}
+use Rattle.parts.specs.Promise.{schema_of}
+use Rattle.rules.specs.Survivors.{View, view_of}
+use Rattle.rules.specs.Verdict.{alias_pair}
+use Rattle.rules.specs.Answer.{Fault, first_fault, alias_check}
 use Rattle.rules.specs.Reached.{IdSet}
-use Rattle.rules.specs.Imports.{viewWith, importsView}
-use Rattle.rules.specs.Widths.{mixedCheck}
+use Rattle.rules.specs.Imports.{view_with, imports_view}
+use Rattle.rules.specs.Widths.{mixed_check}
 use Rattle.rules.specs.Refusals.{Numbered}
-use Rattle.rules.proofs.Answer.{plain-numbered}
-use Rattle.rules.proofs.Bound.{Bounded, plain-bounded}
-use Rattle.rules.proofs.Standing.{view-none}
-use Rattle.rules.proofs.Imports.{imports-numbered, imports-bounded}
-use Rattle.rules.proofs.MendedRefusals.{mended-numbered}
-use Rattle.rules.proofs.Mended.{mended-bounded}
-use Rattle.types.specs.Readings.{readingOf}
-use Rattle.checking.specs.Decls.{bothAliases, allChanges}
-use Rattle.compat.specs.Policies.{policyOf, readingIn, idsBy, changesBy, Prepared, formatFault, aliasFault}
+use Rattle.rules.proofs.Answer.{plain_numbered}
+use Rattle.rules.proofs.Bound.{Bounded, plain_bounded}
+use Rattle.rules.proofs.Standing.{view_none}
+use Rattle.rules.proofs.Imports.{imports_numbered, imports_bounded}
+use Rattle.rules.proofs.MendedRefusals.{mended_numbered}
+use Rattle.rules.proofs.Mended.{mended_bounded}
+use Rattle.types.specs.Readings.{reading_of}
+use Rattle.checking.specs.Decls.{both_aliases, all_changes}
+use Rattle.compat.specs.Policies.{policy_of, reading_in, ids_by, changes_by, Prepared, format_fault, alias_fault}
 use Rattle.compat.specs.declared.policies.Policy.{Policy}
 use Rattle.compat.specs.declared.policies.Policy.TheVariants as policy
 
 -- 11 is the last check of the pair
-last-check : (view : Schema → View) (x y : Schema) → aliasFault (aliasPair (view x) (view y)) ≡ firstFault (aliasCheck view ∷ []) x y
-unfolding aliasFault firstFault aliasCheck or_else
-last-check view x y = go (aliasPair (view x) (view y))
+last_check : (view : Schema → View) (x y : Schema) → alias_fault (alias_pair (view x) (view y)) ≡ first_fault (alias_check view ∷ []) x y
+unfolding alias_fault first_fault alias_check or_else
+last_check view x y = go (alias_pair (view x) (view y))
   where
-    go : (u : Bool) → aliasFault u ≡ or_else (aliasFault u) none
+    go : (u : Bool) → alias_fault u ≡ or_else (alias_fault u) none
     go true = refl
     go false = refl
 
 -- the numbers of its checks are its own
-pub policy-numbered : (p : Policy) → Numbered (policyOf p)
-unfolding policyOf
-policy-numbered policy.Plain = plain-numbered
-policy-numbered policy.Imports = imports-numbered
-policy-numbered policy.Mended = mended-numbered
+pub policy_numbered : (p : Policy) → Numbered (policy_of p)
+unfolding policy_of
+policy_numbered policy.Plain = plain_numbered
+policy_numbered policy.Imports = imports_numbered
+policy_numbered policy.Mended = mended_numbered
 
 -- its report is shorter than 2^62 bytes
-pub policy-bounded : (p : Policy) → Bounded (policyOf p)
-unfolding policyOf
-policy-bounded policy.Plain = plain-bounded
-policy-bounded policy.Imports = imports-bounded
-policy-bounded policy.Mended = mended-bounded
+pub policy_bounded : (p : Policy) → Bounded (policy_of p)
+unfolding policy_of
+policy_bounded policy.Plain = plain_bounded
+policy_bounded policy.Imports = imports_bounded
+policy_bounded policy.Mended = mended_bounded
 
 -- what it compares is what stands with its ids
-pub policy-view : (p : Policy) (x : Schema) → (policyOf p).view x ≡ viewWith (idsBy p x) x
-unfolding policyOf idsBy importsView
-policy-view policy.Plain x = sym (view-none x)
-policy-view policy.Imports x = refl
-policy-view policy.Mended x = sym (view-none x)
+pub policy_view : (p : Policy) (x : Schema) → (policy_of p).view x ≡ view_with (ids_by p x) x
+unfolding policy_of ids_by imports_view
+policy_view policy.Plain x = sym (view_none x)
+policy_view policy.Imports x = refl
+policy_view policy.Mended x = sym (view_none x)
 
 -- what its checks of the pair say
-pub policy-pair : (p : Policy) (x y : Schema)
-    → or_else (formatFault p x y) (aliasFault (aliasPair ((policyOf p).view x) ((policyOf p).view y))) ≡ firstFault (policyOf p).pair x y
-unfolding policyOf formatFault firstFault or_else
-policy-pair policy.Plain x y = last-check viewOf x y
-policy-pair policy.Imports x y = last-check importsView x y
-policy-pair policy.Mended x y = ap (or_else (mixedCheck x y)) (last-check viewOf x y)
+pub policy_pair : (p : Policy) (x y : Schema)
+    → or_else (format_fault p x y) (alias_fault (alias_pair ((policy_of p).view x) ((policy_of p).view y))) ≡ first_fault (policy_of p).pair x y
+unfolding policy_of format_fault first_fault or_else
+policy_pair policy.Plain x y = last_check view_of x y
+policy_pair policy.Imports x y = last_check imports_view x y
+policy_pair policy.Mended x y = ap (or_else (mixed_check x y)) (last_check view_of x y)
 
 -- how its walk reads
-pub policy-reading : (p : Policy) → readingOf (readingIn p) ≡ (policyOf p).reading
-unfolding policyOf readingIn readingOf
-policy-reading policy.Plain = refl
-policy-reading policy.Imports = refl
-policy-reading policy.Mended = refl
+pub policy_reading : (p : Policy) → reading_of (reading_in p) ≡ (policy_of p).reading
+unfolding policy_of reading_in reading_of
+policy_reading policy.Plain = refl
+policy_reading policy.Imports = refl
+policy_reading policy.Mended = refl
 
 -- ---- with the sets of ids that go with the images
 
 module _ (p : Policy) {old new : List ℕ} {a b : IdSet} (h : Prepared p old new a b) where
-  old-view : viewWith a (schemaOf old) ≡ (policyOf p).view (schemaOf old)
-  old-view = ap (λ m. viewWith m (schemaOf old)) h.oldIds ∙ sym (policy-view p (schemaOf old))
+  old_view : view_with a (schema_of old) ≡ (policy_of p).view (schema_of old)
+  old_view = ap (λ m. view_with m (schema_of old)) h.old_ids ∙ sym (policy_view p (schema_of old))
 
-  new-view : viewWith b (schemaOf new) ≡ (policyOf p).view (schemaOf new)
-  new-view = ap (λ m. viewWith m (schemaOf new)) h.newIds ∙ sym (policy-view p (schemaOf new))
+  new_view : view_with b (schema_of new) ≡ (policy_of p).view (schema_of new)
+  new_view = ap (λ m. view_with m (schema_of new)) h.new_ids ∙ sym (policy_view p (schema_of new))
 
   -- what its walk reports are the changes of its views
-  pub policy-changes : allChanges (readingIn p) old new a b ≡ changesBy p old new
-  unfolding allChanges changesBy
-  policy-changes = rw (old-view, new-view, policy-reading p)
+  pub policy_changes : all_changes (reading_in p) old new a b ≡ changes_by p old new
+  unfolding all_changes changes_by
+  policy_changes = rw (old_view, new_view, policy_reading p)
 
   -- and 11, after what comes before it, is told by them
-  pub policy-aliases : {f : Option Fault} → f ≡ formatFault p (schemaOf old) (schemaOf new)
-      → or_else f (aliasFault (bothAliases old new a b)) ≡ firstFault (policyOf p).pair (schemaOf old) (schemaOf new)
-  unfolding bothAliases
-  policy-aliases e = rw (e, old-view, new-view) (policy-pair p (schemaOf old) (schemaOf new))
+  pub policy_aliases : {f : Option Fault} → f ≡ format_fault p (schema_of old) (schema_of new)
+      → or_else f (alias_fault (both_aliases old new a b)) ≡ first_fault (policy_of p).pair (schema_of old) (schema_of new)
+  unfolding both_aliases
+  policy_aliases e = rw (e, old_view, new_view) (policy_pair p (schema_of old) (schema_of new))

@@ -8,121 +8,121 @@ use native.Mathlib.Omega.{arith}
 use borrow.Author.Tests.{le-leb, lt-leb}
 use lib.ListN.{length, take, length-take}
 use Rattle.image.specs.Schema.{Schema}
-use Rattle.parts.specs.Codes.{number, oldSide, newSide, bothSides}
-use Rattle.text.specs.Text.{put, putIn, Space}
+use Rattle.parts.specs.Codes.{number, old_side, new_side, both_sides}
+use Rattle.text.specs.Text.{put, put_in, Space}
 use Rattle.text.specs.declared.Mode.{Mode}
 use Rattle.text.specs.declared.Mode.TheVariants.{Measure, Write}
-use Rattle.text.proofs.Writing.{space-measure, space-write}
-use Rattle.parts.specs.Promise.{schemaOf}
-use Rattle.parts.proofs.Promise.{accepted-read, read-accepted}
+use Rattle.text.proofs.Writing.{space_measure, space_write}
+use Rattle.parts.specs.Promise.{schema_of}
+use Rattle.parts.proofs.Promise.{accepted_read, read_accepted}
 use Rattle.rules.specs.Report.{report}
 use Rattle.rules.specs.Outcome.{Outcome, refused, answered, fit, written}
-use Rattle.rules.specs.Answer.{Fault, compared, firstFault, judged, faultIn, comparePair, outcome, reportBy}
-use Rattle.rules.specs.Refusals.{Passes, Decided, oldRefused, oldAlone, newRefused, newAlone, pairRefused, verdict}
-use Rattle.rules.proofs.Answer.{no-fault, old-fault, new-fault, both-pass, decided}
-use Rattle.rules.proofs.Bound.{report-bound}
+use Rattle.rules.specs.Answer.{Fault, compared, first_fault, judged, fault_in, compare_pair, outcome, report_by}
+use Rattle.rules.specs.Refusals.{Passes, Decided, old_refused, old_alone, new_refused, new_alone, pair_refused, verdict}
+use Rattle.rules.proofs.Answer.{no_fault, old_fault, new_fault, both_pass, decided}
+use Rattle.rules.proofs.Bound.{report_bound}
 use Rattle.rules.specs.Reached.{IdSet}
 use Rattle.items.specs.Pairs.{BothAccepted}
 use Rattle.items.specs.declared.Walk.{Walk}
-use Rattle.checking.specs.Decls.{BothSearchable, allChanges}
+use Rattle.checking.specs.Decls.{BothSearchable, all_changes}
 use Rattle.reached.specs.declared.Reached.{Reached}
-use Rattle.verdicts.specs.Verdicts.{refusedBy, verdictIs}
+use Rattle.verdicts.specs.Verdicts.{refused_by, verdict_is}
 use Rattle.verdicts.specs.declared.Verdict.{Verdict}
-use Rattle.compat.specs.Policies.{policyOf, walkOf, changesBy, HasIds, Prepared, faultOf, Passing}
+use Rattle.compat.specs.Policies.{policy_of, walk_of, changes_by, HasIds, Prepared, fault_of, Passing}
 use Rattle.compat.specs.Passes.{ReportSpace, Passed, Reported}
 use Rattle.compat.specs.declared.policies.Policy.{Policy}
 use Rattle.compat.specs.declared.policies.Judged.{Judged}
 use Rattle.compat.specs.declared.policies.Judged.TheVariants as judging
-use Rattle.compat.proofs.Kept.{policy-numbered, policy-bounded, policy-changes}
+use Rattle.compat.proofs.Kept.{policy_numbered, policy_bounded, policy_changes}
 
 -- ---- what a check says
 
-module _ {j : Judged} {o : Option Fault} (e : faultOf j ≡ o) where
+module _ {j : Judged} {o : Option Fault} (e : fault_of j ≡ o) where
   pub says_none : j ≡ judging.Passes → o ≡ none
-  unfolding faultOf
-  says_none p = sym e ∙ ap faultOf p
+  unfolding fault_of
+  says_none p = sym e ∙ ap fault_of p
 
   -- what comes before another check: it passes, or its fault is told
-  pub first_passes : j ≡ judging.Passes → (k : Judged) {q : Option Fault} → faultOf k ≡ q → faultOf k ≡ or_else o q
+  pub first_passes : j ≡ judging.Passes → (k : Judged) {q : Option Fault} → fault_of k ≡ q → fault_of k ≡ or_else o q
   unfolding or_else
   first_passes p k r = r ∙ rw (says_none p)
 
-  pub first-told : {n s : ℕ} → j ≡ judging.Fault n s → (q : Option Fault) → faultOf (judging.Fault n s) ≡ or_else o q
-  unfolding faultOf or_else
-  first-told p q = rw (sym e ∙ ap faultOf p)
+  pub first_told : {n s : ℕ} → j ≡ judging.Fault n s → (q : Option Fault) → fault_of (judging.Fault n s) ≡ or_else o q
+  unfolding fault_of or_else
+  first_told p q = rw (sym e ∙ ap fault_of p)
 
   pub passes_on : j ≡ judging.Passes → (u : Outcome) → u ≡ judged o u
   unfolding judged
   passes_on p u = rw (says_none p)
 
-  pub fault-told : {n s : ℕ} → j ≡ judging.Fault n s → (u : Outcome) → refusedBy n s ≡ verdictIs (judged o u)
-  unfolding faultOf judged verdictIs
-  fault-told p u = rw (sym e ∙ ap faultOf p)
+  pub fault_told : {n s : ℕ} → j ≡ judging.Fault n s → (u : Outcome) → refused_by n s ≡ verdict_is (judged o u)
+  unfolding fault_of judged verdict_is
+  fault_told p u = rw (sym e ∙ ap fault_of p)
 
 -- ---- two images
 
 module _ (p : Policy) (old new : List ℕ) where
-  pub old-refused : {j : Judged} → faultOf j ≡ faultIn (policyOf p) (number oldSide) old → {n s : ℕ} → j ≡ judging.Fault n s
-      → refusedBy n s ≡ verdictIs (outcome (policyOf p) old new)
-  unfolding faultOf verdictIs
-  old-refused e q = sym (ap verdictIs (old-fault (policyOf p) old new (sym e ∙ ap faultOf q)))
+  pub old_refused_lem : {j : Judged} → fault_of j ≡ fault_in (policy_of p) (number old_side) old → {n s : ℕ} → j ≡ judging.Fault n s
+      → refused_by n s ≡ verdict_is (outcome (policy_of p) old new)
+  unfolding fault_of verdict_is
+  old_refused_lem e q = sym (ap verdict_is (old_fault (policy_of p) old new (sym e ∙ ap fault_of q)))
 
-  module _ (a : Passing p (number oldSide) old) where
-    old-passes : (x : Schema) × Passes (policyOf p) old x
+  module _ (a : Passing p (number old_side) old) where
+    old_passes : (x : Schema) × Passes (policy_of p) old x
     unfolding Passing
-    old-passes = no-fault (policyOf p) (number oldSide) old a
+    old_passes = no_fault (policy_of p) (number old_side) old a
 
-    pub new-refused : {j : Judged} → faultOf j ≡ faultIn (policyOf p) (number newSide) new → {n s : ℕ} → j ≡ judging.Fault n s
-        → refusedBy n s ≡ verdictIs (outcome (policyOf p) old new)
-    unfolding faultOf verdictIs
-    new-refused e q = sym (ap verdictIs (new-fault (policyOf p) old new old-passes.1 (sym e ∙ ap faultOf q)))
+    pub new_refused_lem : {j : Judged} → fault_of j ≡ fault_in (policy_of p) (number new_side) new → {n s : ℕ} → j ≡ judging.Fault n s
+        → refused_by n s ≡ verdict_is (outcome (policy_of p) old new)
+    unfolding fault_of verdict_is
+    new_refused_lem e q = sym (ap verdict_is (new_fault (policy_of p) old new old_passes.1 (sym e ∙ ap fault_of q)))
 
-    module _ (b : Passing p (number newSide) new) where
-      new-passes : (y : Schema) × Passes (policyOf p) new y
+    module _ (b : Passing p (number new_side) new) where
+      new_passes : (y : Schema) × Passes (policy_of p) new y
       unfolding Passing
-      new-passes = no-fault (policyOf p) (number newSide) new b
+      new_passes = no_fault (policy_of p) (number new_side) new b
 
-      pub both-accepted : BothAccepted old new
-      both-accepted = ((read-accepted old old-passes.1.read).0, (read-accepted new new-passes.1.read).0)
+      pub both_accepted : BothAccepted old new
+      both_accepted = ((read_accepted old old_passes.1.read).0, (read_accepted new new_passes.1.read).0)
 
-      pub pair-outcome : comparePair (policyOf p) (schemaOf old) (schemaOf new) ≡ outcome (policyOf p) old new
-      pair-outcome =
-          rw ((read-accepted old old-passes.1.read).1, (read-accepted new new-passes.1.read).1)
-          (sym (both-pass (policyOf p) old new old-passes.1 new-passes.1))
+      pub pair_outcome : compare_pair (policy_of p) (schema_of old) (schema_of new) ≡ outcome (policy_of p) old new
+      pair_outcome =
+          rw ((read_accepted old old_passes.1.read).1, (read_accepted new new_passes.1.read).1)
+          (sym (both_pass (policy_of p) old new old_passes.1 new_passes.1))
 
-  pub passing : (side : ℕ) (s : List ℕ) {j : Judged} → faultOf j ≡ faultIn (policyOf p) side s → j ≡ judging.Passes → Passing p side s
+  pub passing : (side : ℕ) (s : List ℕ) {j : Judged} → fault_of j ≡ fault_in (policy_of p) side s → j ≡ judging.Passes → Passing p side s
   unfolding Passing
   passing side s e q = says_none e q
 
   -- ---- two accepted images
 
-  module _ {j : Judged} (e : faultOf j ≡ firstFault (policyOf p).pair (schemaOf old) (schemaOf new)) where
-    pub pair-passes : j ≡ judging.Passes
-        → compared (changesBy p old new) ≡ comparePair (policyOf p) (schemaOf old) (schemaOf new)
-    unfolding comparePair changesBy
-    pair-passes q = passes_on e q _
+  module _ {j : Judged} (e : fault_of j ≡ first_fault (policy_of p).pair (schema_of old) (schema_of new)) where
+    pub pair_passes : j ≡ judging.Passes
+        → compared (changes_by p old new) ≡ compare_pair (policy_of p) (schema_of old) (schema_of new)
+    unfolding compare_pair changes_by
+    pair_passes q = passes_on e q _
 
-    pub pair-refused : {n s : ℕ} → j ≡ judging.Fault n s
-        → refusedBy n s ≡ verdictIs (comparePair (policyOf p) (schemaOf old) (schemaOf new))
-    unfolding comparePair
-    pair-refused q = fault-told e q _
+    pub pair_refused_lem : {n s : ℕ} → j ≡ judging.Fault n s
+        → refused_by n s ≡ verdict_is (compare_pair (policy_of p) (schema_of old) (schema_of new))
+    unfolding compare_pair
+    pair_refused_lem q = fault_told e q _
 
   -- ---- a pass, by the walk of the policy
 
-  module _ {a b : IdSet} (k : Prepared p old new a b) {w : Walk} {m : Mode} (e : w ≡ walkOf p m) where
-    pub walk-asks : {d : List ℕ} → ReportSpace m d (changesBy p old new)
-        → BothSearchable old new a b × ReportSpace w.mode d (allChanges w.reading old new a b)
-    unfolding walkOf
-    walk-asks h = (k.searchable, rw (e, policy-changes p k) h)
+  module _ {a b : IdSet} (k : Prepared p old new a b) {w : Walk} {m : Mode} (e : w ≡ walk_of p m) where
+    pub walk_asks : {d : List ℕ} → ReportSpace m d (changes_by p old new)
+        → BothSearchable old new a b × ReportSpace w.mode d (all_changes w.reading old new a b)
+    unfolding walk_of
+    walk_asks h = (k.searchable, rw (e, policy_changes p k) h)
 
-    pub walk-passed : {d d' : List ℕ} {r : Verdict} → Passed w.mode d (allChanges w.reading old new a b) r d'
-        → Passed m d (changesBy p old new) r d'
-    unfolding walkOf
-    walk-passed h = rw (e, policy-changes p k) at h
+    pub walk_passed : {d d' : List ℕ} {r : Verdict} → Passed w.mode d (all_changes w.reading old new a b) r d'
+        → Passed m d (changes_by p old new) r d'
+    unfolding walk_of
+    walk_passed h = rw (e, policy_changes p k) at h
 
   -- each image with its set
-  pub prepared-accepted : {a b : IdSet} → Prepared p old new a b → BothAccepted old new
-  prepared-accepted k = (k.searchable.0.accepted, k.searchable.1.accepted)
+  pub prepared_accepted : {a b : IdSet} → Prepared p old new a b → BothAccepted old new
+  prepared_accepted k = (k.searchable.0.accepted, k.searchable.1.accepted)
 
   pub prepared : BothAccepted old new → {r q : Reached} → HasIds p old r → HasIds p new q → Prepared p old new (take r.count r.marks) (take q.count q.marks)
   prepared g {r} {q} h k = record {
@@ -130,79 +130,79 @@ module _ (p : Policy) (old new : List ℕ) where
       record { accepted = g.0; few = omega (arith, length-take r.count r.marks, h.few) },
       record { accepted = g.1; few = omega (arith, length-take q.count q.marks, k.few) },
     );
-    oldIds = h.marks;
-    newIds = k.marks;
+    old_ids = h.marks;
+    new_ids = k.marks;
   }
 
   -- ---- the report's room
 
   module _ (h : BothAccepted old new) where
-    report-small : length (report (changesBy p old new)) < 2 ^ 62
-    unfolding changesBy
-    report-small =
-        report-bound (policyOf p) (policy-bounded p) old new _ _ _ _ (accepted-read old h.0).1 (accepted-read new h.1).1
+    report_small : length (report (changes_by p old new)) < 2 ^ 62
+    unfolding changes_by
+    report_small =
+        report_bound (policy_of p) (policy_bounded p) old new _ _ _ _ (accepted_read old h.0).1 (accepted_read new h.1).1
 
-    pub measure-space : {d : List ℕ} → Space Measure d 0 (length (report (changesBy p old new)))
-    measure-space = space-measure (omega (arith, report-small))
+    pub measure_space : {d : List ℕ} → Space Measure d 0 (length (report (changes_by p old new)))
+    measure_space = space_measure (omega (arith, report_small))
 
-    write-space : {d : List ℕ} → length (report (changesBy p old new)) ≤ length d → Space Write d 0 (length (report (changesBy p old new)))
-    write-space l = space-write (omega (arith, report-small)) (omega arith)
+    write_space : {d : List ℕ} → length (report (changes_by p old new)) ≤ length d → Space Write d 0 (length (report (changes_by p old new)))
+    write_space l = space_write (omega (arith, report_small)) (omega arith)
 
   -- ---- the report call, by the verdict
 
   -- a verdict with number 0 is that of the changes of two accepted images
   record Told (o : Outcome) : Type 0 where
     both : BothAccepted old new
-    is : o ≡ compared (changesBy p old new)
+    is : o ≡ compared (changes_by p old new)
 
-  told : (verdictIs (outcome (policyOf p) old new)).number ≡ 0 → Told (outcome (policyOf p) old new)
-  unfolding verdictIs refusedBy changesBy
-  told = go (decided (policyOf p) old new)
+  told : (verdict_is (outcome (policy_of p) old new)).number ≡ 0 → Told (outcome (policy_of p) old new)
+  unfolding verdict_is refused_by changes_by
+  told = go (decided (policy_of p) old new)
     where
-      go : {o : Outcome} → Decided (policyOf p) old new o → (verdictIs o).number ≡ 0 → Told o
-      go (oldRefused l q) z = absurd (omega arith)
-      go (oldAlone q e) z = absurd (((policy-numbered p).alone _ _ e).0 z)
-      go (newRefused a l q) z = absurd (omega arith)
-      go (newAlone a q e) z = absurd (((policy-numbered p).alone _ _ e).0 z)
-      go (pairRefused a b e) z = absurd (((policy-numbered p).pair _ _ _ e).0 z)
+      go : {o : Outcome} → Decided (policy_of p) old new o → (verdict_is o).number ≡ 0 → Told o
+      go (old_refused l q) z = absurd (omega arith)
+      go (old_alone q e) z = absurd (((policy_numbered p).alone _ _ e).0 z)
+      go (new_refused a l q) z = absurd (omega arith)
+      go (new_alone a q e) z = absurd (((policy_numbered p).alone _ _ e).0 z)
+      go (pair_refused a b e) z = absurd (((policy_numbered p).pair _ _ _ e).0 z)
       go (verdict a b e) z =
-          let x = read-accepted old a.read in
-          let y = read-accepted new b.read in
+          let x = read_accepted old a.read in
+          let y = read_accepted new b.read in
           record { both = (x.0, y.0); is = rw (x.1, y.1) }
 
-  module _ (d : List ℕ) {v : Verdict} (e : v ≡ verdictIs (outcome (policyOf p) old new)) where
-    pub report-refused : (v.number ≡ 0 → ⊥) → Reported p old new d v d
-    unfolding reportBy verdictIs refusedBy fit written
-    report-refused n = go (outcome (policyOf p) old new) refl
+  module _ (d : List ℕ) {v : Verdict} (e : v ≡ verdict_is (outcome (policy_of p) old new)) where
+    pub report_refused : (v.number ≡ 0 → ⊥) → Reported p old new d v d
+    unfolding report_by verdict_is refused_by fit written
+    report_refused n = go (outcome (policy_of p) old new) refl
       where
-        go : (o : Outcome) → outcome (policyOf p) old new ≡ o → Reported p old new d v d
+        go : (o : Outcome) → outcome (policy_of p) old new ≡ o → Reported p old new d v d
         go (refused number side) q = record { verdict = e ∙ rw q; bytes = rw q }
         go (answered a) q = absurd (n (ap (λ (u : Verdict). u.number) e ∙ rw q))
 
     module _ (z : v.number ≡ 0) where
-      this : Told (outcome (policyOf p) old new)
+      this : Told (outcome (policy_of p) old new)
       this = told (sym (ap (λ (u : Verdict). u.number) e) ∙ z)
 
-      size : v.length ≡ length (report (changesBy p old new))
-      unfolding verdictIs
-      size = ap (λ (u : Verdict). u.length) (e ∙ ap verdictIs this.is)
+      size : v.length ≡ length (report (changes_by p old new))
+      unfolding verdict_is
+      size = ap (λ (u : Verdict). u.length) (e ∙ ap verdict_is this.is)
 
       -- 12
-      pub report-full : {r : Verdict} → length d < v.length → r ≡ refusedBy 12 (number bothSides) → Reported p old new d r d
-      unfolding reportBy verdictIs fit written
-      report-full l q =
-          let full = lt-leb (length (report (changesBy p old new))) (length d) (omega (arith, size)) in
+      pub report_full : {r : Verdict} → length d < v.length → r ≡ refused_by 12 (number both_sides) → Reported p old new d r d
+      unfolding report_by verdict_is fit written
+      report_full l q =
+          let full = lt-leb (length (report (changes_by p old new))) (length d) (omega (arith, size)) in
           record { verdict = q ∙ rw (this.is, full); bytes = rw (this.is, full) }
 
       module _ (l : v.length ≤ length d) where
-        pub report-ready : BothAccepted old new × Space Write d 0 (length (report (changesBy p old new)))
-        report-ready = (this.both, write-space this.both (omega (arith, size)))
+        pub report_ready : BothAccepted old new × Space Write d 0 (length (report (changes_by p old new)))
+        report_ready = (this.both, write_space this.both (omega (arith, size)))
 
-        pub report-passed : {r : Verdict} {d' : List ℕ} → Passed Write d (changesBy p old new) r d' → Reported p old new d r d'
-        unfolding reportBy fit written putIn put
-        report-passed w =
-            let fits = le-leb (length (report (changesBy p old new))) (length d) (omega (arith, size)) in
+        pub report_passed : {r : Verdict} {d' : List ℕ} → Passed Write d (changes_by p old new) r d' → Reported p old new d r d'
+        unfolding report_by fit written put_in put
+        report_passed w =
+            let fits = le-leb (length (report (changes_by p old new))) (length d) (omega (arith, size)) in
             record {
               verdict = w.verdict ∙ rw (this.is, fits);
-              bytes = w.bytes ∙ rw (this.is, fits, zero-add (length (report (changesBy p old new))));
+              bytes = w.bytes ∙ rw (this.is, fits, zero-add (length (report (changes_by p old new))));
             }

@@ -2,16 +2,16 @@
 use Rattle.std.specs.Prelude.{◌≡◌, Bool, cond, List, [], ℕ, ◌≤◌, length, take}
 use Rattle.std.proofs.Math.Option.{Option, none, some}
 use Rattle.image.specs.Schema.{Schema}
-use Rattle.parts.specs.Codes.{number, aliasPairRefusal, bothSides}
-use Rattle.parts.specs.Promise.{schemaOf}
+use Rattle.parts.specs.Codes.{number, alias_pair_refusal, both_sides}
+use Rattle.parts.specs.Promise.{schema_of}
 use Rattle.text.specs.declared.Mode.{Mode}
 use Rattle.types.specs.declared.Reading.{Reading}
 use Rattle.rules.specs.Changes.{Change}
 use Rattle.rules.specs.Clauses.{changes}
-use Rattle.rules.specs.Answer.{Fault, fault, Policy as Definition, faultIn, plain}
-use Rattle.rules.specs.Reached.{IdSet, reachedSet}
+use Rattle.rules.specs.Answer.{Fault, fault, Policy as Definition, fault_in, plain}
+use Rattle.rules.specs.Reached.{IdSet, reached_set}
 use Rattle.rules.specs.Imports.{imports}
-use Rattle.rules.specs.Widths.{mixedCheck}
+use Rattle.rules.specs.Widths.{mixed_check}
 use Rattle.rules.specs.Mended.{mended}
 use Rattle.items.specs.declared.Walk.{Walk}
 use Rattle.checking.specs.Decls.{BothSearchable}
@@ -21,61 +21,61 @@ use Rattle.compat.specs.declared.policies.Policy.TheVariants as policy
 use Rattle.compat.specs.declared.policies.Judged.{Judged}
 use Rattle.compat.specs.declared.policies.Judged.TheVariants as judged
 
-unfoldable pub policyOf : Policy → Definition
-policyOf policy.Plain = plain
-policyOf policy.Imports = imports
-policyOf policy.Mended = mended
+unfoldable pub policy_of : Policy → Definition
+policy_of policy.Plain = plain
+policy_of policy.Imports = imports
+policy_of policy.Mended = mended
 
 -- how its walk reads
-unfoldable pub readingIn : Policy → Reading
-readingIn policy.Plain = Reading.Plain
-readingIn policy.Imports = Reading.Plain
-readingIn policy.Mended = Reading.Mended
+unfoldable pub reading_in : Policy → Reading
+reading_in policy.Plain = Reading.Plain
+reading_in policy.Imports = Reading.Plain
+reading_in policy.Mended = Reading.Mended
 
 -- the ids of a schema that may stand besides the listed ones
-unfoldable pub idsBy : Policy → Schema → IdSet
-idsBy policy.Plain x = []
-idsBy policy.Imports x = reachedSet x
-idsBy policy.Mended x = []
+unfoldable pub ids_by : Policy → Schema → IdSet
+ids_by policy.Plain x = []
+ids_by policy.Imports x = reached_set x
+ids_by policy.Mended x = []
 
-unfoldable pub walkOf : Policy → Mode → Walk
-walkOf p mode = record { mode = mode; reading = readingIn p }
+unfoldable pub walk_of : Policy → Mode → Walk
+walk_of p mode = record { mode = mode; reading = reading_in p }
 
 -- the changes that it reports of two accepted images
-unfoldable pub changesBy : Policy → List ℕ → List ℕ → List Change
-changesBy p old new =
-    changes (policyOf p).reading ((policyOf p).view (schemaOf old)) ((policyOf p).view (schemaOf new))
+unfoldable pub changes_by : Policy → List ℕ → List ℕ → List Change
+changes_by p old new =
+    changes (policy_of p).reading ((policy_of p).view (schema_of old)) ((policy_of p).view (schema_of new))
 
 -- ---- the sets of ids that go with the images
 
 -- the first marks of an answer are those of the policy
 pub record HasIds (p : Policy) (s : List ℕ) (r : Reached) : Type 0 where
-  pub marks : take r.count r.marks ≡ idsBy p (schemaOf s)
+  pub marks : take r.count r.marks ≡ ids_by p (schema_of s)
   pub few : r.count ≤ 512
   pub room : r.count ≤ length r.marks
 
 -- two accepted images, each with its set
 pub record Prepared (p : Policy) (old new : List ℕ) (a b : IdSet) : Type 0 where
   pub searchable : BothSearchable old new a b
-  pub oldIds : a ≡ idsBy p (schemaOf old)
-  pub newIds : b ≡ idsBy p (schemaOf new)
+  pub old_ids : a ≡ ids_by p (schema_of old)
+  pub new_ids : b ≡ ids_by p (schema_of new)
 
 -- ---- checks
 
 -- what comes before 11: 16 in the mended verdict
-unfoldable pub formatFault : Policy → Schema → Schema → Option Fault
-formatFault policy.Plain x y = none
-formatFault policy.Imports x y = none
-formatFault policy.Mended x y = mixedCheck x y
+unfoldable pub format_fault : Policy → Schema → Schema → Option Fault
+format_fault policy.Plain x y = none
+format_fault policy.Imports x y = none
+format_fault policy.Mended x y = mixed_check x y
 
 -- 11, if there is such a pair
-unfoldable pub aliasFault : Bool → Option Fault
-aliasFault pair = cond pair (some (fault (number aliasPairRefusal) (number bothSides))) none
+unfoldable pub alias_fault : Bool → Option Fault
+alias_fault pair = cond pair (some (fault (number alias_pair_refusal) (number both_sides))) none
 
-unfoldable pub faultOf : Judged → Option Fault
-faultOf judged.Passes = none
-faultOf (judged.Fault number side) = some (fault number side)
+unfoldable pub fault_of : Judged → Option Fault
+fault_of judged.Passes = none
+fault_of (judged.Fault number side) = some (fault number side)
 
 -- one image alone is not refused
 unfoldable pub Passing : Policy → ℕ → List ℕ → Type 0
-Passing p side image = faultIn (policyOf p) side image ≡ none
+Passing p side image = fault_in (policy_of p) side image ≡ none

@@ -5,13 +5,13 @@
 pub mod policies;
 
 ghost use Rattle.std.specs.Prelude.{◌≡◌};
-ghost use Rattle.parts.specs.Promise.{schemaOf};
-ghost use Rattle.parts.specs.Codes.{number, oldSide};
-ghost use Rattle.rules.specs.Answer.{compared, faultIn, comparePair, outcome};
+ghost use Rattle.parts.specs.Promise.{schema_of};
+ghost use Rattle.parts.specs.Codes.{number, old_side};
+ghost use Rattle.rules.specs.Answer.{compared, fault_in, compare_pair, outcome};
 ghost use Rattle.items.specs.Pairs.{BothAccepted};
-ghost use Rattle.checking.specs.Decls.{BothSearchable, allChanges};
-ghost use Rattle.verdicts.specs.Verdicts.{verdictIs};
-ghost use Rattle.compat.specs.Policies.{policyOf, changesBy, Prepared, faultOf, Passing};
+ghost use Rattle.checking.specs.Decls.{BothSearchable, all_changes};
+ghost use Rattle.verdicts.specs.Verdicts.{verdict_is};
+ghost use Rattle.compat.specs.Policies.{policy_of, changes_by, Prepared, fault_of, Passing};
 ghost use Rattle.compat.specs.Passes.{ReportSpace, Passed, Reported};
 
 use crate::policies::{Judged, Policy, ids_of, judge_alone, judge_pair, walk_of};
@@ -26,7 +26,7 @@ use verdicts::Verdict;
 
 // One image: 1 to 10, and then the check of one image.
 fn accept(policy: Policy, image: &[u8], side: u8) -> Judged
-    ensures { faultOf result ≡ faultIn (policyOf policy) side image.now }
+    ensures { fault_of result ≡ fault_in (policy_of policy) side image.now }
 {
     match read_image(image) {
         Acceptance::Accepted => judge_alone(policy, image, side),
@@ -43,8 +43,8 @@ fn pass(
     new_reached: &[bool],
     out: &mut [u8],
 ) -> Verdict
-    requires { BothSearchable old.now new.now old_reached.now new_reached.now × ReportSpace walk.mode out.old (allChanges walk.reading old.now new.now old_reached.now new_reached.now) }
-    ensures { Passed walk.mode out.old (allChanges walk.reading old.now new.now old_reached.now new_reached.now) result out.new }
+    requires { BothSearchable old.now new.now old_reached.now new_reached.now × ReportSpace walk.mode out.old (all_changes walk.reading old.now new.now old_reached.now new_reached.now) }
+    ensures { Passed walk.mode out.old (all_changes walk.reading old.now new.now old_reached.now new_reached.now) result out.new }
 {
     let t = check(walk, old, new, old_reached, new_reached, out);
     let mode = walk.mode;
@@ -61,7 +61,7 @@ fn measure(
     new_reached: &[bool],
 ) -> Verdict
     requires { Prepared policy old.now new.now old_reached.now new_reached.now }
-    ensures { result ≡ verdictIs (compared (changesBy policy old.now new.now)) }
+    ensures { result ≡ verdict_is (compared (changes_by policy old.now new.now)) }
 {
     let mut none = [0u8; 1];
     pass(
@@ -83,7 +83,7 @@ fn compare_with(
     new_reached: &[bool],
 ) -> Verdict
     requires { Prepared policy old.now new.now old_reached.now new_reached.now }
-    ensures { result ≡ verdictIs (comparePair (policyOf policy) (schemaOf old.now) (schemaOf new.now)) }
+    ensures { result ≡ verdict_is (compare_pair (policy_of policy) (schema_of old.now) (schema_of new.now)) }
 {
     match judge_pair(policy, old, new, old_reached, new_reached) {
         Judged::Passes => measure(policy, old, new, old_reached, new_reached),
@@ -94,7 +94,7 @@ fn compare_with(
 // Two accepted images.
 fn compare(policy: Policy, old: &[u8], new: &[u8]) -> Verdict
     requires { BothAccepted old.now new.now }
-    ensures { result ≡ verdictIs (comparePair (policyOf policy) (schemaOf old.now) (schemaOf new.now)) }
+    ensures { result ≡ verdict_is (compare_pair (policy_of policy) (schema_of old.now) (schema_of new.now)) }
 {
     let a = ids_of(policy, old);
     let b = ids_of(policy, new);
@@ -107,8 +107,8 @@ fn compare(policy: Policy, old: &[u8], new: &[u8]) -> Verdict
 
 // The new image, after the old one is accepted.
 fn verdict_new(policy: Policy, old: &[u8], new: &[u8]) -> Verdict
-    requires { Passing policy (number oldSide) old.now }
-    ensures { result ≡ verdictIs (outcome (policyOf policy) old.now new.now) }
+    requires { Passing policy (number old_side) old.now }
+    ensures { result ≡ verdict_is (outcome (policy_of policy) old.now new.now) }
 {
     match accept(policy, new, NEW) {
         Judged::Passes => compare(policy, old, new),
@@ -118,7 +118,7 @@ fn verdict_new(policy: Policy, old: &[u8], new: &[u8]) -> Verdict
 
 // The verdict on two images: "old before new".
 pub fn verdict(policy: Policy, old: &[u8], new: &[u8]) -> Verdict
-    ensures { result ≡ verdictIs (outcome (policyOf policy) old.now new.now) }
+    ensures { result ≡ verdict_is (outcome (policy_of policy) old.now new.now) }
 {
     match accept(policy, old, OLD) {
         Judged::Passes => verdict_new(policy, old, new),
@@ -128,8 +128,8 @@ pub fn verdict(policy: Policy, old: &[u8], new: &[u8]) -> Verdict
 
 // The report of two accepted images into a buffer that holds it, with the verdict.
 fn write(policy: Policy, old: &[u8], new: &[u8], out: &mut [u8]) -> Verdict
-    requires { BothAccepted old.now new.now × ReportSpace Mode.Write out.old (changesBy policy old.now new.now) }
-    ensures { Passed Mode.Write out.old (changesBy policy old.now new.now) result out.new }
+    requires { BothAccepted old.now new.now × ReportSpace Mode.Write out.old (changes_by policy old.now new.now) }
+    ensures { Passed Mode.Write out.old (changes_by policy old.now new.now) result out.new }
 {
     let a = ids_of(policy, old);
     let b = ids_of(policy, new);

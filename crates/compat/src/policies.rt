@@ -1,12 +1,12 @@
 // What is special to a verdict: a further one is a further case of `Policy`, here and in the functions that take a policy apart.
 ghost use Rattle.std.specs.Prelude.{◌≡◌};
-ghost use Rattle.parts.specs.Promise.{Accepted, schemaOf};
+ghost use Rattle.parts.specs.Promise.{Accepted, schema_of};
 ghost use Rattle.std.proofs.Math.Option.{or_else};
-ghost use Rattle.rules.specs.Answer.{firstFault, onSide};
-ghost use Rattle.rules.specs.Widths.{mixed, mixedCheck};
+ghost use Rattle.rules.specs.Answer.{first_fault, on_side};
+ghost use Rattle.rules.specs.Widths.{mixed, mixed_check};
 ghost use Rattle.items.specs.Pairs.{BothAccepted};
-ghost use Rattle.checking.specs.Decls.{BothSearchable, bothAliases};
-ghost use Rattle.compat.specs.Policies.{policyOf, readingIn, walkOf, HasIds, Prepared, faultOf, aliasFault};
+ghost use Rattle.checking.specs.Decls.{BothSearchable, both_aliases};
+ghost use Rattle.compat.specs.Policies.{policy_of, reading_in, walk_of, HasIds, Prepared, fault_of, alias_fault};
 
 use checking::aliases::alias_pair;
 use items::Walk;
@@ -35,7 +35,7 @@ pub enum Judged {
 
 // How types are read, and whether widths are reported.
 fn reading_of(policy: Policy) -> Reading
-    ensures { result ≡ readingIn policy }
+    ensures { result ≡ reading_in policy }
 {
     match policy {
         Policy::Plain => Reading::Plain,
@@ -46,7 +46,7 @@ fn reading_of(policy: Policy) -> Reading
 
 // How the walk of a verdict goes.
 pub fn walk_of(policy: Policy, mode: Mode) -> Walk
-    ensures { result ≡ walkOf policy mode }
+    ensures { result ≡ walk_of policy mode }
 {
     let reading = reading_of(policy);
     Walk {
@@ -70,7 +70,7 @@ pub fn ids_of(policy: Policy, image: &[u8]) -> Reached
 // The check of one image, after its 1 to 10 and before the other is read.
 pub fn judge_alone(policy: Policy, image: &[u8], side: u8) -> Judged
     requires { Accepted image.now }
-    ensures { faultOf result ≡ onSide side ((policyOf policy).alone (schemaOf image.now)) }
+    ensures { fault_of result ≡ on_side side ((policy_of policy).alone (schema_of image.now)) }
 {
     match policy {
         Policy::Plain => Judged::Passes,
@@ -82,7 +82,7 @@ pub fn judge_alone(policy: Policy, image: &[u8], side: u8) -> Judged
 // 11.
 fn judge_aliases(old: &[u8], new: &[u8], old_reached: &[bool], new_reached: &[bool]) -> Judged
     requires { BothSearchable old.now new.now old_reached.now new_reached.now }
-    ensures { faultOf result ≡ aliasFault (bothAliases old.now new.now old_reached.now new_reached.now) }
+    ensures { fault_of result ≡ alias_fault (both_aliases old.now new.now old_reached.now new_reached.now) }
 {
     if alias_pair(old, new, old_reached, new_reached) {
         return Judged::Fault(ALIAS_PAIR, BOTH);
@@ -93,7 +93,7 @@ fn judge_aliases(old: &[u8], new: &[u8], old_reached: &[bool], new_reached: &[bo
 // Whether one of two images, or both, are of format 1, which stores no widths.
 fn is_mixed(old: &[u8], new: &[u8]) -> bool
     requires { BothAccepted old.now new.now }
-    ensures { result ≡ mixed (schemaOf old.now) (schemaOf new.now) }
+    ensures { result ≡ mixed (schema_of old.now) (schema_of new.now) }
 {
     format(old) == 1 || format(new) == 1
 }
@@ -101,7 +101,7 @@ fn is_mixed(old: &[u8], new: &[u8]) -> bool
 // 16.
 fn judge_formats(old: &[u8], new: &[u8]) -> Judged
     requires { BothAccepted old.now new.now }
-    ensures { faultOf result ≡ mixedCheck (schemaOf old.now) (schemaOf new.now) }
+    ensures { fault_of result ≡ mixed_check (schema_of old.now) (schema_of new.now) }
 {
     if is_mixed(old, new) {
         return Judged::Fault(MIXED, BOTH);
@@ -112,7 +112,7 @@ fn judge_formats(old: &[u8], new: &[u8]) -> Judged
 // 16, and then 11.
 fn judge_mended(old: &[u8], new: &[u8], old_reached: &[bool], new_reached: &[bool]) -> Judged
     requires { BothSearchable old.now new.now old_reached.now new_reached.now }
-    ensures { faultOf result ≡ or_else (mixedCheck (schemaOf old.now) (schemaOf new.now)) (aliasFault (bothAliases old.now new.now old_reached.now new_reached.now)) }
+    ensures { fault_of result ≡ or_else (mixed_check (schema_of old.now) (schema_of new.now)) (alias_fault (both_aliases old.now new.now old_reached.now new_reached.now)) }
 {
     match judge_formats(old, new) {
         Judged::Passes => judge_aliases(old, new, old_reached, new_reached),
@@ -129,7 +129,7 @@ pub fn judge_pair(
     new_reached: &[bool],
 ) -> Judged
     requires { Prepared policy old.now new.now old_reached.now new_reached.now }
-    ensures { faultOf result ≡ firstFault (policyOf policy).pair (schemaOf old.now) (schemaOf new.now) }
+    ensures { fault_of result ≡ first_fault (policy_of policy).pair (schema_of old.now) (schema_of new.now) }
 {
     match policy {
         Policy::Plain => judge_aliases(old, new, old_reached, new_reached),

@@ -3,15 +3,15 @@
 use Rattle.std.proofs.Math.Option.{Option, none, some}
 use Rattle.std.specs.Prelude.{List, [], ◌++◌, ℕ}
 use Rattle.image.specs.Schema.{Name}
-use Rattle.image.specs.Words.{bytes, kindWord}
-use Rattle.parts.specs.Promise.{Accepted, schemaOf, TypeHere, treeIn, ItemHere, ordinalIn, itemName, variantIn, fieldIn, DeclHere, declIn}
+use Rattle.image.specs.Words.{bytes, kind_word}
+use Rattle.parts.specs.Promise.{Accepted, schema_of, TypeHere, tree_in, ItemHere, ordinal_in, item_name, variant_in, field_in, DeclHere, decl_in}
 use Rattle.parts.specs.declared.Shape.{Shape}
 use Rattle.rules.specs.Types.{resolve}
 use Rattle.text.specs.Decimal.{decimal}
-use Rattle.rules.specs.Text.{boolWord, showType, showEncoding}
-use Rattle.rules.specs.Changes.{quoted, numbered, fromTo}
-use Rattle.rules.specs.Clauses.{showNamespace, variantDecl, declText}
-use Rattle.rules.specs.Widths.{showWidth}
+use Rattle.rules.specs.Text.{bool_word, show_type, show_encoding}
+use Rattle.rules.specs.Changes.{quoted, numbered, from_to}
+use Rattle.rules.specs.Clauses.{show_namespace, variant_decl, decl_text}
+use Rattle.rules.specs.Widths.{show_width}
 use Rattle.details.specs.declared.Scope.{Scope}
 use Rattle.details.specs.declared.Scope.TheVariants as scope
 use Rattle.details.specs.declared.Item.{Item}
@@ -29,82 +29,82 @@ use Rattle.details.specs.declared.Values.TheVariants as values
 use Rattle.details.specs.declared.Detail.{Detail}
 
 -- a union's variant, by the places of the union's body and of the variant
-abbrev pub variantName : List ℕ → ℕ → ℕ → Name
-variantName s decl at = variantDecl (declIn s decl).name (variantIn s at)
+abbrev pub variant_name : List ℕ → ℕ → ℕ → Name
+variant_name s decl at = variant_decl (decl_in s decl).name (variant_in s at)
 
-unfoldable pub declarationOf : List ℕ → List ℕ → Scope → Name
-declarationOf old new scope.Schema = []
-declarationOf old new (scope.Old at) = (declIn old at).name
-declarationOf old new (scope.New at) = (declIn new at).name
-declarationOf old new (scope.Variant decl at) = variantName old decl at
+unfoldable pub declaration_of : List ℕ → List ℕ → Scope → Name
+declaration_of old new scope.Schema = []
+declaration_of old new (scope.Old at) = (decl_in old at).name
+declaration_of old new (scope.New at) = (decl_in new at).name
+declaration_of old new (scope.Variant decl at) = variant_name old decl at
 
-unfoldable pub itemOf : List ℕ → List ℕ → Item → Option Name
-itemOf old new item.Nothing = none
-itemOf old new (item.Old at) = some (itemName old at)
-itemOf old new (item.New at) = some (itemName new at)
+unfoldable pub item_of : List ℕ → List ℕ → Item → Option Name
+item_of old new item.Nothing = none
+item_of old new (item.Old at) = some (item_name old at)
+item_of old new (item.New at) = some (item_name new at)
 
 -- ---- details
 
-unfoldable pub wordText : Word → List ℕ
-wordText word.Field = bytes "field"
-wordText word.Variant = bytes "variant"
-wordText word.Bit = bytes "bit"
+unfoldable pub word_text : Word → List ℕ
+word_text word.Field = bytes "field"
+word_text word.Variant = bytes "variant"
+word_text word.Bit = bytes "bit"
 
-unfoldable pub itemText : Word → List ℕ → ℕ → List ℕ
-itemText w s at = numbered (wordText w) (itemName s at) (ordinalIn s at)
+unfoldable pub item_text : Word → List ℕ → ℕ → List ℕ
+item_text w s at = numbered (word_text w) (item_name s at) (ordinal_in s at)
 
-unfoldable pub newtypeText : List ℕ → ℕ → List ℕ
-newtypeText s at = bytes "newtype " ++ (quoted (declIn s at).name ++ bytes " inner")
+unfoldable pub newtype_text : List ℕ → ℕ → List ℕ
+newtype_text s at = bytes "newtype " ++ (quoted (decl_in s at).name ++ bytes " inner")
 
-unfoldable pub fieldNameText : List ℕ → ℕ → List ℕ
-fieldNameText s at = bytes "field " ++ quoted (itemName s at)
+unfoldable pub field_name_text : List ℕ → ℕ → List ℕ
+field_name_text s at = bytes "field " ++ quoted (item_name s at)
 
-unfoldable pub fieldOrdinalText : List ℕ → ℕ → List ℕ
-fieldOrdinalText s at = bytes "field @" ++ decimal (ordinalIn s at)
+unfoldable pub field_ordinal_text : List ℕ → ℕ → List ℕ
+field_ordinal_text s at = bytes "field @" ++ decimal (ordinal_in s at)
 
-unfoldable pub subjectText : List ℕ → List ℕ → Subject → List ℕ
-subjectText old new subject.Namespace = bytes "namespace"
-subjectText old new subject.Declaration = bytes "declaration"
-subjectText old new subject.NonExhaustive = bytes "@non_exhaustive"
-subjectText old new subject.Width = bytes "width"
-subjectText old new (subject.OldDecl at) = declText (declIn old at)
-subjectText old new (subject.NewDecl at) = declText (declIn new at)
-subjectText old new (subject.DeclName at) = quoted (declIn old at).name
-subjectText old new (subject.Newtype at) = newtypeText old at
-subjectText old new (subject.OldItem w at) = itemText w old at
-subjectText old new (subject.NewItem w at) = itemText w new at
-subjectText old new (subject.FieldName at) = fieldNameText new at
-subjectText old new (subject.FieldOrdinal at) = fieldOrdinalText new at
+unfoldable pub subject_text : List ℕ → List ℕ → Subject → List ℕ
+subject_text old new subject.Namespace = bytes "namespace"
+subject_text old new subject.Declaration = bytes "declaration"
+subject_text old new subject.NonExhaustive = bytes "@non_exhaustive"
+subject_text old new subject.Width = bytes "width"
+subject_text old new (subject.OldDecl at) = decl_text (decl_in old at)
+subject_text old new (subject.NewDecl at) = decl_text (decl_in new at)
+subject_text old new (subject.DeclName at) = quoted (decl_in old at).name
+subject_text old new (subject.Newtype at) = newtype_text old at
+subject_text old new (subject.OldItem w at) = item_text w old at
+subject_text old new (subject.NewItem w at) = item_text w new at
+subject_text old new (subject.FieldName at) = field_name_text new at
+subject_text old new (subject.FieldOrdinal at) = field_ordinal_text new at
 
-unfoldable pub verbText : Verb → List ℕ
-verbText verb.Removed = bytes " was removed"
-verbText verb.Added = bytes " was added"
-verbText verb.Changed = bytes " changed"
-verbText verb.Renamed = bytes " renamed"
-verbText verb.TypeChanged = bytes " type changed"
-verbText verb.EncodingChanged = bytes " encoding changed"
-verbText verb.Deprecated = bytes " was marked @deprecated"
+unfoldable pub verb_text : Verb → List ℕ
+verb_text verb.Removed = bytes " was removed"
+verb_text verb.Added = bytes " was added"
+verb_text verb.Changed = bytes " changed"
+verb_text verb.Renamed = bytes " renamed"
+verb_text verb.TypeChanged = bytes " type changed"
+verb_text verb.EncodingChanged = bytes " encoding changed"
+verb_text verb.Deprecated = bytes " was marked @deprecated"
 
 -- of an image s
-unfoldable pub valueText : List ℕ → Value → List ℕ
-valueText s (value.Name at) = quoted (itemName s at)
-valueText s (value.Kind at) = kindWord (declIn s at).kind
-valueText s (value.NonExhaustive at) = boolWord (declIn s at).marks.nonExhaustive
-valueText s (value.Width at) = showWidth (declIn s at).width
-valueText s (value.Type at) = showType (resolve (schemaOf s).registry (treeIn s at))
-valueText s (value.Encoding at) = showEncoding (fieldIn s at).encoding
-valueText s value.Namespace = showNamespace (schemaOf s).namespace
+unfoldable pub value_text : List ℕ → Value → List ℕ
+value_text s (value.Name at) = quoted (item_name s at)
+value_text s (value.Kind at) = kind_word (decl_in s at).kind
+value_text s (value.NonExhaustive at) = bool_word (decl_in s at).marks.non_exhaustive
+value_text s (value.Width at) = show_width (decl_in s at).width
+value_text s (value.Type at) = show_type (resolve (schema_of s).registry (tree_in s at))
+value_text s (value.Encoding at) = show_encoding (field_in s at).encoding
+value_text s value.Namespace = show_namespace (schema_of s).namespace
 
 -- a value of the old image and one of the new
-abbrev pub fromToText : List ℕ → List ℕ → Value → Value → List ℕ
-fromToText old new a b = fromTo (valueText old a) (valueText new b)
+abbrev pub from_to_text : List ℕ → List ℕ → Value → Value → List ℕ
+from_to_text old new a b = from_to (value_text old a) (value_text new b)
 
-unfoldable pub valuesText : List ℕ → List ℕ → Values → List ℕ
-valuesText old new values.Unsaid = []
-valuesText old new (values.FromTo a b) = fromToText old new a b
+unfoldable pub values_text : List ℕ → List ℕ → Values → List ℕ
+values_text old new values.Unsaid = []
+values_text old new (values.FromTo a b) = from_to_text old new a b
 
-unfoldable pub detailText : List ℕ → List ℕ → Detail → List ℕ
-detailText old new d = subjectText old new d.subject ++ (verbText d.verb ++ valuesText old new d.values)
+unfoldable pub detail_text : List ℕ → List ℕ → Detail → List ℕ
+detail_text old new d = subject_text old new d.subject ++ (verb_text d.verb ++ values_text old new d.values)
 
 -- ---- places that are well formed
 

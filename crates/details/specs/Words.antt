@@ -1,12 +1,12 @@
 -- The words of the report in one table, as compat.rs spells them. Assumes nothing.
 use Rattle.std.specs.Prelude.{List, ◌++◌, ℕ}
 use Prim.Native.String.{String}
-use Rattle.image.specs.Words.{kindNames}
+use Rattle.image.specs.Words.{kind_names}
 use Rattle.rules.specs.Text.{word}
-use Rattle.rules.specs.Report.{changeNames, bumpNames, resultNames}
+use Rattle.rules.specs.Report.{change_names, bump_names, result_names}
 
 unfoldable pub names : List String
-names = changeNames ++ (bumpNames ++ (resultNames ++ kindNames))
+names = change_names ++ (bump_names ++ (result_names ++ kind_names))
 
-unfoldable pub wordAt : ℕ → List ℕ
-wordAt n = word names n
+unfoldable pub word_at : ℕ → List ℕ
+word_at n = word names n

@@ -9,7 +9,7 @@ pub mod words;
 
 ghost use Rattle.std.specs.Prelude.{length};
 ghost use Rattle.text.specs.Text.{Space, Puts};
-ghost use Rattle.details.specs.Details.{verbText, detailText, DetailHere};
+ghost use Rattle.details.specs.Details.{verb_text, detail_text, DetailHere};
 
 use crate::shown::put_values;
 use crate::subjects::put_subject;
@@ -110,8 +110,8 @@ pub struct Detail {
 
 // What happened to the subject.
 fn put_verb(mode: Mode, out: &mut [u8], at: usize, verb: Verb) -> usize
-    requires { Space mode out.old at (length (verbText verb)) }
-    ensures { Puts mode out.old at (verbText verb) result out.new }
+    requires { Space mode out.old at (length (verb_text verb)) }
+    ensures { Puts mode out.old at (verb_text verb) result out.new }
 {
     match verb {
         Verb::Removed => put_text(mode, out, at, b" was removed"),
@@ -133,8 +133,8 @@ pub fn put_detail(
     at: usize,
     detail: Detail,
 ) -> usize
-    requires { DetailHere old.now new.now detail × Space mode out.old at (length (detailText old.now new.now detail)) }
-    ensures { Puts mode out.old at (detailText old.now new.now detail) result out.new }
+    requires { DetailHere old.now new.now detail × Space mode out.old at (length (detail_text old.now new.now detail)) }
+    ensures { Puts mode out.old at (detail_text old.now new.now detail) result out.new }
 {
     let subject = detail.subject;
     let verb = detail.verb;

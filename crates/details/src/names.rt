@@ -4,9 +4,9 @@ ghost use Rattle.std.specs.Prelude.{length};
 ghost use Rattle.parts.specs.Promise.{ItemHere, DeclHere};
 ghost use Rattle.parts.specs.declared.Shape.{Shape};
 ghost use Rattle.rules.specs.Changes.{quoted};
-ghost use Rattle.rules.specs.Report.{fieldPart};
+ghost use Rattle.rules.specs.Report.{field_part};
 ghost use Rattle.text.specs.Text.{Space, Puts};
-ghost use Rattle.details.specs.Details.{variantName, declarationOf, itemOf, ScopeHere, ItemOfHere};
+ghost use Rattle.details.specs.Details.{variant_name, declaration_of, item_of, ScopeHere, ItemOfHere};
 
 use crate::{Item, Scope};
 use members::items::item_name;
@@ -32,8 +32,8 @@ fn put_variant(
     decl: usize,
     variant: usize,
 ) -> usize
-    requires { DeclHere old.now decl × ItemHere Shape.Variant old.now variant × Space mode out.old at (length (variantName old.now decl variant)) }
-    ensures { Puts mode out.old at (variantName old.now decl variant) result out.new }
+    requires { DeclHere old.now decl × ItemHere Shape.Variant old.now variant × Space mode out.old at (length (variant_name old.now decl variant)) }
+    ensures { Puts mode out.old at (variant_name old.now decl variant) result out.new }
 {
     let at = put_text(mode, out, at, decl_name(old, decl));
     let at = put_text(mode, out, at, b"::");
@@ -49,8 +49,8 @@ pub fn put_declaration(
     at: usize,
     scope: Scope,
 ) -> usize
-    requires { ScopeHere old.now new.now scope × Space mode out.old at (length (declarationOf old.now new.now scope)) }
-    ensures { Puts mode out.old at (declarationOf old.now new.now scope) result out.new }
+    requires { ScopeHere old.now new.now scope × Space mode out.old at (length (declaration_of old.now new.now scope)) }
+    ensures { Puts mode out.old at (declaration_of old.now new.now scope) result out.new }
 {
     match scope {
         Scope::Schema => at,
@@ -62,8 +62,8 @@ pub fn put_declaration(
 
 // `+` and a field's name.
 fn put_plus(mode: Mode, out: &mut [u8], at: usize, name: &[u8]) -> usize
-    requires { Space mode out.old at (length (fieldPart (some name.now))) }
-    ensures { Puts mode out.old at (fieldPart (some name.now)) result out.new }
+    requires { Space mode out.old at (length (field_part (some name.now))) }
+    ensures { Puts mode out.old at (field_part (some name.now)) result out.new }
 {
     let at = put_byte(mode, out, at, b'+');
     put_text(mode, out, at, name)
@@ -71,8 +71,8 @@ fn put_plus(mode: Mode, out: &mut [u8], at: usize, name: &[u8]) -> usize
 
 // "`-` if the change has no field, else `+` and the field"
 pub fn put_field(mode: Mode, old: &[u8], new: &[u8], out: &mut [u8], at: usize, item: Item) -> usize
-    requires { ItemOfHere old.now new.now item × Space mode out.old at (length (fieldPart (itemOf old.now new.now item))) }
-    ensures { Puts mode out.old at (fieldPart (itemOf old.now new.now item)) result out.new }
+    requires { ItemOfHere old.now new.now item × Space mode out.old at (length (field_part (item_of old.now new.now item))) }
+    ensures { Puts mode out.old at (field_part (item_of old.now new.now item)) result out.new }
 {
     match item {
         Item::Nothing => put_byte(mode, out, at, b'-'),

@@ -1,11 +1,11 @@
 // The values that a detail shows of the old and of the new image.
 ghost use Rattle.std.specs.Prelude.{length};
-ghost use Rattle.parts.specs.Promise.{Accepted, schemaOf, widthOf};
-ghost use Rattle.rules.specs.Text.{boolWord};
-ghost use Rattle.rules.specs.Clauses.{showNamespace};
-ghost use Rattle.rules.specs.Widths.{showWidth};
+ghost use Rattle.parts.specs.Promise.{Accepted, schema_of, width_of};
+ghost use Rattle.rules.specs.Text.{bool_word};
+ghost use Rattle.rules.specs.Clauses.{show_namespace};
+ghost use Rattle.rules.specs.Widths.{show_width};
 ghost use Rattle.text.specs.Text.{Space, Puts};
-ghost use Rattle.details.specs.Details.{valueText, fromToText, valuesText, ValueHere, FromToHere, ShownHere};
+ghost use Rattle.details.specs.Details.{value_text, from_to_text, values_text, ValueHere, FromToHere, ShownHere};
 
 use crate::names::put_quoted;
 use crate::words::put_kind;
@@ -21,8 +21,8 @@ use text::{Mode, put_byte, put_number, put_text};
 
 // `true` or `false`.
 fn put_bool(mode: Mode, out: &mut [u8], at: usize, value: bool) -> usize
-    requires { Space mode out.old at (length (boolWord value)) }
-    ensures { Puts mode out.old at (boolWord value) result out.new }
+    requires { Space mode out.old at (length (bool_word value)) }
+    ensures { Puts mode out.old at (bool_word value) result out.new }
 {
     if value {
         return put_text(mode, out, at, b"true");
@@ -32,8 +32,8 @@ fn put_bool(mode: Mode, out: &mut [u8], at: usize, value: bool) -> usize
 
 // A width as it is stored; nothing, where there is none.
 fn put_width(mode: Mode, out: &mut [u8], at: usize, value: Width) -> usize
-    requires { Space mode out.old at (length (showWidth (widthOf value))) }
-    ensures { Puts mode out.old at (showWidth (widthOf value)) result out.new }
+    requires { Space mode out.old at (length (show_width (width_of value))) }
+    ensures { Puts mode out.old at (show_width (width_of value)) result out.new }
 {
     match value {
         Width::Wire(n) => put_number(mode, out, at, n as u64),
@@ -43,8 +43,8 @@ fn put_width(mode: Mode, out: &mut [u8], at: usize, value: Width) -> usize
 
 // The namespace in quotes.
 fn put_namespace(mode: Mode, image: &[u8], out: &mut [u8], at: usize) -> usize
-    requires { Accepted image.now × Space mode out.old at (length (showNamespace (schemaOf image.now).namespace)) }
-    ensures { Puts mode out.old at (showNamespace (schemaOf image.now).namespace) result out.new }
+    requires { Accepted image.now × Space mode out.old at (length (show_namespace (schema_of image.now).namespace)) }
+    ensures { Puts mode out.old at (show_namespace (schema_of image.now).namespace) result out.new }
 {
     let at = put_byte(mode, out, at, b'\'');
     let at = namespace_display(mode, image, out, at);
@@ -53,8 +53,8 @@ fn put_namespace(mode: Mode, image: &[u8], out: &mut [u8], at: usize) -> usize
 
 // A value of one image.
 fn put_value(mode: Mode, image: &[u8], out: &mut [u8], at: usize, value: Value) -> usize
-    requires { Accepted image.now × ValueHere image.now value × Space mode out.old at (length (valueText image.now value)) }
-    ensures { Puts mode out.old at (valueText image.now value) result out.new }
+    requires { Accepted image.now × ValueHere image.now value × Space mode out.old at (length (value_text image.now value)) }
+    ensures { Puts mode out.old at (value_text image.now value) result out.new }
 {
     match value {
         Value::Name(i) => put_quoted(mode, out, at, item_name(image, i)),
@@ -77,8 +77,8 @@ fn put_from_to(
     a: Value,
     b: Value,
 ) -> usize
-    requires { FromToHere old.now new.now a b × Space mode out.old at (length (fromToText old.now new.now a b)) }
-    ensures { Puts mode out.old at (fromToText old.now new.now a b) result out.new }
+    requires { FromToHere old.now new.now a b × Space mode out.old at (length (from_to_text old.now new.now a b)) }
+    ensures { Puts mode out.old at (from_to_text old.now new.now a b) result out.new }
 {
     let at = put_text(mode, out, at, b" from ");
     let at = put_value(mode, old, out, at, a);
@@ -95,8 +95,8 @@ pub fn put_values(
     at: usize,
     values: Values,
 ) -> usize
-    requires { ShownHere old.now new.now values × Space mode out.old at (length (valuesText old.now new.now values)) }
-    ensures { Puts mode out.old at (valuesText old.now new.now values) result out.new }
+    requires { ShownHere old.now new.now values × Space mode out.old at (length (values_text old.now new.now values)) }
+    ensures { Puts mode out.old at (values_text old.now new.now values) result out.new }
 {
     match values {
         Values::Unsaid => at,

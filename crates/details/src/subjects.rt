@@ -1,10 +1,10 @@
 // What a detail says something of.
 ghost use Rattle.std.specs.Prelude.{length};
-ghost use Rattle.parts.specs.Promise.{ItemHere, DeclHere, declIn};
+ghost use Rattle.parts.specs.Promise.{ItemHere, DeclHere, decl_in};
 ghost use Rattle.parts.specs.declared.Shape.{Shape};
-ghost use Rattle.rules.specs.Clauses.{declText};
+ghost use Rattle.rules.specs.Clauses.{decl_text};
 ghost use Rattle.text.specs.Text.{Space, Puts};
-ghost use Rattle.details.specs.Details.{wordText, itemText, newtypeText, fieldNameText, fieldOrdinalText, subjectText, SubjectHere};
+ghost use Rattle.details.specs.Details.{word_text, item_text, newtype_text, field_name_text, field_ordinal_text, subject_text, SubjectHere};
 
 use crate::names::put_quoted;
 use crate::words::put_kind;
@@ -15,8 +15,8 @@ use text::{Mode, put_byte, put_number, put_text};
 
 // What an item is called.
 fn put_item_word(mode: Mode, out: &mut [u8], at: usize, word: Word) -> usize
-    requires { Space mode out.old at (length (wordText word)) }
-    ensures { Puts mode out.old at (wordText word) result out.new }
+    requires { Space mode out.old at (length (word_text word)) }
+    ensures { Puts mode out.old at (word_text word) result out.new }
 {
     match word {
         Word::Field => put_text(mode, out, at, b"field"),
@@ -27,8 +27,8 @@ fn put_item_word(mode: Mode, out: &mut [u8], at: usize, word: Word) -> usize
 
 // field 'limit' @1
 fn put_item(mode: Mode, image: &[u8], out: &mut [u8], at: usize, word: Word, item: usize) -> usize
-    requires { ItemHere Shape.Bare image.now item × Space mode out.old at (length (itemText word image.now item)) }
-    ensures { Puts mode out.old at (itemText word image.now item) result out.new }
+    requires { ItemHere Shape.Bare image.now item × Space mode out.old at (length (item_text word image.now item)) }
+    ensures { Puts mode out.old at (item_text word image.now item) result out.new }
 {
     let at = put_item_word(mode, out, at, word);
     let at = put_byte(mode, out, at, b' ');
@@ -39,8 +39,8 @@ fn put_item(mode: Mode, image: &[u8], out: &mut [u8], at: usize, word: Word, ite
 
 // message 'Drive'
 fn put_decl(mode: Mode, image: &[u8], out: &mut [u8], at: usize, decl: usize) -> usize
-    requires { DeclHere image.now decl × Space mode out.old at (length (declText (declIn image.now decl))) }
-    ensures { Puts mode out.old at (declText (declIn image.now decl)) result out.new }
+    requires { DeclHere image.now decl × Space mode out.old at (length (decl_text (decl_in image.now decl))) }
+    ensures { Puts mode out.old at (decl_text (decl_in image.now decl)) result out.new }
 {
     let at = put_kind(mode, out, at, decl_kind(image, decl));
     let at = put_byte(mode, out, at, b' ');
@@ -49,8 +49,8 @@ fn put_decl(mode: Mode, image: &[u8], out: &mut [u8], at: usize, decl: usize) ->
 
 // newtype 'Speed' inner
 fn put_newtype(mode: Mode, image: &[u8], out: &mut [u8], at: usize, decl: usize) -> usize
-    requires { DeclHere image.now decl × Space mode out.old at (length (newtypeText image.now decl)) }
-    ensures { Puts mode out.old at (newtypeText image.now decl) result out.new }
+    requires { DeclHere image.now decl × Space mode out.old at (length (newtype_text image.now decl)) }
+    ensures { Puts mode out.old at (newtype_text image.now decl) result out.new }
 {
     let at = put_text(mode, out, at, b"newtype ");
     let at = put_quoted(mode, out, at, decl_name(image, decl));
@@ -59,8 +59,8 @@ fn put_newtype(mode: Mode, image: &[u8], out: &mut [u8], at: usize, decl: usize)
 
 // field 'limit'
 fn put_field_name(mode: Mode, image: &[u8], out: &mut [u8], at: usize, field: usize) -> usize
-    requires { ItemHere Shape.Bare image.now field × Space mode out.old at (length (fieldNameText image.now field)) }
-    ensures { Puts mode out.old at (fieldNameText image.now field) result out.new }
+    requires { ItemHere Shape.Bare image.now field × Space mode out.old at (length (field_name_text image.now field)) }
+    ensures { Puts mode out.old at (field_name_text image.now field) result out.new }
 {
     let at = put_text(mode, out, at, b"field ");
     put_quoted(mode, out, at, item_name(image, field))
@@ -68,8 +68,8 @@ fn put_field_name(mode: Mode, image: &[u8], out: &mut [u8], at: usize, field: us
 
 // field @1
 fn put_field_ordinal(mode: Mode, image: &[u8], out: &mut [u8], at: usize, field: usize) -> usize
-    requires { ItemHere Shape.Bare image.now field × Space mode out.old at (length (fieldOrdinalText image.now field)) }
-    ensures { Puts mode out.old at (fieldOrdinalText image.now field) result out.new }
+    requires { ItemHere Shape.Bare image.now field × Space mode out.old at (length (field_ordinal_text image.now field)) }
+    ensures { Puts mode out.old at (field_ordinal_text image.now field) result out.new }
 {
     let at = put_text(mode, out, at, b"field @");
     put_number(mode, out, at, ordinal_at(image, field) as u64)
@@ -84,8 +84,8 @@ pub fn put_subject(
     at: usize,
     subject: Subject,
 ) -> usize
-    requires { SubjectHere old.now new.now subject × Space mode out.old at (length (subjectText old.now new.now subject)) }
-    ensures { Puts mode out.old at (subjectText old.now new.now subject) result out.new }
+    requires { SubjectHere old.now new.now subject × Space mode out.old at (length (subject_text old.now new.now subject)) }
+    ensures { Puts mode out.old at (subject_text old.now new.now subject) result out.new }
 {
     match subject {
         Subject::Namespace => put_text(mode, out, at, b"namespace"),

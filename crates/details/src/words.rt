@@ -1,9 +1,9 @@
 // The names of `ChangeKind`, `BumpKind` and `CompatResult`, and those of `decl_kind_name`, by their number in one table.
 ghost use Rattle.std.specs.Prelude.{◌≤◌, ◌<◌, length};
-ghost use Rattle.parts.specs.Codes.{number, implKind};
-ghost use Rattle.image.specs.Words.{kindWord};
+ghost use Rattle.parts.specs.Codes.{number, impl_kind};
+ghost use Rattle.image.specs.Words.{kind_word};
 ghost use Rattle.text.specs.Text.{Space, Puts};
-ghost use Rattle.details.specs.Words.{wordAt};
+ghost use Rattle.details.specs.Words.{word_at};
 
 use text::{Mode, put_text};
 
@@ -22,8 +22,8 @@ const STARTS: [usize; 34] = [
 
 // The word with a number.
 pub fn put_word(mode: Mode, out: &mut [u8], at: usize, word: usize) -> usize
-    requires { (word < 33) × Space mode out.old at (length (wordAt word)) }
-    ensures { Puts mode out.old at (wordAt word) result out.new }
+    requires { (word < 33) × Space mode out.old at (length (word_at word)) }
+    ensures { Puts mode out.old at (word_at word) result out.new }
 {
     let names =
         *b"FieldAddedFieldRemovedFieldTypeChangedFieldOrdinalChangedFieldRenamedFieldDeprecatedFieldEncodingChangedVariantAddedVariantRemovedVariantOrdinalChangedDeclarationAddedDeclarationRemovedDeclarationKindChangedNamespaceChangedNonExhaustiveChangedFlagsBitAddedFlagsBitRemovedFlagsBitOrdinalChangedWidthChangedPatchMinorMajorCompatibleBreakingmessageenumflagsunionnewtypeconfiggeneric_aliastraitimpl";
@@ -34,8 +34,8 @@ pub fn put_word(mode: Mode, out: &mut [u8], at: usize, word: usize) -> usize
 
 // The word of a kind of declaration.
 pub fn put_kind(mode: Mode, out: &mut [u8], at: usize, kind: u8) -> usize
-    requires { (kind ≤ number implKind) × Space mode out.old at (length (kindWord kind)) }
-    ensures { Puts mode out.old at (kindWord kind) result out.new }
+    requires { (kind ≤ number impl_kind) × Space mode out.old at (length (kind_word kind)) }
+    ensures { Puts mode out.old at (kind_word kind) result out.new }
 {
     put_word(mode, out, at, DECLS + kind as usize)
 }

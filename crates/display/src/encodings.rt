@@ -1,7 +1,7 @@
 // How encodings are shown.
 ghost use Rattle.std.specs.Prelude.{length};
-ghost use Rattle.parts.specs.Promise.{codingOf};
-ghost use Rattle.rules.specs.Text.{showEncoding};
+ghost use Rattle.parts.specs.Promise.{coding_of};
+ghost use Rattle.rules.specs.Text.{show_encoding};
 ghost use Rattle.text.specs.Text.{Space, Puts};
 ghost use Rattle.display.specs.Display.{repeated};
 
@@ -25,8 +25,8 @@ fn put_times(mode: Mode, out: &mut [u8], at: usize, s: &[u8], times: usize) -> u
 
 // `delta(varint)`: the base inside of its deltas.
 pub fn encoding_display(mode: Mode, out: &mut [u8], at: usize, e: Encoding) -> usize
-    requires { Space mode out.old at (length (showEncoding (codingOf e))) }
-    ensures { Puts mode out.old at (showEncoding (codingOf e)) result out.new }
+    requires { Space mode out.old at (length (show_encoding (coding_of e))) }
+    ensures { Puts mode out.old at (show_encoding (coding_of e)) result out.new }
 {
     let opened = put_times(mode, out, at, b"delta(", e.deltas);
     let based = put_word(mode, out, opened, b"default varint zigzag ", e.base);

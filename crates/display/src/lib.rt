@@ -8,13 +8,13 @@ pub mod namespaces;
 mod words;
 
 ghost use Rattle.std.specs.Prelude.{◌≡◌, ◌<◌, length};
-ghost use Rattle.parts.specs.Codes.{number, subByteTag, namedTag};
-ghost use Rattle.parts.specs.Promise.{Accepted, LabelHere, labelIn, TypeHere};
-ghost use Rattle.rules.specs.Text.{showName};
+ghost use Rattle.parts.specs.Codes.{number, sub_byte_tag, named_tag};
+ghost use Rattle.parts.specs.Promise.{Accepted, LabelHere, label_in, TypeHere};
+ghost use Rattle.rules.specs.Text.{show_name};
 ghost use Rattle.text.specs.Text.{Space, Puts};
 ghost use Rattle.types.specs.Names.{LabelNames};
-ghost use Rattle.types.specs.Resolved.{namedBy};
-ghost use Rattle.display.specs.Display.{LeafSpace, leafText, sizeText, typeText, Displayed};
+ghost use Rattle.types.specs.Resolved.{named_by};
+ghost use Rattle.display.specs.Display.{LeafSpace, leaf_text, size_text, type_text, Displayed};
 
 use crate::names::names_display;
 use crate::words::put_word;
@@ -34,8 +34,8 @@ struct Shown {
 
 // The name that an id stands for, or `<unknown>`.
 fn named_display(mode: Mode, image: &[u8], out: &mut [u8], at: usize, id: u32) -> usize
-    requires { Accepted image.now × Space mode out.old at (length (showName (namedBy image.now id))) }
-    ensures { Puts mode out.old at (showName (namedBy image.now id)) result out.new }
+    requires { Accepted image.now × Space mode out.old at (length (show_name (named_by image.now id))) }
+    ensures { Puts mode out.old at (show_name (named_by image.now id)) result out.new }
 {
     let Entry::Body(p) = entry(image, id) else {
         return put_text(mode, out, at, b"<unknown>");
@@ -45,8 +45,8 @@ fn named_display(mode: Mode, image: &[u8], out: &mut [u8], at: usize, id: u32) -
 
 // `u3`, `i5`.
 fn sub_byte_display(mode: Mode, image: &[u8], out: &mut [u8], at: usize, node: usize) -> usize
-    requires { LabelHere image.now node × ((labelIn image.now node).tag ≡ number subByteTag) × LeafSpace mode out.old at image.now node }
-    ensures { Puts mode out.old at (leafText image.now node) result out.new }
+    requires { LabelHere image.now node × ((label_in image.now node).tag ≡ number sub_byte_tag) × LeafSpace mode out.old at image.now node }
+    ensures { Puts mode out.old at (leaf_text image.now node) result out.new }
 {
     let signed = put_word(mode, out, at, b"u i ", type_code(image, node));
     put_number(mode, out, signed, type_bits(image, node) as u64)
@@ -68,8 +68,8 @@ fn label_names(image: &[u8], node: usize) -> Run
 
 // `bits { a, b }`.
 fn bits_display(mode: Mode, image: &[u8], out: &mut [u8], at: usize, node: usize) -> usize
-    requires { LabelHere image.now node × (number namedTag < (labelIn image.now node).tag) × LeafSpace mode out.old at image.now node }
-    ensures { Puts mode out.old at (leafText image.now node) result out.new }
+    requires { LabelHere image.now node × (number named_tag < (label_in image.now node).tag) × LeafSpace mode out.old at image.now node }
+    ensures { Puts mode out.old at (leaf_text image.now node) result out.new }
 {
     let opened = put_text(mode, out, at, b"bits { ");
     let named = names_display(mode, image, out, opened, label_names(image, node), b", ");
@@ -79,7 +79,7 @@ fn bits_display(mode: Mode, image: &[u8], out: &mut [u8], at: usize, node: usize
 // A type without inner types.
 fn leaf_display(mode: Mode, image: &[u8], out: &mut [u8], at: usize, node: usize) -> usize
     requires { Accepted image.now × LabelHere image.now node × LeafSpace mode out.old at image.now node }
-    ensures { Puts mode out.old at (leafText image.now node) result out.new }
+    ensures { Puts mode out.old at (leaf_text image.now node) result out.new }
 {
     let tag = type_tag(image, node);
     match tag {
@@ -105,8 +105,8 @@ fn leaf_display(mode: Mode, image: &[u8], out: &mut [u8], at: usize, node: usize
 
 // `, 4` in `array<T, 4>`: only a fixed array has a size.
 fn size_display(mode: Mode, image: &[u8], out: &mut [u8], at: usize, node: usize) -> usize
-    requires { LabelHere image.now node × Space mode out.old at (length (sizeText image.now node)) }
-    ensures { Puts mode out.old at (sizeText image.now node) result out.new }
+    requires { LabelHere image.now node × Space mode out.old at (length (size_text image.now node)) }
+    ensures { Puts mode out.old at (size_text image.now node) result out.new }
 {
     if type_tag(image, node) != tags::FIXED_ARRAY {
         return at;
@@ -124,7 +124,7 @@ fn node_display(
     node: usize,
     left: usize,
 ) -> Shown
-    requires { Accepted image.now × TypeHere left image.now node × Space mode out.old at (length (typeText image.now node)) }
+    requires { Accepted image.now × TypeHere left image.now node × Space mode out.old at (length (type_text image.now node)) }
     ensures { Displayed mode out.old at image.now node result out.new }
 {
     let tag = type_tag(image, node);
@@ -162,8 +162,8 @@ fn node_display(
 
 // The type at a place.
 pub fn type_display(mode: Mode, image: &[u8], out: &mut [u8], at: usize, node: usize) -> usize
-    requires { Accepted image.now × TypeHere 32 image.now node × Space mode out.old at (length (typeText image.now node)) }
-    ensures { Puts mode out.old at (typeText image.now node) result out.new }
+    requires { Accepted image.now × TypeHere 32 image.now node × Space mode out.old at (length (type_text image.now node)) }
+    ensures { Puts mode out.old at (type_text image.now node) result out.new }
 {
     let shown = node_display(mode, image, out, at, node, 32);
     shown.text

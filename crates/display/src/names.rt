@@ -2,7 +2,7 @@
 ghost use Rattle.std.specs.Prelude.{length};
 ghost use Rattle.rules.specs.Text.{joined};
 ghost use Rattle.text.specs.Text.{Space, Puts};
-ghost use Rattle.types.specs.Names.{NamesIn, namesIn};
+ghost use Rattle.types.specs.Names.{NamesIn, names_in};
 
 use parts::Run;
 use parts::names::{name_at, name_end};
@@ -17,8 +17,8 @@ pub fn names_display(
     run: Run,
     between: &[u8],
 ) -> usize
-    requires { NamesIn image.now run × Space mode out.old at (length (joined between.now (namesIn image.now run))) }
-    ensures { Puts mode out.old at (joined between.now (namesIn image.now run)) result out.new }
+    requires { NamesIn image.now run × Space mode out.old at (length (joined between.now (names_in image.now run))) }
+    ensures { Puts mode out.old at (joined between.now (names_in image.now run)) result out.new }
 {
     let mut done = at;
     let mut next = run.start;

@@ -1,7 +1,7 @@
 // Words by their number, from a table in one text: after each word stands a space. What is past the last word is empty.
 ghost use Rattle.std.specs.Prelude.{◌≤◌, length};
 ghost use Rattle.text.specs.Text.{Space, Puts};
-ghost use Rattle.display.specs.Words.{wordIn, WordEnd, WordStart};
+ghost use Rattle.display.specs.Words.{word_in, WordEnd, WordStart};
 
 use text::{Mode, put_text};
 
@@ -39,8 +39,8 @@ fn word_start(words: &[u8], number: u8) -> usize
 
 // The word with a number.
 pub fn put_word(mode: Mode, out: &mut [u8], at: usize, words: &[u8], number: u8) -> usize
-    requires { Space mode out.old at (length (wordIn words.now number)) }
-    ensures { Puts mode out.old at (wordIn words.now number) result out.new }
+    requires { Space mode out.old at (length (word_in words.now number)) }
+    ensures { Puts mode out.old at (word_in words.now number) result out.new }
 {
     let start = word_start(words, number);
     let end = word_end(words, start);

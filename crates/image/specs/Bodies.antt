@@ -1,78 +1,78 @@
 -- Bodies: "A body is a u8 kind, then ..". What a body holds depends on the format, which is handed in. Assumes nothing.
 use Rattle.std.specs.Prelude.{List, [], ℕ, eqb, length}
 use Rattle.std.proofs.Math.Option.{none}
-use Rattle.image.specs.Codes.{number, kindRefusal, bodyRefusal, messageKind, enumKind, flagsKind, unionKind, newtypeKind, configKind, aliasKind, traitKind, implKind}
-use Rattle.image.specs.Kinds.{Kind, message, enum, flags, union, newtype, config, alias, trait, impl, other, kindOf}
-use Rattle.image.specs.Schema.{Decl, decl, unmarked, noType}
-use Rattle.image.specs.Parse.{Parsed, ok, no, bind, need, byteAt, counted}
-use Rattle.image.specs.Names.{nameAt}
-use Rattle.image.specs.Types.{typeAt}
-use Rattle.image.specs.Fields.{marksAt, fieldAt, bareAt, variantAt}
-use Rattle.image.specs.Widths.{wireBitsAt, wireBytesAt, widthAt}
+use Rattle.image.specs.Codes.{number, kind_refusal, body_refusal, message_kind, enum_kind, flags_kind, union_kind, newtype_kind, config_kind, alias_kind, trait_kind, impl_kind}
+use Rattle.image.specs.Kinds.{Kind, message, enum, flags, union, newtype, config, alias, trait, impl, other, kind_of}
+use Rattle.image.specs.Schema.{Decl, decl, unmarked, no_type}
+use Rattle.image.specs.Parse.{Parsed, ok, no, bind, need, byte_at, counted}
+use Rattle.image.specs.Names.{name_at}
+use Rattle.image.specs.Types.{type_at}
+use Rattle.image.specs.Fields.{marks_at, field_at, bare_at, variant_at}
+use Rattle.image.specs.Widths.{wire_bits_at, wire_bytes_at, width_at}
 
 -- 0 message: name, marks, u16 count, fields
-unfoldable pub messageAt : List ℕ → ℕ → Parsed Decl
-messageAt s at =
-    bind (nameAt (number bodyRefusal) s at) (λ x n₁.
-    bind (marksAt s n₁) (λ m n₂.
-    bind (counted fieldAt s n₂) (λ fs n₃.
-    ok (decl (number messageKind) x m none fs [] noType) n₃)))
+unfoldable pub message_at : List ℕ → ℕ → Parsed Decl
+message_at s at =
+    bind (name_at (number body_refusal) s at) (λ x n₁.
+    bind (marks_at s n₁) (λ m n₂.
+    bind (counted field_at s n₂) (λ fs n₃.
+    ok (decl (number message_kind) x m none fs [] no_type) n₃)))
 
 -- 1 enum: name, marks, width in wire bits, u16 count, then u32 ordinal and name each
-unfoldable pub enumAt : ℕ → List ℕ → ℕ → Parsed Decl
-enumAt format s at =
-    bind (nameAt (number bodyRefusal) s at) (λ x n₁.
-    bind (marksAt s n₁) (λ m n₂.
-    bind (widthAt format wireBitsAt s n₂) (λ w n₃.
-    bind (counted bareAt s n₃) (λ vs n₄.
-    ok (decl (number enumKind) x m w [] vs noType) n₄))))
+unfoldable pub enum_at : ℕ → List ℕ → ℕ → Parsed Decl
+enum_at format s at =
+    bind (name_at (number body_refusal) s at) (λ x n₁.
+    bind (marks_at s n₁) (λ m n₂.
+    bind (width_at format wire_bits_at s n₂) (λ w n₃.
+    bind (counted bare_at s n₃) (λ vs n₄.
+    ok (decl (number enum_kind) x m w [] vs no_type) n₄))))
 
 -- 2 flags: name, width in wire bytes, u16 count, then u32 bit and name each
-unfoldable pub flagsAt : ℕ → List ℕ → ℕ → Parsed Decl
-flagsAt format s at =
-    bind (nameAt (number bodyRefusal) s at) (λ x n₁.
-    bind (widthAt format wireBytesAt s n₁) (λ w n₂.
-    bind (counted bareAt s n₂) (λ vs n₃.
-    ok (decl (number flagsKind) x unmarked w [] vs noType) n₃)))
+unfoldable pub flags_at : ℕ → List ℕ → ℕ → Parsed Decl
+flags_at format s at =
+    bind (name_at (number body_refusal) s at) (λ x n₁.
+    bind (width_at format wire_bytes_at s n₁) (λ w n₂.
+    bind (counted bare_at s n₂) (λ vs n₃.
+    ok (decl (number flags_kind) x unmarked w [] vs no_type) n₃)))
 
 -- 3 union: name, u16 count, then u32 ordinal, name, u16 count, fields each
-unfoldable pub unionAt : List ℕ → ℕ → Parsed Decl
-unionAt s at =
-    bind (nameAt (number bodyRefusal) s at) (λ x n₁.
-    bind (counted variantAt s n₁) (λ vs n₂.
-    ok (decl (number unionKind) x unmarked none [] vs noType) n₂))
+unfoldable pub union_at : List ℕ → ℕ → Parsed Decl
+union_at s at =
+    bind (name_at (number body_refusal) s at) (λ x n₁.
+    bind (counted variant_at s n₁) (λ vs n₂.
+    ok (decl (number union_kind) x unmarked none [] vs no_type) n₂))
 
 -- 4 newtype: name, type
-unfoldable pub newtypeAt : List ℕ → ℕ → Parsed Decl
-newtypeAt s at =
-    bind (nameAt (number bodyRefusal) s at) (λ x n₁.
-    bind (typeAt s n₁) (λ t n₂.
-    ok (decl (number newtypeKind) x unmarked none [] [] t) n₂))
+unfoldable pub newtype_at : List ℕ → ℕ → Parsed Decl
+newtype_at s at =
+    bind (name_at (number body_refusal) s at) (λ x n₁.
+    bind (type_at s n₁) (λ t n₂.
+    ok (decl (number newtype_kind) x unmarked none [] [] t) n₂))
 
 -- 5 config, 6 generic alias, 7 trait: name
-unfoldable pub otherAt : ℕ → List ℕ → ℕ → Parsed Decl
-otherAt kind s at = bind (nameAt (number bodyRefusal) s at) (λ x n. ok (decl kind x unmarked none [] [] noType) n)
+unfoldable pub other_at : ℕ → List ℕ → ℕ → Parsed Decl
+other_at kind s at = bind (name_at (number body_refusal) s at) (λ x n. ok (decl kind x unmarked none [] [] no_type) n)
 
 -- 8 impl: nothing; its name is empty
-unfoldable pub implAt : List ℕ → ℕ → Parsed Decl
-implAt s at = ok (decl (number implKind) [] unmarked none [] [] noType) at
+unfoldable pub impl_at : List ℕ → ℕ → Parsed Decl
+impl_at s at = ok (decl (number impl_kind) [] unmarked none [] [] no_type) at
 
 -- what follows the kind
-unfoldable pub declAt : ℕ → Kind → List ℕ → ℕ → Parsed Decl
-declAt format message s at = messageAt s at
-declAt format enum s at = enumAt format s at
-declAt format flags s at = flagsAt format s at
-declAt format union s at = unionAt s at
-declAt format newtype s at = newtypeAt s at
-declAt format config s at = otherAt (number configKind) s at
-declAt format alias s at = otherAt (number aliasKind) s at
-declAt format trait s at = otherAt (number traitKind) s at
-declAt format impl s at = implAt s at
-declAt format other s at = no (number kindRefusal)
+unfoldable pub decl_at : ℕ → Kind → List ℕ → ℕ → Parsed Decl
+decl_at format message s at = message_at s at
+decl_at format enum s at = enum_at format s at
+decl_at format flags s at = flags_at format s at
+decl_at format union s at = union_at s at
+decl_at format newtype s at = newtype_at s at
+decl_at format config s at = other_at (number config_kind) s at
+decl_at format alias s at = other_at (number alias_kind) s at
+decl_at format trait s at = other_at (number trait_kind) s at
+decl_at format impl s at = impl_at s at
+decl_at format other s at = no (number kind_refusal)
 
 -- a whole body: nothing is left
-unfoldable pub bodyOf : ℕ → List ℕ → Parsed Decl
-bodyOf format s =
-    bind (byteAt (number bodyRefusal) s 0) (λ kind n₁.
-    bind (declAt format (kindOf kind) s n₁) (λ d n₂.
-    need (eqb n₂ (length s)) (number bodyRefusal) (ok d n₂)))
+unfoldable pub body_of : ℕ → List ℕ → Parsed Decl
+body_of format s =
+    bind (byte_at (number body_refusal) s 0) (λ kind n₁.
+    bind (decl_at format (kind_of kind) s n₁) (λ d n₂.
+    need (eqb n₂ (length s)) (number body_refusal) (ok d n₂)))

@@ -3,55 +3,55 @@
 use Rattle.std.specs.Prelude.{ℕ}
 
 pub data Code : Type 0 where
-  notRefused longRefusal shortHeadRefusal formatRefusal crowdedRefusal contentsRefusal kindRefusal nameRefusal bodyRefusal : Code
-  codeRefusal deepRefusal aliasPairRefusal fullRefusal mixedRefusal : Code
-  noSide oldSide newSide bothSides : Code
-  messageKind enumKind flagsKind unionKind newtypeKind configKind aliasKind traitKind implKind : Code
-  primitiveTag subByteTag semanticTag namedTag optionalTag arrayTag fixedArrayTag setTag mapTag resultTag vec2Tag vec3Tag vec4Tag : Code
-  quatTag mat3Tag mat4Tag bitsTag : Code
+  not_refused long_refusal short_head_refusal format_refusal crowded_refusal contents_refusal kind_refusal name_refusal body_refusal : Code
+  code_refusal deep_refusal alias_pair_refusal full_refusal mixed_refusal : Code
+  no_side old_side new_side both_sides : Code
+  message_kind enum_kind flags_kind union_kind newtype_kind config_kind alias_kind trait_kind impl_kind : Code
+  primitive_tag sub_byte_tag semantic_tag named_tag optional_tag array_tag fixed_array_tag set_tag map_tag result_tag vec2_tag vec3_tag vec4_tag : Code
+  quat_tag mat3_tag mat4_tag bits_tag : Code
 
 abbrev pub number : Code → ℕ
-number notRefused = 0
-number longRefusal = 1
-number shortHeadRefusal = 2
-number formatRefusal = 3
-number crowdedRefusal = 4
-number contentsRefusal = 5
-number kindRefusal = 6
-number nameRefusal = 7
-number bodyRefusal = 8
-number codeRefusal = 9
-number deepRefusal = 10
-number aliasPairRefusal = 11
-number fullRefusal = 12
-number mixedRefusal = 16
-number noSide = 0
-number oldSide = 1
-number newSide = 2
-number bothSides = 3
-number messageKind = 0
-number enumKind = 1
-number flagsKind = 2
-number unionKind = 3
-number newtypeKind = 4
-number configKind = 5
-number aliasKind = 6
-number traitKind = 7
-number implKind = 8
-number primitiveTag = 0
-number subByteTag = 1
-number semanticTag = 2
-number namedTag = 3
-number optionalTag = 4
-number arrayTag = 5
-number fixedArrayTag = 6
-number setTag = 7
-number mapTag = 8
-number resultTag = 9
-number vec2Tag = 10
-number vec3Tag = 11
-number vec4Tag = 12
-number quatTag = 13
-number mat3Tag = 14
-number mat4Tag = 15
-number bitsTag = 16
+number not_refused = 0
+number long_refusal = 1
+number short_head_refusal = 2
+number format_refusal = 3
+number crowded_refusal = 4
+number contents_refusal = 5
+number kind_refusal = 6
+number name_refusal = 7
+number body_refusal = 8
+number code_refusal = 9
+number deep_refusal = 10
+number alias_pair_refusal = 11
+number full_refusal = 12
+number mixed_refusal = 16
+number no_side = 0
+number old_side = 1
+number new_side = 2
+number both_sides = 3
+number message_kind = 0
+number enum_kind = 1
+number flags_kind = 2
+number union_kind = 3
+number newtype_kind = 4
+number config_kind = 5
+number alias_kind = 6
+number trait_kind = 7
+number impl_kind = 8
+number primitive_tag = 0
+number sub_byte_tag = 1
+number semantic_tag = 2
+number named_tag = 3
+number optional_tag = 4
+number array_tag = 5
+number fixed_array_tag = 6
+number set_tag = 7
+number map_tag = 8
+number result_tag = 9
+number vec2_tag = 10
+number vec3_tag = 11
+number vec4_tag = 12
+number quat_tag = 13
+number mat3_tag = 14
+number mat4_tag = 15
+number bits_tag = 16

@@ -6,5 +6,5 @@ unfoldable pub known : ℕ → Bool
 known format = leb 1 format && leb format 2
 
 -- "Image format 2 stores the width"
-unfoldable pub hasWidths : ℕ → Bool
-hasWidths format = leb 2 format
+unfoldable pub has_widths : ℕ → Bool
+has_widths format = leb 2 format

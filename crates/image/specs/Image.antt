@@ -1,88 +1,88 @@
 -- A whole image: head, contents, ids, namespace, bodies; and the order of the refusals. Assumes nothing.
 use Rattle.std.specs.Prelude.{Bool, cond, ◌&&◌, List, [], ◌∷◌, ℕ, zero, suc, ◌+◌, ◌*◌, eqb, leb, length, drop}
 use Rattle.std.proofs.Math.Option.{Option, none, some}
-use Rattle.image.specs.Codes.{number, longRefusal, shortHeadRefusal, formatRefusal, crowdedRefusal, contentsRefusal}
+use Rattle.image.specs.Codes.{number, long_refusal, short_head_refusal, format_refusal, crowded_refusal, contents_refusal}
 use Rattle.image.specs.Schema.{Decl, Schema}
 use Rattle.image.specs.Formats.{known}
-use Rattle.image.specs.Parse.{Parsed, ok, bind, pick, need, part, littleEndian}
-use Rattle.image.specs.Names.{namesAt}
-use Rattle.image.specs.Bodies.{bodyOf}
+use Rattle.image.specs.Parse.{Parsed, ok, bind, pick, need, part, little_endian}
+use Rattle.image.specs.Names.{names_at}
+use Rattle.image.specs.Bodies.{body_of}
 
-unfoldable pub u16At : List ℕ → ℕ → ℕ
-u16At s at = littleEndian 2 (drop at s)
+unfoldable pub u16_at : List ℕ → ℕ → ℕ
+u16_at s at = little_endian 2 (drop at s)
 
 -- "Head: u16 format ..; u16 N registry entries; u16 M declaration ids; u16 S namespace segments."
 unfoldable pub format : List ℕ → ℕ
-format s = u16At s 0
+format s = u16_at s 0
 
-unfoldable pub entryCount : List ℕ → ℕ
-entryCount s = u16At s 2
+unfoldable pub entry_count : List ℕ → ℕ
+entry_count s = u16_at s 2
 
-unfoldable pub idCount : List ℕ → ℕ
-idCount s = u16At s 4
+unfoldable pub id_count : List ℕ → ℕ
+id_count s = u16_at s 4
 
-unfoldable pub segmentCount : List ℕ → ℕ
-segmentCount s = u16At s 6
+unfoldable pub segment_count : List ℕ → ℕ
+segment_count s = u16_at s 6
 
 -- "N pairs of u16 offset (from the image's first byte) and u16 length"
-unfoldable pub entryOffset : List ℕ → ℕ → ℕ
-entryOffset s i = u16At s (8 + 4 * i)
+unfoldable pub entry_offset : List ℕ → ℕ → ℕ
+entry_offset s i = u16_at s (8 + 4 * i)
 
-unfoldable pub entryLength : List ℕ → ℕ → ℕ
-entryLength s i = u16At s (10 + 4 * i)
+unfoldable pub entry_length : List ℕ → ℕ → ℕ
+entry_length s i = u16_at s (10 + 4 * i)
 
 -- "Then M ids of u32, any value." Where they start, and where they end.
-unfoldable pub idsAt : List ℕ → ℕ
-idsAt s = 8 + 4 * entryCount s
+unfoldable pub ids_at : List ℕ → ℕ
+ids_at s = 8 + 4 * entry_count s
 
-unfoldable pub segmentsAt : List ℕ → ℕ
-segmentsAt s = idsAt s + 4 * idCount s
+unfoldable pub segments_at : List ℕ → ℕ
+segments_at s = ids_at s + 4 * id_count s
 
 -- so many ids from a position on
-unfoldable pub idsFrom : ℕ → List ℕ → ℕ → List ℕ
-idsFrom zero s at = []
-idsFrom (suc count) s at = littleEndian 4 (drop at s) ∷ idsFrom count s (at + 4)
+unfoldable pub ids_from : ℕ → List ℕ → ℕ → List ℕ
+ids_from zero s at = []
+ids_from (suc count) s at = little_endian 4 (drop at s) ∷ ids_from count s (at + 4)
 
 -- "1, eight bytes there (2), 3, 4"; what the head gives is the format
-unfoldable pub headOf : List ℕ → Parsed ℕ
-headOf s =
-    need (leb (length s) 32768) (number longRefusal)
-    (need (leb 8 (length s)) (number shortHeadRefusal)
-    (need (known (format s)) (number formatRefusal)
-    (need (leb (entryCount s) 512 && (leb (idCount s) 512 && leb (segmentCount s) 16)) (number crowdedRefusal)
+unfoldable pub head_of : List ℕ → Parsed ℕ
+head_of s =
+    need (leb (length s) 32768) (number long_refusal)
+    (need (leb 8 (length s)) (number short_head_refusal)
+    (need (known (format s)) (number format_refusal)
+    (need (leb (entry_count s) 512 && (leb (id_count s) 512 && leb (segment_count s) 16)) (number crowded_refusal)
     (ok (format s) 8))))
 
 -- the contents and the ids are there
-unfoldable pub tablesOf : List ℕ → Parsed (List ℕ)
-tablesOf s = need (leb (segmentsAt s) (length s)) (number shortHeadRefusal) (ok (idsFrom (idCount s) s (idsAt s)) (segmentsAt s))
+unfoldable pub tables_of : List ℕ → Parsed (List ℕ)
+tables_of s = need (leb (segments_at s) (length s)) (number short_head_refusal) (ok (ids_from (id_count s) s (ids_at s)) (segments_at s))
 
 -- "Then the bodies, in contents order, without gaps, the last ending the image. With no body the names end the image." And: "0 and 0 for
 -- an empty entry; any other entry has a length of 1 or more". So of `count` entries from the i-th on, whose bodies start at `at`.
 unfoldable pub laid : ℕ → List ℕ → ℕ → ℕ → Bool
 laid zero s i at = eqb at (length s)
 laid (suc count) s i at =
-    cond (eqb (entryLength s i) 0)
-    (eqb (entryOffset s i) 0 && laid count s (i + 1) at)
-    (eqb (entryOffset s i) at && (leb (at + entryLength s i) (length s) && laid count s (i + 1) (at + entryLength s i)))
+    cond (eqb (entry_length s i) 0)
+    (eqb (entry_offset s i) 0 && laid count s (i + 1) at)
+    (eqb (entry_offset s i) at && (leb (at + entry_length s i) (length s) && laid count s (i + 1) (at + entry_length s i)))
 
 -- the declaration of the i-th entry, if it has one, in a format
-unfoldable pub entryOf : ℕ → List ℕ → ℕ → Parsed (Option Decl)
-entryOf f s i =
-    pick (eqb (entryLength s i) 0)
+unfoldable pub entry_of : ℕ → List ℕ → ℕ → Parsed (Option Decl)
+entry_of f s i =
+    pick (eqb (entry_length s i) 0)
     (ok none 0)
-    (bind (bodyOf f (part (entryOffset s i) (entryLength s i) s)) (λ d n. ok (some d) n))
+    (bind (body_of f (part (entry_offset s i) (entry_length s i) s)) (λ d n. ok (some d) n))
 
 -- `count` entries from the i-th on: "then bodies from left to right, first fault met"
-unfoldable pub entriesOf : ℕ → ℕ → List ℕ → ℕ → Parsed (List (Option Decl))
-entriesOf f zero s i = ok [] (length s)
-entriesOf f (suc count) s i = bind (entryOf f s i) (λ e n. bind (entriesOf f count s (i + 1)) (λ es m. ok (e ∷ es) m))
+unfoldable pub entries_of : ℕ → ℕ → List ℕ → ℕ → Parsed (List (Option Decl))
+entries_of f zero s i = ok [] (length s)
+entries_of f (suc count) s i = bind (entry_of f s i) (λ e n. bind (entries_of f count s (i + 1)) (λ es m. ok (e ∷ es) m))
 
 -- "in each 1, eight bytes there (2), 3, 4, rest of 2 and the segments' 7 from left to right, 5, then bodies from left to right"
-unfoldable pub readImage : List ℕ → Parsed Schema
-readImage s =
-    bind (headOf s) (λ f n₁.
-    bind (tablesOf s) (λ ids n₂.
-    bind (namesAt (number shortHeadRefusal) (segmentCount s) s n₂) (λ names n₃.
-    need (laid (entryCount s) s 0 n₃) (number contentsRefusal)
-    (bind (entriesOf f (entryCount s) s 0) (λ es n₄.
+unfoldable pub read_image : List ℕ → Parsed Schema
+read_image s =
+    bind (head_of s) (λ f n₁.
+    bind (tables_of s) (λ ids n₂.
+    bind (names_at (number short_head_refusal) (segment_count s) s n₂) (λ names n₃.
+    need (laid (entry_count s) s 0 n₃) (number contents_refusal)
+    (bind (entries_of f (entry_count s) s 0) (λ es n₄.
     ok (record { format = f; registry = es; ids = ids; namespace = names }) n₄)))))

@@ -5,14 +5,14 @@ use Rattle.std.specs.Prelude.{ℕ, zero, suc}
 pub data Kind : Type 0 where
   message enum flags union newtype config alias trait impl other : Kind
 
-unfoldable pub kindOf : ℕ → Kind
-kindOf zero = message
-kindOf (suc zero) = enum
-kindOf (suc (suc zero)) = flags
-kindOf (suc (suc (suc zero))) = union
-kindOf (suc (suc (suc (suc zero)))) = newtype
-kindOf (suc (suc (suc (suc (suc zero))))) = config
-kindOf (suc (suc (suc (suc (suc (suc zero)))))) = alias
-kindOf (suc (suc (suc (suc (suc (suc (suc zero))))))) = trait
-kindOf (suc (suc (suc (suc (suc (suc (suc (suc zero)))))))) = impl
-kindOf (suc (suc (suc (suc (suc (suc (suc (suc (suc k))))))))) = other
+unfoldable pub kind_of : ℕ → Kind
+kind_of zero = message
+kind_of (suc zero) = enum
+kind_of (suc (suc zero)) = flags
+kind_of (suc (suc (suc zero))) = union
+kind_of (suc (suc (suc (suc zero)))) = newtype
+kind_of (suc (suc (suc (suc (suc zero))))) = config
+kind_of (suc (suc (suc (suc (suc (suc zero)))))) = alias
+kind_of (suc (suc (suc (suc (suc (suc (suc zero))))))) = trait
+kind_of (suc (suc (suc (suc (suc (suc (suc (suc zero)))))))) = impl
+kind_of (suc (suc (suc (suc (suc (suc (suc (suc (suc k))))))))) = other

@@ -1,25 +1,25 @@
 -- Names: "A name is a u8 length, 0 to 255, and that many letters, digits or `_` (ASCII)." Assumes nothing.
 use Rattle.std.specs.Prelude.{Bool, true, ◌&&◌, ◌||◌, List, [], ◌∷◌, ℕ, ◌+◌, leb, eqb, length}
-use Rattle.image.specs.Codes.{number, nameRefusal}
+use Rattle.image.specs.Codes.{number, name_refusal}
 use Rattle.image.specs.Schema.{Name}
-use Rattle.image.specs.Parse.{Parsed, ok, bind, need, part, byteAt, many}
+use Rattle.image.specs.Parse.{Parsed, ok, bind, need, part, byte_at, many}
 
 -- a small letter, a capital, a digit or `_`
-unfoldable pub nameByte : ℕ → Bool
-nameByte b = (leb 97 b && leb b 122) || (leb 65 b && leb b 90) || (leb 48 b && leb b 57) || eqb b 95
+unfoldable pub name_byte : ℕ → Bool
+name_byte b = (leb 97 b && leb b 122) || (leb 65 b && leb b 90) || (leb 48 b && leb b 57) || eqb b 95
 
-unfoldable pub nameBytes : List ℕ → Bool
-nameBytes [] = true
-nameBytes (b ∷ s) = nameByte b && nameBytes s
+unfoldable pub name_bytes : List ℕ → Bool
+name_bytes [] = true
+name_bytes (b ∷ s) = name_byte b && name_bytes s
 
 -- "Length of a name before its bytes": whether the bytes are there, then whether each is allowed.
--- `short` is the refusal where they are not: `shortHeadRefusal` in the namespace, `bodyRefusal` in a body.
-unfoldable pub nameAt : ℕ → List ℕ → ℕ → Parsed Name
-nameAt short s at =
-    bind (byteAt short s at) (λ k n.
+-- `short` is the refusal where they are not: `short_head_refusal` in the namespace, `body_refusal` in a body.
+unfoldable pub name_at : ℕ → List ℕ → ℕ → Parsed Name
+name_at short s at =
+    bind (byte_at short s at) (λ k n.
     need (leb (n + k) (length s)) short
-    (need (nameBytes (part n k s)) (number nameRefusal)
+    (need (name_bytes (part n k s)) (number name_refusal)
     (ok (part n k s) (n + k))))
 
-unfoldable pub namesAt : ℕ → ℕ → List ℕ → ℕ → Parsed (List Name)
-namesAt short count s at = many (nameAt short) count s at
+unfoldable pub names_at : ℕ → ℕ → List ℕ → ℕ → Parsed (List Name)
+names_at short count s at = many (name_at short) count s at

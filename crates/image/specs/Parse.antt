@@ -1,6 +1,6 @@
 -- What reading at a position of a byte list gives: a value and the position after it, or the number of a refusal. Assumes nothing.
 use Rattle.std.specs.Prelude.{Bool, true, false, ◌&&◌, List, [], ◌∷◌, ℕ, zero, suc, ◌+◌, ◌*◌, ltb, leb, length, get_or, take, drop}
-use Rattle.image.specs.Codes.{number, bodyRefusal, codeRefusal}
+use Rattle.image.specs.Codes.{number, body_refusal, code_refusal}
 
 pub data Parsed (A : Type 0) : Type 0 where
   ok : A → ℕ → Parsed A
@@ -34,21 +34,21 @@ unfoldable pub part : ℕ → ℕ → List ℕ → List ℕ
 part from count s = take count (drop from s)
 
 -- a byte; `short` is the refusal where the list ends before it
-unfoldable pub byteAt : ℕ → List ℕ → ℕ → Parsed ℕ
-byteAt short s at = need (ltb at (length s)) short (ok (get_or s at 0) (at + 1))
+unfoldable pub byte_at : ℕ → List ℕ → ℕ → Parsed ℕ
+byte_at short s at = need (ltb at (length s)) short (ok (get_or s at 0) (at + 1))
 
 -- a coded byte from lo to hi
-unfoldable pub codeAt : ℕ → ℕ → List ℕ → ℕ → Parsed ℕ
-codeAt lo hi s at = bind (byteAt (number bodyRefusal) s at) (λ b n. need (leb lo b && leb b hi) (number codeRefusal) (ok b n))
+unfoldable pub code_at : ℕ → ℕ → List ℕ → ℕ → Parsed ℕ
+code_at lo hi s at = bind (byte_at (number body_refusal) s at) (λ b n. need (leb lo b && leb b hi) (number code_refusal) (ok b n))
 
 -- the number of the first w bytes, the lowest first
-unfoldable pub littleEndian : ℕ → List ℕ → ℕ
-littleEndian zero s = 0
-littleEndian (suc w) s = get_or s 0 0 + 256 * littleEndian w (drop 1 s)
+unfoldable pub little_endian : ℕ → List ℕ → ℕ
+little_endian zero s = 0
+little_endian (suc w) s = get_or s 0 0 + 256 * little_endian w (drop 1 s)
 
 -- a number of w bytes
-unfoldable pub numberAt : ℕ → List ℕ → ℕ → Parsed ℕ
-numberAt w s at = need (leb (at + w) (length s)) (number bodyRefusal) (ok (littleEndian w (drop at s)) (at + w))
+unfoldable pub number_at : ℕ → List ℕ → ℕ → Parsed ℕ
+number_at w s at = need (leb (at + w) (length s)) (number body_refusal) (ok (little_endian w (drop at s)) (at + w))
 
 -- so many of a kind, one after the other
 unfoldable pub many : {A : Type 0} → (List ℕ → ℕ → Parsed A) → ℕ → List ℕ → ℕ → Parsed (List A)
@@ -57,4 +57,4 @@ many p (suc count) s at = bind (p s at) (λ x n. bind (many p count s n) (λ xs 
 
 -- a u16 count, and as many
 unfoldable pub counted : {A : Type 0} → (List ℕ → ℕ → Parsed A) → List ℕ → ℕ → Parsed (List A)
-counted p s at = bind (numberAt 2 s at) (λ count n. many p count s n)
+counted p s at = bind (number_at 2 s at) (λ count n. many p count s n)

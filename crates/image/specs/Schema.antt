@@ -1,7 +1,7 @@
 -- What an image holds, as values. Assumes nothing.
 use Rattle.std.specs.Prelude.{Bool, false, List, [], ℕ}
 use Rattle.std.proofs.Math.Option.{Option}
-use Rattle.image.specs.Codes.{number, primitiveTag}
+use Rattle.image.specs.Codes.{number, primitive_tag}
 
 -- a name is its bytes
 abbrev pub Name : Type 0
@@ -9,11 +9,11 @@ Name = List ℕ
 
 pub record Marks : Type 0 where
   pub deprecated : Bool
-  pub nonExhaustive : Bool
+  pub non_exhaustive : Bool
 
 -- of what has no marks
 abbrev pub unmarked : Marks
-unmarked = record { deprecated = false; nonExhaustive = false }
+unmarked = record { deprecated = false; non_exhaustive = false }
 
 -- a number of deltas around a code: 0 default, 1 varint, 2 zigzag
 pub record Encoding : Type 0 where
@@ -53,7 +53,7 @@ pub record Variant : Type 0 where
 
 -- A declaration; its kind is the number that the image has (Kinds).
 -- A message has fields; an enum, flags and a union have variants; a newtype has an inner type. Enums and flags have a width in a format
--- that stores it: wire bits or wire bytes. What a kind has not is `unmarked`, none, empty or `noType`, and nothing reads it.
+-- that stores it: wire bits or wire bytes. What a kind has not is `unmarked`, none, empty or `no_type`, and nothing reads it.
 pub record Decl : Type 0 where
   pub kind : ℕ
   pub name : Name
@@ -63,8 +63,8 @@ pub record Decl : Type 0 where
   pub variants : List Variant
   pub inner : Ty
 
-abbrev pub noType : Ty
-noType = leaf (label (number primitiveTag) 0 0 [])
+abbrev pub no_type : Ty
+no_type = leaf (label (number primitive_tag) 0 0 [])
 
 abbrev pub decl : ℕ → Name → Marks → Option ℕ → List Field → List Variant → Ty → Decl
 decl kind name marks width fields variants inner =
@@ -78,5 +78,5 @@ pub record Schema : Type 0 where
   pub namespace : List Name
 
 -- of bytes that hold none
-abbrev pub noSchema : Schema
-noSchema = record { format = 0; registry = []; ids = []; namespace = [] }
+abbrev pub no_schema : Schema
+no_schema = record { format = 0; registry = []; ids = []; namespace = [] }

@@ -1,7 +1,7 @@
 // The items of a body: fields, variants and bits.
 ghost use Rattle.std.specs.Prelude.{◌≡◌};
 ghost use Rattle.image.specs.Parse.{counted};
-ghost use Rattle.image.specs.Fields.{marksAt, encodingAt, limitAt, fieldAt, bareAt, variantAt};
+ghost use Rattle.image.specs.Fields.{marks_at, encoding_at, limit_at, field_at, bare_at, variant_at};
 ghost use Rattle.image.specs.Reads.{skip};
 
 use crate::Read;
@@ -16,14 +16,14 @@ const NARROW: usize = 65535;
 
 // Bit 0 deprecated, bit 1 non-exhaustive, others 0.
 pub fn read_marks(s: &[u8], at: usize) -> Read
-    ensures { result ≡ skip (marksAt s.now at) }
+    ensures { result ≡ skip (marks_at s.now at) }
 {
     read_code(s, at, 0, 3)
 }
 
 // 0 default, 1 varint, 2 zigzag, 3 delta and an inner encoding; at most eight deltas.
 fn read_encoding(s: &[u8], at: usize) -> Read
-    ensures { result ≡ skip (encodingAt s.now at) }
+    ensures { result ≡ skip (encoding_at s.now at) }
 {
     if s.len() <= NARROW && at <= s.len() {
         let mut next = at as u16;
@@ -64,7 +64,7 @@ fn read_encoding(s: &[u8], at: usize) -> Read
 
 // A byte 0, or a byte 1 and the limit's eight bytes.
 fn read_limit(s: &[u8], at: usize) -> Read
-    ensures { result ≡ skip (limitAt s.now at) }
+    ensures { result ≡ skip (limit_at s.now at) }
 {
     if s.len() <= NARROW && at <= s.len() {
         let at = at as u16;
@@ -90,7 +90,7 @@ fn read_limit(s: &[u8], at: usize) -> Read
 
 // A variant of an enum or a bit of flags: ordinal and name. Every other item starts so too.
 fn read_bare(s: &[u8], at: usize) -> Read
-    ensures { result ≡ skip (bareAt s.now at) }
+    ensures { result ≡ skip (bare_at s.now at) }
 {
     if s.len() <= NARROW && at <= s.len() {
         let at = at as u16;
@@ -110,7 +110,7 @@ fn read_bare(s: &[u8], at: usize) -> Read
 
 // A field: ordinal, name, marks, encoding, limit, type.
 fn read_field(s: &[u8], at: usize) -> Read
-    ensures { result ≡ skip (fieldAt s.now at) }
+    ensures { result ≡ skip (field_at s.now at) }
 {
     if s.len() <= NARROW && at <= s.len() {
         let at = at as u16;
@@ -157,7 +157,7 @@ fn read_field(s: &[u8], at: usize) -> Read
 
 // A count and as many fields.
 pub fn read_fields(s: &[u8], at: usize) -> Read
-    ensures { result ≡ skip (counted fieldAt s.now at) }
+    ensures { result ≡ skip (counted field_at s.now at) }
 {
     if s.len() <= NARROW && at <= s.len() {
         let at = at as u16;
@@ -196,7 +196,7 @@ pub fn read_fields(s: &[u8], at: usize) -> Read
 
 // A count and as many variants of an enum or bits of flags.
 pub fn read_bares(s: &[u8], at: usize) -> Read
-    ensures { result ≡ skip (counted bareAt s.now at) }
+    ensures { result ≡ skip (counted bare_at s.now at) }
 {
     if s.len() <= NARROW && at <= s.len() {
         let at = at as u16;
@@ -235,7 +235,7 @@ pub fn read_bares(s: &[u8], at: usize) -> Read
 
 // A variant of a union: ordinal, name and fields.
 fn read_variant(s: &[u8], at: usize) -> Read
-    ensures { result ≡ skip (variantAt s.now at) }
+    ensures { result ≡ skip (variant_at s.now at) }
 {
     if s.len() <= NARROW && at <= s.len() {
         let at = at as u16;
@@ -255,7 +255,7 @@ fn read_variant(s: &[u8], at: usize) -> Read
 
 // A count and as many variants of a union.
 pub fn read_variants(s: &[u8], at: usize) -> Read
-    ensures { result ≡ skip (counted variantAt s.now at) }
+    ensures { result ≡ skip (counted variant_at s.now at) }
 {
     if s.len() <= NARROW && at <= s.len() {
         let at = at as u16;

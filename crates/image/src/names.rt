@@ -1,6 +1,6 @@
 // Names: a length and as many letters, digits or `_`.
 ghost use Rattle.std.specs.Prelude.{◌≡◌};
-ghost use Rattle.image.specs.Names.{nameByte, nameAt, namesAt};
+ghost use Rattle.image.specs.Names.{name_byte, name_at, names_at};
 ghost use Rattle.image.specs.Reads.{skip};
 
 use crate::Read;
@@ -8,7 +8,7 @@ use crate::refusals::NAME;
 
 // A small letter, a capital, a digit or `_`.
 fn is_name_byte(b: u8) -> bool
-    ensures { result ≡ nameByte b }
+    ensures { result ≡ name_byte b }
 {
     if 97 <= b {
         return b <= 122;
@@ -27,7 +27,7 @@ fn is_name_byte(b: u8) -> bool
 
 // The length is judged before the bytes. short is the refusal where the list ends before the name does.
 pub fn read_name(s: &[u8], at: usize, short: u8) -> Read
-    ensures { result ≡ skip (nameAt short s.now at) }
+    ensures { result ≡ skip (name_at short s.now at) }
 {
     if s.len() <= at {
         return Read::Refused(short);
@@ -50,7 +50,7 @@ pub fn read_name(s: &[u8], at: usize, short: u8) -> Read
 
 // So many names, one after the other.
 pub fn read_names(s: &[u8], at: usize, count: usize, short: u8) -> Read
-    ensures { result ≡ skip (namesAt short count s.now at) }
+    ensures { result ≡ skip (names_at short count s.now at) }
 {
     let mut next = at;
     let mut left = count;

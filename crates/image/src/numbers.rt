@@ -1,7 +1,7 @@
 // Bytes, coded bytes and little-endian numbers.
 ghost use Rattle.std.specs.Prelude.{◌≡◌, ◌+◌, ◌^◌, ◌≤◌, ◌<◌, length, get_or, drop};
-ghost use Rattle.image.specs.Codes.{number, bodyRefusal};
-ghost use Rattle.image.specs.Parse.{byteAt, codeAt, numberAt, littleEndian};
+ghost use Rattle.image.specs.Codes.{number, body_refusal};
+ghost use Rattle.image.specs.Parse.{byte_at, code_at, number_at, little_endian};
 ghost use Rattle.image.specs.Reads.{skip};
 
 use crate::Read;
@@ -9,7 +9,7 @@ use crate::refusals::{BODY, CODE};
 
 // A byte of a body.
 pub fn read_byte(s: &[u8], at: usize) -> Read
-    ensures { result ≡ skip (byteAt (number bodyRefusal) s.now at) }
+    ensures { result ≡ skip (byte_at (number body_refusal) s.now at) }
 {
     if s.len() <= at {
         return Read::Refused(BODY);
@@ -19,7 +19,7 @@ pub fn read_byte(s: &[u8], at: usize) -> Read
 
 // A coded byte from lo to hi.
 pub(crate) fn read_code(s: &[u8], at: usize, lo: u8, hi: u8) -> Read
-    ensures { result ≡ skip (codeAt lo hi s.now at) }
+    ensures { result ≡ skip (code_at lo hi s.now at) }
 {
     if s.len() <= at {
         return Read::Refused(BODY);
@@ -36,7 +36,7 @@ pub(crate) fn read_code(s: &[u8], at: usize, lo: u8, hi: u8) -> Read
 
 // The bytes of a number, w of them.
 pub(crate) fn read_number(s: &[u8], at: usize, w: usize) -> Read
-    ensures { result ≡ skip (numberAt w s.now at) }
+    ensures { result ≡ skip (number_at w s.now at) }
 {
     if s.len() < at {
         return Read::Refused(BODY);
@@ -50,7 +50,7 @@ pub(crate) fn read_number(s: &[u8], at: usize, w: usize) -> Read
 // The number of w bytes that are there, the lowest first.
 pub fn number(s: &[u8], at: usize, w: usize) -> u64
     requires { (w ≤ 8) × (at + w ≤ length s.now) }
-    ensures { (result ≡ littleEndian w (drop at s.now)) × (result < 256 ^ w) }
+    ensures { (result ≡ little_endian w (drop at s.now)) × (result < 256 ^ w) }
 {
     let mut i = at + w;
     let mut value: u64 = 0;
@@ -72,7 +72,7 @@ fn byte(s: &[u8], at: usize) -> u32
 // The number of two bytes that are there, without a loop.
 pub fn u16_at(s: &[u8], at: usize) -> usize
     requires { at + 2 ≤ length s.now }
-    ensures { (result ≡ littleEndian 2 (drop at s.now)) × (result < 65536) }
+    ensures { (result ≡ little_endian 2 (drop at s.now)) × (result < 65536) }
 {
     let a = byte(s, at);
     let b = byte(s, at + 1);
@@ -82,7 +82,7 @@ pub fn u16_at(s: &[u8], at: usize) -> usize
 // And of four.
 pub fn u32_at(s: &[u8], at: usize) -> u32
     requires { at + 4 ≤ length s.now }
-    ensures { result ≡ littleEndian 4 (drop at s.now) }
+    ensures { result ≡ little_endian 4 (drop at s.now) }
 {
     let a = byte(s, at);
     let b = byte(s, at + 1);

@@ -1,7 +1,7 @@
 // Types: a label, and the inner types that its tag has.
 ghost use Rattle.std.specs.Prelude.{◌≡◌, ◌≤◌, length};
-ghost use Rattle.image.specs.Codes.{number, subByteTag, bitsTag};
-ghost use Rattle.image.specs.Types.{subByte, bits, afterTag, labelOf, innerTypes, typeOf, typeAt};
+ghost use Rattle.image.specs.Codes.{number, sub_byte_tag, bits_tag};
+ghost use Rattle.image.specs.Types.{sub_byte, bits, after_tag, label_of, inner_types, type_of, type_at};
 ghost use Rattle.image.specs.Reads.{skip};
 
 use crate::names::read_names;
@@ -11,7 +11,7 @@ use crate::{Read, tags};
 
 // Whether a sub-byte is signed, and its bits.
 fn read_sub_byte(s: &[u8], at: usize) -> Read
-    ensures { result ≡ skip (afterTag (number subByteTag) subByte s.now at) }
+    ensures { result ≡ skip (after_tag (number sub_byte_tag) sub_byte s.now at) }
 {
     let step = read_code(s, at, 0, 1);
     let Read::At(next) = step else {
@@ -22,7 +22,7 @@ fn read_sub_byte(s: &[u8], at: usize) -> Read
 
 // A count and as many names.
 fn read_bits(s: &[u8], at: usize) -> Read
-    ensures { result ≡ skip (afterTag (number bitsTag) bits s.now at) }
+    ensures { result ≡ skip (after_tag (number bits_tag) bits s.now at) }
 {
     let step = read_byte(s, at);
     let Read::At(next) = step else {
@@ -34,7 +34,7 @@ fn read_bits(s: &[u8], at: usize) -> Read
 
 // The label of a type: its tag, and what stands between the tag and the inner types.
 fn read_label(s: &[u8]) -> Read
-    ensures { result ≡ skip (labelOf s.now) }
+    ensures { result ≡ skip (label_of s.now) }
 {
     let step = read_byte(s, 0);
     let Read::At(next) = step else {
@@ -59,7 +59,7 @@ fn read_label(s: &[u8]) -> Read
 
 // How many inner types a tag has.
 pub fn inner_types(tag: u8) -> usize
-    ensures { result ≡ innerTypes tag }
+    ensures { result ≡ inner_types tag }
 {
     if tag < tags::OPTIONAL {
         return 0;
@@ -78,7 +78,7 @@ pub fn inner_types(tag: u8) -> usize
 
 // The type at the start of a part, of at most `left` nodes on a path.
 fn read_type(s: &[u8], left: usize) -> Read
-    ensures { result ≡ skip (typeOf left s.now) }
+    ensures { result ≡ skip (type_of left s.now) }
 {
     if left == 0 {
         return Read::Refused(DEEP);
@@ -109,7 +109,7 @@ fn read_type(s: &[u8], left: usize) -> Read
 // A whole type, at a position of a body.
 pub fn read_type_at(s: &[u8], at: usize) -> Read
     requires { at ≤ length s.now }
-    ensures { result ≡ skip (typeAt s.now at) }
+    ensures { result ≡ skip (type_at s.now at) }
 {
     let step = read_type(&s[at..], 32);
     let Read::At(used) = step else {

@@ -1,7 +1,7 @@
 // The wire widths of enums and flags, which a format of 2 or more stores.
 ghost use Rattle.std.specs.Prelude.{◌≡◌};
 ghost use Rattle.image.specs.Reads.{skip};
-ghost use Rattle.image.specs.Widths.{wireBytes, wireBitsAt, wireBytesAt, widthAt};
+ghost use Rattle.image.specs.Widths.{wire_bytes, wire_bits_at, wire_bytes_at, width_at};
 
 use crate::Read;
 use crate::formats::has_widths;
@@ -10,7 +10,7 @@ use crate::refusals::CODE;
 
 // The wire bits of an enum: any byte.
 pub fn read_wire_bits(format: usize, s: &[u8], at: usize) -> Read
-    ensures { result ≡ skip (widthAt format wireBitsAt s.now at) }
+    ensures { result ≡ skip (width_at format wire_bits_at s.now at) }
 {
     if !has_widths(format) {
         return Read::At(at);
@@ -20,7 +20,7 @@ pub fn read_wire_bits(format: usize, s: &[u8], at: usize) -> Read
 
 // 1, 2, 4 or 8.
 fn is_wire_bytes(b: u8) -> bool
-    ensures { result ≡ wireBytes b }
+    ensures { result ≡ wire_bytes b }
 {
     if b == 1 {
         return true;
@@ -36,7 +36,7 @@ fn is_wire_bytes(b: u8) -> bool
 
 // The wire bytes of flags, judged on reading them.
 pub fn read_wire_bytes(format: usize, s: &[u8], at: usize) -> Read
-    ensures { result ≡ skip (widthAt format wireBytesAt s.now at) }
+    ensures { result ≡ skip (width_at format wire_bytes_at s.now at) }
 {
     if !has_widths(format) {
         return Read::At(at);

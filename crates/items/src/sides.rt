@@ -1,6 +1,6 @@
 // The searches among the items of a side, or of the other: all that a walk over items asks.
 ghost use Rattle.std.specs.Prelude.{◌≡◌};
-ghost use Rattle.items.specs.Items.{shapeOf, ItemsIn, NextOn, hasOff, FoundOff};
+ghost use Rattle.items.specs.Items.{shape_of, ItemsIn, NextOn, has_off, FoundOff};
 
 use crate::{Items, Owner, Side};
 use parts::Shape;
@@ -8,7 +8,7 @@ use survivors::items::{has_item, next_item, survivor_item};
 use survivors::{Found, Next, Ordinal};
 
 fn shape_of(of: Owner) -> Shape
-    ensures { result ≡ shapeOf of }
+    ensures { result ≡ shape_of of }
 {
     match of {
         Owner::Fields(_) => Shape::Field,
@@ -34,7 +34,7 @@ pub fn next_on(side: Side, old: &[u8], new: &[u8], items: Items, after: Ordinal)
 // Whether an item stands under an ordinal on the other side.
 pub fn has_off(side: Side, old: &[u8], new: &[u8], items: Items, ordinal: u32) -> bool
     requires { ItemsIn old.now new.now items }
-    ensures { result ≡ hasOff old.now new.now items side ordinal }
+    ensures { result ≡ has_off old.now new.now items side ordinal }
 {
     let of = items.of;
     let shape = shape_of(of);

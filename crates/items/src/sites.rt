@@ -1,9 +1,9 @@
 // The site of an item at a place that is gone, or that came.
 ghost use Rattle.std.specs.Prelude.{◌≡◌};
-ghost use Rattle.parts.specs.Promise.{DeclHere, declIn};
+ghost use Rattle.parts.specs.Promise.{DeclHere, decl_in};
 ghost use Rattle.rules.specs.Changes.{level};
-ghost use Rattle.rules.specs.Clauses.{enumBump};
-ghost use Rattle.items.specs.Items.{OwnerHere, goneSite, cameSite};
+ghost use Rattle.rules.specs.Clauses.{enum_bump};
+ghost use Rattle.items.specs.Items.{OwnerHere, gone_site, came_site};
 
 use crate::Owner;
 use lines::Site;
@@ -16,7 +16,7 @@ use tally::Bump;
 // "`VariantAdded` Minor if the new enum is non-exhaustive, else Major."
 fn enum_bump(new: &[u8], at: usize) -> Bump
     requires { DeclHere new.now at }
-    ensures { result.level ≡ level (enumBump (declIn new.now at).marks) }
+    ensures { result.level ≡ level (enum_bump (decl_in new.now at).marks) }
 {
     if non_exhaustive(new, at) {
         return Bump::MINOR;
@@ -26,7 +26,7 @@ fn enum_bump(new: &[u8], at: usize) -> Bump
 
 // Of an item that only the old image has.
 pub fn gone_site(of: Owner, at: usize) -> Site
-    ensures { result ≡ goneSite of at }
+    ensures { result ≡ gone_site of at }
 {
     match of {
         Owner::Fields(scope) => field_removed(scope, at),
@@ -39,7 +39,7 @@ pub fn gone_site(of: Owner, at: usize) -> Site
 // Of one that only the new image has.
 pub fn came_site(old: &[u8], new: &[u8], of: Owner, at: usize) -> Site
     requires { OwnerHere old.now new.now of }
-    ensures { result ≡ cameSite new.now of at }
+    ensures { result ≡ came_site new.now of at }
 {
     match of {
         Owner::Fields(scope) => field_added(scope, at),

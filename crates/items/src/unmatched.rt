@@ -1,6 +1,6 @@
 // The walk over what stands on one side only.
 ghost use Rattle.tally.specs.Reporting.{Ready};
-ghost use Rattle.items.specs.Items.{ItemsIn, unmatchedItems, UnmatchedAsked, UnmatchedTold, ItemsTold};
+ghost use Rattle.items.specs.Items.{ItemsIn, unmatched_items, UnmatchedAsked, UnmatchedTold, ItemsTold};
 
 use crate::sides::{has_off, next_on};
 use crate::sites::{came_site, gone_site};
@@ -45,7 +45,7 @@ pub fn unmatched_items(
     side: Side,
     items: Items,
 ) -> Tally
-    requires { ItemsIn old.now new.now items × Ready walk.mode out.old t (unmatchedItems walk.reading old.now new.now items side) }
+    requires { ItemsIn old.now new.now items × Ready walk.mode out.old t (unmatched_items walk.reading old.now new.now items side) }
     ensures { ItemsTold walk old.now new.now out.old t result out.new items side }
 {
     let mut tally = t;

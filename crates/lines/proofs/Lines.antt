@@ -6,55 +6,55 @@ use Prim.Native.Nat.{ℕ, zero, suc, ◌≤◌, ◌<◌}
 use native.Mathlib.Omega.{arith}
 use lib.Dec.{eqb}
 use Rattle.rules.specs.Changes.{level, Change}
-use Rattle.rules.specs.Verdict.{resultAt}
-use Rattle.rules.specs.Report.{changeWord, bumpWord, fieldPart, changeLine, lastLine}
+use Rattle.rules.specs.Verdict.{result_at}
+use Rattle.rules.specs.Report.{change_word, bump_word, field_part, change_line, last_line}
 use Rattle.text.specs.Text.{Puts}
 use Rattle.text.specs.declared.Mode.{Mode}
-use Rattle.text.proofs.Pieces.{together, Owes, owes-next}
+use Rattle.text.proofs.Pieces.{together, Owes, owes_next}
 use Rattle.tally.specs.Tallies.{TallyOf}
 use Rattle.tally.specs.declared.Tally.{Tally}
-use Rattle.tally.proofs.Lines.{linePieces, line-pieces}
-use Rattle.lines.specs.Sites.{bumpAt, changeOf}
-use Rattle.details.specs.Details.{declarationOf, itemOf, detailText}
-use Rattle.lines.specs.Last.{lastLineOf}
+use Rattle.tally.proofs.Lines.{line_pieces, line_pieces_lem}
+use Rattle.lines.specs.Sites.{bump_at, change_of}
+use Rattle.details.specs.Details.{declaration_of, item_of, detail_text}
+use Rattle.lines.specs.Last.{last_line_of}
 use Rattle.lines.specs.declared.Site.{Site}
 
-pub level-bump : (l : ℕ) → l ≤ 2 → level (bumpAt l) ≡ l
-unfolding level bumpAt
-level-bump zero h = refl
-level-bump (suc zero) h = refl
-level-bump (suc (suc zero)) h = refl
-level-bump (suc (suc (suc l))) h = absurd (omega arith)
+pub level_bump : (l : ℕ) → l ≤ 2 → level (bump_at l) ≡ l
+unfolding level bump_at
+level_bump zero h = refl
+level_bump (suc zero) h = refl
+level_bump (suc (suc zero)) h = refl
+level_bump (suc (suc (suc l))) h = absurd (omega arith)
 
-pub site-line :
+pub site_line :
     (old new : List ℕ) (s : Site)
     → s.bump.level ≤ 2
-    → changeLine (changeOf old new s)
-    ≡ together (linePieces (changeWord s.kind ∷ bumpWord s.bump.level ∷ declarationOf old new s.scope
-    ∷ fieldPart (itemOf old new s.item) ∷ detailText old new s.detail ∷ []))
-unfolding changeLine changeOf
-site-line old new s h =
-    rw (level-bump s.bump.level h)
-    (line-pieces (changeWord s.kind ∷ bumpWord s.bump.level ∷ declarationOf old new s.scope
-    ∷ fieldPart (itemOf old new s.item) ∷ detailText old new s.detail ∷ []))
+    → change_line (change_of old new s)
+    ≡ together (line_pieces (change_word s.kind ∷ bump_word s.bump.level ∷ declaration_of old new s.scope
+    ∷ field_part (item_of old new s.item) ∷ detail_text old new s.detail ∷ []))
+unfolding change_line change_of
+site_line old new s h =
+    rw (level_bump s.bump.level h)
+    (line_pieces_lem (change_word s.kind ∷ bump_word s.bump.level ∷ declaration_of old new s.scope
+    ∷ field_part (item_of old new s.item) ∷ detail_text old new s.detail ∷ []))
 
-pub result-most : (l : ℕ) → resultAt l < 2
-result-most l = go (eqb l 2)
+pub result_most : (l : ℕ) → result_at l < 2
+result_most l = go (eqb l 2)
   where
     go : (b : Bool) → cond b 1 0 < 2
     go true = omega arith
     go false = omega arith
 
 -- the last line of a tally is that of its changes
-pub last_line : (cs : List Change) (t : Tally) → TallyOf cs t → lastLineOf t ≡ lastLine cs
-unfolding lastLineOf lastLine
-last_line cs t o = rw (o.bump, o.changes)
+pub last_line_lem : (cs : List Change) (t : Tally) → TallyOf cs t → last_line_of t ≡ last_line cs
+unfolding last_line_of last_line
+last_line_lem cs t o = rw (o.bump, o.changes)
 
 -- a part of a line and what stands after it are written
-pub owes-part :
+pub owes_part :
     {m : Mode} {d d' e f : List ℕ} {at r q u : ℕ} {all x y : List ℕ} {ps : List (List ℕ)}
     → Owes m d at all r d' (x ∷ y ∷ ps)
     → Puts m d' r x q e
     → Puts m e q y u f
     → Owes m d at all u f ps
-owes-part o v w = owes-next (owes-next o v) w
+owes_part o v w = owes_next (owes_next o v) w

@@ -1,7 +1,7 @@
 -- The last line, of a tally. Assumes nothing.
 use Rattle.std.specs.Prelude.{List, ℕ}
-use Rattle.rules.specs.Report.{lastLineAt}
+use Rattle.rules.specs.Report.{last_line_at}
 use Rattle.tally.specs.declared.Tally.{Tally}
 
-unfoldable pub lastLineOf : Tally → List ℕ
-lastLineOf t = lastLineAt t.bump.level t.changes
+unfoldable pub last_line_of : Tally → List ℕ
+last_line_of t = last_line_at t.bump.level t.changes

@@ -1,22 +1,22 @@
 -- The change that a site stands for, of the old and the new image's bytes, in the texts of rules; and that its places are well formed.
 -- Assumes nothing.
 use Rattle.std.specs.Prelude.{List, ℕ, zero, suc, ◌≤◌, ◌<◌}
-use Rattle.rules.specs.Changes.{Bump, patch, minor, major, kindCount, Change, change}
-use Rattle.details.specs.Details.{declarationOf, itemOf, detailText, ScopeHere, ItemOfHere, DetailHere}
+use Rattle.rules.specs.Changes.{Bump, patch, minor, major, kind_count, Change, change}
+use Rattle.details.specs.Details.{declaration_of, item_of, detail_text, ScopeHere, ItemOfHere, DetailHere}
 use Rattle.lines.specs.declared.Site.{Site}
 
 -- the bump of a level
-unfoldable pub bumpAt : ℕ → Bump
-bumpAt zero = patch
-bumpAt (suc zero) = minor
-bumpAt (suc (suc n)) = major
+unfoldable pub bump_at : ℕ → Bump
+bump_at zero = patch
+bump_at (suc zero) = minor
+bump_at (suc (suc n)) = major
 
-unfoldable pub changeOf : List ℕ → List ℕ → Site → Change
-changeOf old new s =
-    change s.kind (bumpAt s.bump.level) (declarationOf old new s.scope) (itemOf old new s.item) (detailText old new s.detail)
+unfoldable pub change_of : List ℕ → List ℕ → Site → Change
+change_of old new s =
+    change s.kind (bump_at s.bump.level) (declaration_of old new s.scope) (item_of old new s.item) (detail_text old new s.detail)
 
 pub record SiteHere (old new : List ℕ) (s : Site) : Type 0 where
-  pub known : s.kind < kindCount
+  pub known : s.kind < kind_count
   pub weighed : s.bump.level ≤ 2
   pub scope : ScopeHere old new s.scope
   pub item : ItemOfHere old new s.item

@@ -1,10 +1,10 @@
 // The lines of a report: a change is counted and its line measured or written after the lines before it; the last line.
 ghost use Rattle.std.specs.Prelude.{[], ◌∷◌, ◌≤◌, length};
-ghost use Rattle.rules.specs.Report.{changeLine};
+ghost use Rattle.rules.specs.Report.{change_line};
 ghost use Rattle.text.specs.Text.{Space, Puts};
 ghost use Rattle.tally.specs.Reporting.{Ready, Ran};
-ghost use Rattle.lines.specs.Sites.{changeOf, SiteHere};
-ghost use Rattle.lines.specs.Last.{lastLineOf};
+ghost use Rattle.lines.specs.Sites.{change_of, SiteHere};
+ghost use Rattle.lines.specs.Last.{last_line_of};
 
 use crate::Site;
 use details::names::{put_declaration, put_field};
@@ -15,8 +15,8 @@ use text::{Mode, put_byte, put_number, start_in};
 
 // The line of a change, from the start of the part of the buffer that it is lent.
 fn put_line(mode: Mode, old: &[u8], new: &[u8], out: &mut [u8], site: Site) -> usize
-    requires { SiteHere old.now new.now site × Space mode out.old 0 (length (changeLine (changeOf old.now new.now site))) }
-    ensures { Puts mode out.old 0 (changeLine (changeOf old.now new.now site)) result out.new }
+    requires { SiteHere old.now new.now site × Space mode out.old 0 (length (change_line (change_of old.now new.now site))) }
+    ensures { Puts mode out.old 0 (change_line (change_of old.now new.now site)) result out.new }
 {
     let level = site.bump.level as usize;
     let scope = site.scope;
@@ -36,8 +36,8 @@ fn put_line(mode: Mode, old: &[u8], new: &[u8], out: &mut [u8], site: Site) -> u
 
 // A change is counted, and its line measured or written after the lines before it.
 pub fn emit(mode: Mode, old: &[u8], new: &[u8], out: &mut [u8], t: Tally, site: Site) -> Tally
-    requires { SiteHere old.now new.now site × Ready mode out.old t (changeOf old.now new.now site ∷ []) }
-    ensures { Ran mode out.old t (changeOf old.now new.now site ∷ []) result out.new }
+    requires { SiteHere old.now new.now site × Ready mode out.old t (change_of old.now new.now site ∷ []) }
+    ensures { Ran mode out.old t (change_of old.now new.now site ∷ []) result out.new }
 {
     let kind = site.kind;
     let bump = site.bump;
@@ -48,8 +48,8 @@ pub fn emit(mode: Mode, old: &[u8], new: &[u8], out: &mut [u8], t: Tally, site: 
 
 // The last line, from the start of the part of the buffer that it is lent.
 fn put_result(mode: Mode, out: &mut [u8], t: Tally) -> usize
-    requires { (t.bump.level ≤ 2) × Space mode out.old 0 (length (lastLineOf t)) }
-    ensures { Puts mode out.old 0 (lastLineOf t) result out.new }
+    requires { (t.bump.level ≤ 2) × Space mode out.old 0 (length (last_line_of t)) }
+    ensures { Puts mode out.old 0 (last_line_of t) result out.new }
 {
     let level = t.bump.level as usize;
     let bump = t.bump;
@@ -64,8 +64,8 @@ fn put_result(mode: Mode, out: &mut [u8], t: Tally) -> usize
 
 // "Last line, in the same way: result, bump, number of changes." The length of the whole report.
 pub fn put_last_line(mode: Mode, out: &mut [u8], t: Tally) -> usize
-    requires { (t.bump.level ≤ 2) × Space mode out.old t.length (length (lastLineOf t)) }
-    ensures { Puts mode out.old t.length (lastLineOf t) result out.new }
+    requires { (t.bump.level ≤ 2) × Space mode out.old t.length (length (last_line_of t)) }
+    ensures { Puts mode out.old t.length (last_line_of t) result out.new }
 {
     let at = t.length;
     let done = start_in(mode, at);

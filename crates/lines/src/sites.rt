@@ -1,7 +1,7 @@
 // A site for each change that a clause reports. i and j are places in the old and in the new image, `from` and `to` those of types in them;
 // `decl` is the place of a body in the old image.
 ghost use Rattle.std.specs.Prelude.{◌≡◌};
-ghost use Rattle.lines.specs.Clauses.{siteOf, namespaceChanged, declRemoved, declAdded, kindChanged, fieldRemoved, fieldAdded, fieldRenamed, fieldTypeChanged, fieldEncodingChanged, fieldDeprecated, declDeprecated, widthChanged, nonExhaustiveChanged, variantRemoved, variantAdded, bitRemoved, bitAdded, newtypeChanged};
+ghost use Rattle.lines.specs.Clauses.{site_of, namespace_changed, decl_removed, decl_added, kind_changed, field_removed, field_added, field_renamed, field_type_changed, field_encoding_changed, field_deprecated, decl_deprecated, width_changed, non_exhaustive_changed, variant_removed, variant_added, bit_removed, bit_added, newtype_changed};
 
 use crate::Site;
 use details::{Detail, Item, Scope, Subject, Value, Values, Verb, Word};
@@ -50,7 +50,7 @@ fn site(
     verb: Verb,
     values: Values,
 ) -> Site
-    ensures { result ≡ siteOf kind bump.level scope item subject verb values }
+    ensures { result ≡ site_of kind bump.level scope item subject verb values }
 {
     Site {
         kind: kind,
@@ -67,7 +67,7 @@ fn site(
 
 // 1. The namespace.
 pub fn namespace_changed() -> Site
-    ensures { result ≡ namespaceChanged }
+    ensures { result ≡ namespace_changed }
 {
     site(
         NAMESPACE_CHANGED,
@@ -82,7 +82,7 @@ pub fn namespace_changed() -> Site
 
 // 2. A declaration that only the old image has.
 pub fn decl_removed(i: usize) -> Site
-    ensures { result ≡ declRemoved i }
+    ensures { result ≡ decl_removed i }
 {
     site(
         DECLARATION_REMOVED,
@@ -97,7 +97,7 @@ pub fn decl_removed(i: usize) -> Site
 
 // And one that only the new image has.
 pub fn decl_added(j: usize) -> Site
-    ensures { result ≡ declAdded j }
+    ensures { result ≡ decl_added j }
 {
     site(
         DECLARATION_ADDED,
@@ -112,7 +112,7 @@ pub fn decl_added(j: usize) -> Site
 
 // 3. A declaration of another kind.
 pub fn kind_changed(i: usize, j: usize) -> Site
-    ensures { result ≡ kindChanged i j }
+    ensures { result ≡ kind_changed i j }
 {
     site(
         DECLARATION_KIND_CHANGED,
@@ -127,7 +127,7 @@ pub fn kind_changed(i: usize, j: usize) -> Site
 
 // 4. A field that only the old image has.
 pub fn field_removed(scope: Scope, i: usize) -> Site
-    ensures { result ≡ fieldRemoved scope i }
+    ensures { result ≡ field_removed scope i }
 {
     site(
         FIELD_REMOVED,
@@ -142,7 +142,7 @@ pub fn field_removed(scope: Scope, i: usize) -> Site
 
 // And one that only the new image has.
 pub fn field_added(scope: Scope, j: usize) -> Site
-    ensures { result ≡ fieldAdded scope j }
+    ensures { result ≡ field_added scope j }
 {
     site(
         FIELD_ADDED,
@@ -157,7 +157,7 @@ pub fn field_added(scope: Scope, j: usize) -> Site
 
 // A field of another name.
 pub fn field_renamed(scope: Scope, i: usize, j: usize) -> Site
-    ensures { result ≡ fieldRenamed scope i j }
+    ensures { result ≡ field_renamed scope i j }
 {
     site(
         FIELD_RENAMED,
@@ -172,7 +172,7 @@ pub fn field_renamed(scope: Scope, i: usize, j: usize) -> Site
 
 // A field of another type.
 pub fn field_type_changed(scope: Scope, j: usize, from: usize, to: usize) -> Site
-    ensures { result ≡ fieldTypeChanged scope j from to }
+    ensures { result ≡ field_type_changed scope j from to }
 {
     site(
         FIELD_TYPE_CHANGED,
@@ -187,7 +187,7 @@ pub fn field_type_changed(scope: Scope, j: usize, from: usize, to: usize) -> Sit
 
 // A field of another encoding or limit.
 pub fn field_encoding_changed(scope: Scope, i: usize, j: usize) -> Site
-    ensures { result ≡ fieldEncodingChanged scope i j }
+    ensures { result ≡ field_encoding_changed scope i j }
 {
     site(
         FIELD_ENCODING_CHANGED,
@@ -202,7 +202,7 @@ pub fn field_encoding_changed(scope: Scope, i: usize, j: usize) -> Site
 
 // A field that has become deprecated.
 pub fn field_deprecated(scope: Scope, j: usize) -> Site
-    ensures { result ≡ fieldDeprecated scope j }
+    ensures { result ≡ field_deprecated scope j }
 {
     site(
         FIELD_DEPRECATED,
@@ -217,7 +217,7 @@ pub fn field_deprecated(scope: Scope, j: usize) -> Site
 
 // A message that has become deprecated.
 pub fn decl_deprecated(i: usize) -> Site
-    ensures { result ≡ declDeprecated i }
+    ensures { result ≡ decl_deprecated i }
 {
     site(
         FIELD_DEPRECATED,
@@ -232,7 +232,7 @@ pub fn decl_deprecated(i: usize) -> Site
 
 // An enum or flags of another width.
 pub fn width_changed(i: usize, j: usize) -> Site
-    ensures { result ≡ widthChanged i j }
+    ensures { result ≡ width_changed i j }
 {
     site(
         WIDTH_CHANGED,
@@ -247,7 +247,7 @@ pub fn width_changed(i: usize, j: usize) -> Site
 
 // 5. An enum whose mark for non-exhaustive has changed.
 pub fn non_exhaustive_changed(i: usize, j: usize) -> Site
-    ensures { result ≡ nonExhaustiveChanged i j }
+    ensures { result ≡ non_exhaustive_changed i j }
 {
     site(
         NON_EXHAUSTIVE_CHANGED,
@@ -262,7 +262,7 @@ pub fn non_exhaustive_changed(i: usize, j: usize) -> Site
 
 // 5. and 7. A variant that only the old image has.
 pub fn variant_removed(decl: usize, i: usize) -> Site
-    ensures { result ≡ variantRemoved decl i }
+    ensures { result ≡ variant_removed decl i }
 {
     site(
         VARIANT_REMOVED,
@@ -277,7 +277,7 @@ pub fn variant_removed(decl: usize, i: usize) -> Site
 
 // And one that only the new image has; its bump is that of the enum or the union.
 pub fn variant_added(bump: Bump, decl: usize, j: usize) -> Site
-    ensures { result ≡ variantAdded bump.level decl j }
+    ensures { result ≡ variant_added bump.level decl j }
 {
     site(
         VARIANT_ADDED,
@@ -292,7 +292,7 @@ pub fn variant_added(bump: Bump, decl: usize, j: usize) -> Site
 
 // 6. A bit that only the old image has.
 pub fn bit_removed(decl: usize, i: usize) -> Site
-    ensures { result ≡ bitRemoved decl i }
+    ensures { result ≡ bit_removed decl i }
 {
     site(
         FLAGS_BIT_REMOVED,
@@ -307,7 +307,7 @@ pub fn bit_removed(decl: usize, i: usize) -> Site
 
 // And one that only the new image has.
 pub fn bit_added(decl: usize, j: usize) -> Site
-    ensures { result ≡ bitAdded decl j }
+    ensures { result ≡ bit_added decl j }
 {
     site(
         FLAGS_BIT_ADDED,
@@ -322,7 +322,7 @@ pub fn bit_added(decl: usize, j: usize) -> Site
 
 // 8. A newtype of another inner type.
 pub fn newtype_changed(decl: usize, from: usize, to: usize) -> Site
-    ensures { result ≡ newtypeChanged decl from to }
+    ensures { result ≡ newtype_changed decl from to }
 {
     site(
         FIELD_TYPE_CHANGED,

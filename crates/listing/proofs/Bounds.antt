@@ -7,37 +7,37 @@ use native.Mathlib.Omega.{arith}
 use lib.ListN.{length, get_or, length-append}
 use Rattle.image.specs.Schema.{Name, Decl}
 use Rattle.image.specs.Words.{bytes}
-use Rattle.parts.specs.Promise.{Accepted, schemaOf}
-use Rattle.parts.proofs.Promise.{accepted-most, entries-most, entry-short}
-use Rattle.rules.proofs.Texts.{kind-length}
-use Rattle.text.proofs.Numbers.{decimal-length}
-use Rattle.listing.specs.Listing.{lineOf, entryLine, entryText, linesFrom, listing}
+use Rattle.parts.specs.Promise.{Accepted, schema_of}
+use Rattle.parts.proofs.Promise.{accepted_most, entries_most, entry_short}
+use Rattle.rules.proofs.Texts.{kind_length}
+use Rattle.text.proofs.Numbers.{decimal_length}
+use Rattle.listing.specs.Listing.{line_of, entry_line, entry_text, lines_from, listing}
 
-line-length : (id kind : ℕ) (name : Name) → length (lineOf id kind name) ≤ 36 + length name
-unfolding lineOf bytes
-line-length id kind name = simp length-append (omega (arith, decimal-length id, kind-length kind))
+line_length_lem : (id kind : ℕ) (name : Name) → length (line_of id kind name) ≤ 36 + length name
+unfolding line_of bytes
+line_length_lem id kind name = simp length-append (omega (arith, decimal_length id, kind_length kind))
 
-lines-length : (most id : ℕ) (R : List (Option Decl)) → ((j : ℕ) → j < length R → (i : ℕ) → length (entryText i (get_or R j none)) ≤ most)
-    → length (linesFrom id R) ≤ most * length R
-unfolding linesFrom
-lines-length most id [] h = omega arith
-lines-length most id (e ∷ R) h = simp length-append (omega (arith, h 0 (omega arith) id, lines-length most (suc id) R (λ j l. h (suc j) (omega arith))))
+lines_length : (most id : ℕ) (R : List (Option Decl)) → ((j : ℕ) → j < length R → (i : ℕ) → length (entry_text i (get_or R j none)) ≤ most)
+    → length (lines_from id R) ≤ most * length R
+unfolding lines_from
+lines_length most id [] h = omega arith
+lines_length most id (e ∷ R) h = simp length-append (omega (arith, h 0 (omega arith) id, lines_length most (suc id) R (λ j l. h (suc j) (omega arith))))
 
 module _ (s : List ℕ) (g : Accepted s) where
-  few : length (schemaOf s).registry ≤ 32768
-  few = omega (arith, entries-most s g, accepted-most s g)
+  few : length (schema_of s).registry ≤ 32768
+  few = omega (arith, entries_most s g, accepted_most s g)
 
-  short : (j : ℕ) → j < length (schemaOf s).registry → (i : ℕ) → length (entryText i (get_or (schemaOf s).registry j none)) ≤ 32804
-  unfolding entryText entryLine
-  short j l i = go (get_or (schemaOf s).registry j none) refl
+  short : (j : ℕ) → j < length (schema_of s).registry → (i : ℕ) → length (entry_text i (get_or (schema_of s).registry j none)) ≤ 32804
+  unfolding entry_text entry_line
+  short j l i = go (get_or (schema_of s).registry j none) refl
     where
-      go : (e : Option Decl) → get_or (schemaOf s).registry j none ≡ e → length (entryText i e) ≤ 32804
+      go : (e : Option Decl) → get_or (schema_of s).registry j none ≡ e → length (entry_text i e) ≤ 32804
       go none q = omega arith
-      go (some d) q = omega (arith, line-length i d.kind d.name, entry-short s g j l d q, accepted-most s g)
+      go (some d) q = omega (arith, line_length_lem i d.kind d.name, entry_short s g j l d q, accepted_most s g)
 
-  lines-small : (id : ℕ) → length (linesFrom id (schemaOf s).registry) < 2 ^ 62
-  lines-small id = omega (arith, lines-length 32804 id (schemaOf s).registry short, few)
+  lines_small : (id : ℕ) → length (lines_from id (schema_of s).registry) < 2 ^ 62
+  lines_small id = omega (arith, lines_length 32804 id (schema_of s).registry short, few)
 
-  pub listing-small : length (listing (schemaOf s)) < 2 ^ 62
+  pub listing_small : length (listing (schema_of s)) < 2 ^ 62
   unfolding listing
-  listing-small = lines-small _
+  listing_small = lines_small _

@@ -4,29 +4,29 @@ use mathlib.Core.List.{List, [], ◌∷◌, map}
 use mathlib.Core.Option.{Option, none, some, map as map_option}
 use Prim.Native.Nat.{ℕ, suc}
 use Rattle.image.specs.Schema.{Decl, Schema}
-use Rattle.rules.specs.Ignored.{unsized, unsizedSchema, SameUnsized}
-use Rattle.listing.specs.Listing.{entryLine, entryText, linesFrom, listing, accept, outcome}
+use Rattle.rules.specs.Ignored.{unsized, unsized_schema, SameUnsized}
+use Rattle.listing.specs.Listing.{entry_line, entry_text, lines_from, listing, accept, outcome}
 use Rattle.listing.specs.Ignored.{ListingIgnores}
 
 -- of the entries without their widths
-entry-ignores : (id : ℕ) (e : Option Decl) → entryText id (map_option unsized e) ≡ entryText id e
-unfolding entryText entryLine unsized
-entry-ignores id none = refl
-entry-ignores id (some d) = refl
+entry_ignores : (id : ℕ) (e : Option Decl) → entry_text id (map_option unsized e) ≡ entry_text id e
+unfolding entry_text entry_line unsized
+entry_ignores id none = refl
+entry_ignores id (some d) = refl
 
-lines-ignore : (id : ℕ) (es : List (Option Decl)) → linesFrom id (map (map_option unsized) es) ≡ linesFrom id es
-unfolding linesFrom
-lines-ignore id [] = refl
-lines-ignore id (e ∷ es) = rw (entry-ignores id e, lines-ignore (suc id) es)
+lines_ignore : (id : ℕ) (es : List (Option Decl)) → lines_from id (map (map_option unsized) es) ≡ lines_from id es
+unfolding lines_from
+lines_ignore id [] = refl
+lines_ignore id (e ∷ es) = rw (entry_ignores id e, lines_ignore (suc id) es)
 
-listing-ignores : (x : Schema) → listing (unsizedSchema x) ≡ listing x
-unfolding listing unsizedSchema
-listing-ignores x = lines-ignore 0 x.registry
+listing_ignores : (x : Schema) → listing (unsized_schema x) ≡ listing x
+unfolding listing unsized_schema
+listing_ignores x = lines_ignore 0 x.registry
 
 same : (a b : List ℕ) → SameUnsized a b → (room : ℕ) → outcome a room ≡ outcome b room
 unfolding outcome accept
 same a b s room =
-    rw (s.oldRead, s.newRead, ← listing-ignores s.oldSchema, ← listing-ignores s.newSchema, s.holds)
+    rw (s.old_read, s.new_read, ← listing_ignores s.old_schema, ← listing_ignores s.new_schema, s.holds)
 
 pub ignores : ListingIgnores
 ignores = record { same = same }

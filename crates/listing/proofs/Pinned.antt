@@ -3,25 +3,25 @@
 use mathlib.Core.Path.{◌≡◌, refl}
 use mathlib.Core.Option.{none, some}
 use mathlib.Core.List.{[], ◌∷◌}
-use Rattle.image.specs.Schema.{unmarked, noType, decl, Schema}
-use Rattle.parts.specs.Kinds.{kindOf}
-use Rattle.image.specs.Words.{bytes, kindWord}
+use Rattle.image.specs.Schema.{unmarked, no_type, decl, Schema}
+use Rattle.parts.specs.Kinds.{kind_of}
+use Rattle.image.specs.Words.{bytes, kind_word}
 use Rattle.text.specs.Decimal.{digits, decimal}
-use Rattle.listing.specs.Listing.{lineOf, entryLine, entryText, linesFrom, listing}
+use Rattle.listing.specs.Listing.{line_of, entry_line, entry_text, lines_from, listing}
 
 pub two : Schema
 unfolding bytes
 two = record {
   format = 1;
-  registry = none ∷ some (decl 0 (bytes "Drive") unmarked none [] [] noType) ∷ none ∷ some (decl 8 [] unmarked none [] [] noType) ∷ none ∷ [];
+  registry = none ∷ some (decl 0 (bytes "Drive") unmarked none [] [] no_type) ∷ none ∷ some (decl 8 [] unmarked none [] [] no_type) ∷ none ∷ [];
   ids = 3 ∷ 1 ∷ [];
   namespace = [];
 }
 
-pub two-lines : listing two ≡ bytes "1;message;Drive\n3;impl;\n"
-unfolding two listing linesFrom entryText entryLine lineOf decimal digits kindOf kindWord bytes
-two-lines = refl
+pub two_lines : listing two ≡ bytes "1;message;Drive\n3;impl;\n"
+unfolding two listing lines_from entry_text entry_line line_of decimal digits kind_of kind_word bytes
+two_lines = refl
 
 pub no_line : listing (record { format = 1; registry = none ∷ none ∷ []; ids = []; namespace = [] }) ≡ []
-unfolding listing linesFrom entryText
+unfolding listing lines_from entry_text
 no_line = refl

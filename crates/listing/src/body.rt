@@ -1,8 +1,8 @@
 // A reader over the body of an entry: a struct that holds the lent slice, and the position of the declaration in it.
 ghost use Rattle.std.specs.Prelude.{◌≡◌, length};
-ghost use Rattle.parts.specs.Promise.{StartHere, startKind, startName};
+ghost use Rattle.parts.specs.Promise.{StartHere, start_kind, start_name};
 ghost use Rattle.text.specs.Text.{Space, Puts};
-ghost use Rattle.listing.specs.Listing.{lineOf};
+ghost use Rattle.listing.specs.Listing.{line_of};
 
 use crate::line::put_line;
 use parts::starts::{start_kind, start_name};
@@ -25,7 +25,7 @@ pub fn new<'a>(src: &'a [u8]) -> Reader<'a>
 // The kind of the declaration that starts at the position.
 pub fn kind<'a>(r: Reader<'a>) -> u8
     requires { StartHere r.src.now r.at }
-    ensures { result ≡ startKind r.entry.src.now r.entry.at }
+    ensures { result ≡ start_kind r.entry.src.now r.entry.at }
 {
     start_kind(r.src, r.at)
 }
@@ -33,15 +33,15 @@ pub fn kind<'a>(r: Reader<'a>) -> u8
 // Its name.
 pub fn name<'a>(r: Reader<'a>) -> &'a [u8]
     requires { StartHere r.src.now r.at }
-    ensures { result.now ≡ startName r.entry.src.now r.entry.at }
+    ensures { result.now ≡ start_name r.entry.src.now r.entry.at }
 {
     start_name(r.src, r.at)
 }
 
 // The line of a body's declaration, from the start of the part of the buffer that it is lent.
 pub fn put_entry(mode: Mode, id: usize, body: &[u8], out: &mut [u8]) -> usize
-    requires { StartHere body.now 0 × Space mode out.old 0 (length (lineOf id (startKind body.now 0) (startName body.now 0))) }
-    ensures { Puts mode out.old 0 (lineOf id (startKind body.now 0) (startName body.now 0)) result out.new }
+    requires { StartHere body.now 0 × Space mode out.old 0 (length (line_of id (start_kind body.now 0) (start_name body.now 0))) }
+    ensures { Puts mode out.old 0 (line_of id (start_kind body.now 0) (start_name body.now 0)) result out.new }
 {
     let r = new(body);
     put_line(mode, id, kind(r), name(r), out)

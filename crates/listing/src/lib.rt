@@ -5,10 +5,10 @@ mod body;
 mod line;
 
 ghost use Rattle.std.specs.Prelude.{◌≡◌, ◌<◌, length};
-ghost use Rattle.parts.specs.Promise.{Accepted, schemaOf};
+ghost use Rattle.parts.specs.Promise.{Accepted, schema_of};
 ghost use Rattle.text.specs.Text.{Space, Puts};
-ghost use Rattle.verdicts.specs.Verdicts.{verdictIs};
-ghost use Rattle.listing.specs.Listing.{entryIn, listing, outcome, Wrote};
+ghost use Rattle.verdicts.specs.Verdicts.{verdict_is};
+ghost use Rattle.listing.specs.Listing.{entry_in, listing, outcome, Wrote};
 
 use crate::body::put_entry;
 use parts::entries::entry_count;
@@ -21,8 +21,8 @@ use verdicts::Verdict;
 
 // The line of an entry, after the lines before it; nothing for an empty entry.
 fn put_one(mode: Mode, image: &[u8], out: &mut [u8], at: usize, id: usize) -> usize
-    requires { Accepted image.now × (id < length (schemaOf image.now).registry) × Space mode out.old at (length (entryIn image.now id)) }
-    ensures { Puts mode out.old at (entryIn image.now id) result out.new }
+    requires { Accepted image.now × (id < length (schema_of image.now).registry) × Space mode out.old at (length (entry_in image.now id)) }
+    ensures { Puts mode out.old at (entry_in image.now id) result out.new }
 {
     let body = parts::entries::body(image, id);
     let count = body.count;
@@ -38,8 +38,8 @@ fn put_one(mode: Mode, image: &[u8], out: &mut [u8], at: usize, id: usize) -> us
 
 // The listing of an accepted image.
 fn put_listing(mode: Mode, image: &[u8], out: &mut [u8]) -> usize
-    requires { Accepted image.now × Space mode out.old 0 (length (listing (schemaOf image.now))) }
-    ensures { Puts mode out.old 0 (listing (schemaOf image.now)) result out.new }
+    requires { Accepted image.now × Space mode out.old 0 (length (listing (schema_of image.now))) }
+    ensures { Puts mode out.old 0 (listing (schema_of image.now)) result out.new }
 {
     let n = entry_count(image);
     let mut id: usize = 0;
@@ -54,7 +54,7 @@ fn put_listing(mode: Mode, image: &[u8], out: &mut [u8]) -> usize
 // 12, or the listing's length. Nothing is written.
 fn measured(image: &[u8], room: usize) -> Verdict
     requires { Accepted image.now }
-    ensures { result ≡ verdictIs (outcome image.now room) }
+    ensures { result ≡ verdict_is (outcome image.now room) }
 {
     let mut none = [0u8; 1];
     let length = put_listing(Mode::Measure, image, &mut none);
@@ -66,7 +66,7 @@ fn measured(image: &[u8], room: usize) -> Verdict
 
 // What is said of an image and a buffer of so many bytes.
 pub fn checked(image: &[u8], room: usize) -> Verdict
-    ensures { result ≡ verdictIs (outcome image.now room) }
+    ensures { result ≡ verdict_is (outcome image.now room) }
 {
     match read_image(image) {
         Acceptance::Accepted => measured(image, room),

@@ -13,10 +13,10 @@ use Rattle.maps.specs.Reordered.{Reordered, Once}
 use Rattle.maps.specs.Lists.{All}
 use Rattle.maps.specs.Walk.{Rising, seen, latest}
 use Rattle.maps.proofs.Lists.{all_map}
-use Rattle.maps.proofs.Orders.{same_self, same-eq}
-use Rattle.maps.proofs.Survivors.{all-survivors, all_lookup, lookup_key, lookup-after, rising}
-use Rattle.maps.proofs.Searches.{lookup-latest, seen_here}
-use Rattle.maps.proofs.Reorderings.{In, all_listed, once-one, became, was}
+use Rattle.maps.proofs.Orders.{same_self, same_eq}
+use Rattle.maps.proofs.Survivors.{all_survivors, all_lookup, lookup_key, lookup_after, rising}
+use Rattle.maps.proofs.Searches.{lookup_latest, seen_here}
+use Rattle.maps.proofs.Reorderings.{In, all_listed, once_one, became, was}
 
 -- ---- entries alike, one by one
 
@@ -39,10 +39,10 @@ module _ {K E : Type 0} {lt : K → K → Bool} (key : E → K) (S : Strict K lt
   -- ---- what stands
 
   -- what is listed is found
-  latest-found : (l : List E) (e : E) → In e l → latest key lt (key e) l ≡ none → ⊥
+  latest_found : (l : List E) (e : E) → In e l → latest key lt (key e) l ≡ none → ⊥
   unfolding latest or_else
-  latest-found [] e i = elim i [ ]
-  latest-found (f ∷ l) e i = go (latest key lt (key e) l) refl i (latest-found l e)
+  latest_found [] e i = elim i [ ]
+  latest_found (f ∷ l) e i = go (latest key lt (key e) l) refl i (latest_found l e)
     where
       go : (o : Option E) → latest key lt (key e) l ≡ o → In e (f ∷ l) → (In e l → latest key lt (key e) l ≡ none → ⊥)
           → or_else o (seen key lt (key e) none f) ≡ none → ⊥
@@ -51,22 +51,22 @@ module _ {K E : Type 0} {lt : K → K → Bool} (key : E → K) (S : Strict K lt
           some-ne-none f (sym (seen_here key lt (key e) none f (rw (← ap key h) (same_self S (key e)))) ∙ q)
       go none p (Memᴰ.tail j) ih q = ih j p
 
-  pub lookup-found : (l : List E) (e : E) → In e l → lookup key lt (key e) (survivors key lt l) ≡ none → ⊥
-  lookup-found l e i p = latest-found l e i (sym (lookup-latest key S (key e) l) ∙ p)
+  pub lookup_found : (l : List E) (e : E) → In e l → lookup key lt (key e) (survivors key lt l) ≡ none → ⊥
+  lookup_found l e i p = latest_found l e i (sym (lookup_latest key S (key e) l) ∙ p)
 
   -- what is found was listed
-  lookup-listed : (k : K) (l : List E) (e : E) → lookup key lt k (survivors key lt l) ≡ some e → In e l
-  lookup-listed k l e p =
-      all_lookup key lt (λ f. In f l) k (survivors key lt l) e (all-survivors key lt (λ f. In f l) l (all_listed l)) p
+  lookup_listed : (k : K) (l : List E) (e : E) → lookup key lt k (survivors key lt l) ≡ some e → In e l
+  lookup_listed k l e p =
+      all_lookup key lt (λ f. In f l) k (survivors key lt l) e (all_survivors key lt (λ f. In f l) l (all_listed l)) p
 
   module _ (R : E → E → Type 0) (respects : (e f : E) → R e f → key e ≡ key f) where
     -- a rising map is determined by what is found in it
-    alike-found : (m n : List E) → Rising key lt m → Rising key lt n → ((k : K) → Both R (lookup key lt k m) (lookup key lt k n)) → Forall₂ R m n
+    alike_found : (m n : List E) → Rising key lt m → Rising key lt n → ((k : K) → Both R (lookup key lt k m) (lookup key lt k n)) → Forall₂ R m n
     unfolding lookup Rising All
-    alike-found [] [] M N h = Forall₂.nil
-    alike-found [] (f ∷ n) M N h = not_left (rw (same_self S (key f)) at (h (key f)))
-    alike-found (e ∷ m) [] M N h = not_right (rw (same_self S (key e)) at (h (key e)))
-    alike-found (e ∷ m) (f ∷ n) M N h = go (lt (key e) (key f)) (lt (key f) (key e)) refl refl (alike-found m n M.1 N.1)
+    alike_found [] [] M N h = Forall₂.nil
+    alike_found [] (f ∷ n) M N h = not_left (rw (same_self S (key f)) at (h (key f)))
+    alike_found (e ∷ m) [] M N h = not_right (rw (same_self S (key e)) at (h (key e)))
+    alike_found (e ∷ m) (f ∷ n) M N h = go (lt (key e) (key f)) (lt (key f) (key e)) refl refl (alike_found m n M.1 N.1)
       where
         own : (g : E) (l : List E) → lookup key lt (key g) (g ∷ l) ≡ some g
         own g l = rw (same_self S (key g))
@@ -74,8 +74,8 @@ module _ {K E : Type 0} {lt : K → K → Bool} (key : E → K) (S : Strict K lt
         -- the tails, where the heads have one key
         tail : key e ≡ key f → (k : K) (t : Bool) → same lt k (key e) ≡ t → Both R (lookup key lt k m) (lookup key lt k n)
         tail q k true p =
-            let a : lookup key lt k m ≡ none = rw (same-eq S k (key e) p) (lookup-after key S (key e) m M.0) in
-            let b : lookup key lt k n ≡ none = rw (same-eq S k (key e) p ∙ q) (lookup-after key S (key f) n N.0) in
+            let a : lookup key lt k m ≡ none = rw (same_eq S k (key e) p) (lookup_after key S (key e) m M.0) in
+            let b : lookup key lt k n ≡ none = rw (same_eq S k (key e) p ∙ q) (lookup_after key S (key f) n N.0) in
             rw (a, b) neither
         tail q k false p =
             let a : lookup key lt k (e ∷ m) ≡ lookup key lt k m = rw p in
@@ -86,11 +86,11 @@ module _ {K E : Type 0} {lt : K → K → Bool} (key : E → K) (S : Strict K lt
             → (((k : K) → Both R (lookup key lt k m) (lookup key lt k n)) → Forall₂ R m n) → Forall₂ R (e ∷ m) (f ∷ n)
         go true v p q ih =
             let a : lookup key lt (key e) (f ∷ n) ≡ none =
-            lookup-after key S (key e) (f ∷ n) (p, all_map (λ g r. S.trans (key e) (key f) (key g) p r) n N.0) in
+            lookup_after key S (key e) (f ∷ n) (p, all_map (λ g r. S.trans (key e) (key f) (key g) p r) n N.0) in
             not_right (rw (own e m, a) at (h (key e)))
         go false true p q ih =
             let a : lookup key lt (key f) (e ∷ m) ≡ none =
-            lookup-after key S (key f) (e ∷ m) (q, all_map (λ g r. S.trans (key f) (key e) (key g) q r) m M.0) in
+            lookup_after key S (key f) (e ∷ m) (q, all_map (λ g r. S.trans (key f) (key e) (key g) q r) m M.0) in
             not_left (rw (a, own f n) at (h (key f)))
         go false false p q ih =
             let k : key e ≡ key f = S.total (key e) (key f) p q in
@@ -98,9 +98,9 @@ module _ {K E : Type 0} {lt : K → K → Bool} (key : E → K) (S : Strict K lt
             Forall₂.cons (held (rw (own e m, b) at (h (key e)))) (ih (λ j. tail k j (same lt j (key e)) refl))
 
     -- Each entry of a list, and each other under its key, became by R one of another list, and all of those were some.
-    pub survivors-alike : (l m : List E) → Reordered R l m → ((e d : E) → In e l → In d l → key e ≡ key d → (f : E) → R d f → R e f)
+    pub survivors_alike : (l m : List E) → Reordered R l m → ((e d : E) → In e l → In d l → key e ≡ key d → (f : E) → R d f → R e f)
         → Forall₂ R (survivors key lt l) (survivors key lt m)
-    survivors-alike l m w agree = alike-found (survivors key lt l) (survivors key lt m) (rising key S l) (rising key S m) found
+    survivors_alike l m w agree = alike_found (survivors key lt l) (survivors key lt m) (rising key S l) (rising key S m) found
       where
         found : (k : K) → Both R (lookup key lt k (survivors key lt l)) (lookup key lt k (survivors key lt m))
         found k = go (lookup key lt k (survivors key lt l)) (lookup key lt k (survivors key lt m)) refl refl
@@ -108,28 +108,28 @@ module _ {K E : Type 0} {lt : K → K → Bool} (key : E → K) (S : Strict K lt
             go : (o p : Option E) → lookup key lt k (survivors key lt l) ≡ o → lookup key lt k (survivors key lt m) ≡ p → Both R o p
             go none none p q = neither
             go (some e) none p q =
-                let b = became w (lookup-listed k l e p) in
+                let b = became w (lookup_listed k l e p) in
                 let i : key b.0 ≡ k = sym (respects e b.0 b.2) ∙ lookup_key key S k (survivors key lt l) e p in
-                absurd (lookup-found m b.0 b.1 (ap (λ j. lookup key lt j (survivors key lt m)) i ∙ q))
+                absurd (lookup_found m b.0 b.1 (ap (λ j. lookup key lt j (survivors key lt m)) i ∙ q))
             go none (some f) p q =
-                let a = was w (lookup-listed k m f q) in
+                let a = was w (lookup_listed k m f q) in
                 let i : key a.0 ≡ k = respects a.0 f a.2 ∙ lookup_key key S k (survivors key lt m) f q in
-                absurd (lookup-found l a.0 a.1 (ap (λ j. lookup key lt j (survivors key lt l)) i ∙ p))
+                absurd (lookup_found l a.0 a.1 (ap (λ j. lookup key lt j (survivors key lt l)) i ∙ p))
             go (some e) (some f) p q =
-                let a = was w (lookup-listed k m f q) in
+                let a = was w (lookup_listed k m f q) in
                 let i : key e ≡ key a.0 =
                 lookup_key key S k (survivors key lt l) e p
                 ∙ sym (respects a.0 f a.2 ∙ lookup_key key S k (survivors key lt m) f q) in
-                these (agree e a.0 (lookup-listed k l e p) a.1 i f a.2)
+                these (agree e a.0 (lookup_listed k l e p) a.1 i f a.2)
 
     -- the same where no two entries have one key
-    pub survivors-once : (l m : List E) → Once key l → Reordered R l m → Forall₂ R (survivors key lt l) (survivors key lt m)
-    survivors-once l m h w = survivors-alike l m w (λ e d i j k f r. subst (λ x. R x f) (sym (once-one key h i j k)) r)
+    pub survivors_once : (l m : List E) → Once key l → Reordered R l m → Forall₂ R (survivors key lt l) (survivors key lt m)
+    survivors_once l m h w = survivors_alike l m w (λ e d i j k f r. subst (λ x. R x f) (sym (once_one key h i j k)) r)
 
   -- two rising maps in which the same is found are one
-  pub same-found : (m n : List E) → Rising key lt m → Rising key lt n → ((k : K) → lookup key lt k m ≡ lookup key lt k n) → m ≡ n
-  same-found m n M N h =
-      equal (alike-found (λ e f. e ≡ f) (λ e f p. ap key p) m n M N (λ k. subst (Both (λ e f. e ≡ f) (lookup key lt k m)) (h k) (self (lookup key lt k m))))
+  pub same_found : (m n : List E) → Rising key lt m → Rising key lt n → ((k : K) → lookup key lt k m ≡ lookup key lt k n) → m ≡ n
+  same_found m n M N h =
+      equal (alike_found (λ e f. e ≡ f) (λ e f p. ap key p) m n M N (λ k. subst (Both (λ e f. e ≡ f) (lookup key lt k m)) (h k) (self (lookup key lt k m))))
     where
       self : (o : Option E) → Both (λ e f. e ≡ f) o o
       self none = neither
@@ -142,50 +142,50 @@ module _ {K E : Type 0} {lt : K → K → Bool} (key : E → K) (S : Strict K lt
 -- ---- like maps compared
 
 module _ {K E : Type 0} (key : E → K) (lt : K → K → Bool) where
-  pub lookup-alike : {Q : E → E → Type 0} {n n' : List E} → ((e f : E) → Q e f → key e ≡ key f) → (k : K) → Forall₂ Q n n'
+  pub lookup_alike : {Q : E → E → Type 0} {n n' : List E} → ((e f : E) → Q e f → key e ≡ key f) → (k : K) → Forall₂ Q n n'
       → Both Q (lookup key lt k n) (lookup key lt k n')
   unfolding lookup
-  lookup-alike respects k Forall₂.nil = neither
-  lookup-alike {Q = Q} respects k (Forall₂.cons {a = e} {b = f} {l₁ = l} {l₂ = m} r w) =
-      rw (← respects e f r) (go (same lt k (key e)) (lookup-alike respects k w))
+  lookup_alike respects k Forall₂.nil = neither
+  lookup_alike {Q = Q} respects k (Forall₂.cons {a = e} {b = f} {l₁ = l} {l₂ = m} r w) =
+      rw (← respects e f r) (go (same lt k (key e)) (lookup_alike respects k w))
     where
       go : (u : Bool) → Both Q (lookup key lt k l) (lookup key lt k m) → Both Q (cond u (some e) (lookup key lt k l)) (cond u (some f) (lookup key lt k m))
       go true ih = these r
       go false ih = ih
 
-  module _ {P Q : E → E → Type 0} (respects-first : (e f : E) → P e f → key e ≡ key f) (respects-second : (e f : E) → Q e f → key e ≡ key f) where
-    between-alike : {C : Type 0} (g h : Option E → Option E → List C)
+  module _ {P Q : E → E → Type 0} (respects_first : (e f : E) → P e f → key e ≡ key f) (respects_second : (e f : E) → Q e f → key e ≡ key f) where
+    between_alike : {C : Type 0} (g h : Option E → Option E → List C)
         → ((e f : E) (o p : Option E) → P e f → Both Q o p → g (some e) o ≡ h (some f) p)
         → {m m' n n' : List E} → Forall₂ P m m' → Forall₂ Q n n' → between key lt g m n ≡ between key lt h m' n'
     unfolding between flat_map
-    between-alike g h s Forall₂.nil v = refl
-    between-alike g h s {n = n} {n' = n'} (Forall₂.cons {a = e} {b = f} {l₁ = l} {l₂ = m} r w) v =
+    between_alike g h s Forall₂.nil v = refl
+    between_alike g h s {n = n} {n' = n'} (Forall₂.cons {a = e} {b = f} {l₁ = l} {l₂ = m} r w) v =
         let a : g (some e) (lookup key lt (key e) n) ≡ h (some f) (lookup key lt (key f) n') =
-        s e f _ _ r (rw (respects-first e f r) (lookup-alike respects-second (key f) v)) in
-        rw (a, between-alike g h s w v)
+        s e f _ _ r (rw (respects_first e f r) (lookup_alike respects_second (key f) v)) in
+        rw (a, between_alike g h s w v)
 
 -- Two comparisons, each with its rules.
-pub compare_alike : {K E C : Type 0} (key : E → K) (lt : K → K → Bool) {P Q : E → E → Type 0}
+pub compare_alike_lem : {K E C : Type 0} (key : E → K) (lt : K → K → Bool) {P Q : E → E → Type 0}
     → ((e f : E) → P e f → key e ≡ key f) → ((e f : E) → Q e f → key e ≡ key f) → (r s : Rules E C)
     → ((e f : E) → P e f → r.gone e ≡ s.gone f) → ((e f : E) → Q e f → r.came e ≡ s.came f)
     → ((d e f g : E) → P d e → Q f g → r.kept d f ≡ s.kept e g)
     → {m m' n n' : List E} → Forall₂ P m m' → Forall₂ Q n n' → compare key lt r m n ≡ compare key lt s m' n'
 unfolding compare unmatched matched
-compare_alike {E = E} key lt {P} {Q} p q r s gone came kept v w =
+compare_alike_lem {E = E} key lt {P} {Q} p q r s gone came kept v w =
     cc (
-      between-alike key lt p q (unmatched r.gone) (unmatched s.gone) gone-too v w,
-      between-alike key lt q p (unmatched r.came) (unmatched s.came) came-too w v,
-      between-alike key lt p q (matched r.kept) (matched s.kept) kept-too v w,
+      between_alike key lt p q (unmatched r.gone) (unmatched s.gone) gone_too v w,
+      between_alike key lt q p (unmatched r.came) (unmatched s.came) came_too w v,
+      between_alike key lt p q (matched r.kept) (matched s.kept) kept_too v w,
     )
   where
-    gone-too : (e f : E) (o u : Option E) → P e f → Both Q o u → unmatched r.gone (some e) o ≡ unmatched s.gone (some f) u
-    gone-too e f o u a neither = gone e f a
-    gone-too e f o u a (these b) = refl
+    gone_too : (e f : E) (o u : Option E) → P e f → Both Q o u → unmatched r.gone (some e) o ≡ unmatched s.gone (some f) u
+    gone_too e f o u a neither = gone e f a
+    gone_too e f o u a (these b) = refl
 
-    came-too : (e f : E) (o u : Option E) → Q e f → Both P o u → unmatched r.came (some e) o ≡ unmatched s.came (some f) u
-    came-too e f o u a neither = came e f a
-    came-too e f o u a (these b) = refl
+    came_too : (e f : E) (o u : Option E) → Q e f → Both P o u → unmatched r.came (some e) o ≡ unmatched s.came (some f) u
+    came_too e f o u a neither = came e f a
+    came_too e f o u a (these b) = refl
 
-    kept-too : (e f : E) (o u : Option E) → P e f → Both Q o u → matched r.kept (some e) o ≡ matched s.kept (some f) u
-    kept-too e f o u a neither = refl
-    kept-too e f o u a (these {e = d} {f = g} b) = kept e f d g a b
+    kept_too : (e f : E) (o u : Option E) → P e f → Both Q o u → matched r.kept (some e) o ≡ matched s.kept (some f) u
+    kept_too e f o u a neither = refl
+    kept_too e f o u a (these {e = d} {f = g} b) = kept e f d g a b

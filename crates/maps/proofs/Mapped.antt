@@ -9,24 +9,24 @@ use Rattle.maps.specs.Lists.{pass}
 use Rattle.maps.specs.Orders.{same}
 use Rattle.maps.specs.Keyed.{insert, survivors, lookup}
 use Rattle.maps.specs.Compare.{Rules, compare}
-use Rattle.maps.proofs.Lists.{pass-view}
-use Rattle.maps.proofs.Alike.{compare_alike}
+use Rattle.maps.proofs.Lists.{pass_view}
+use Rattle.maps.proofs.Alike.{compare_alike_lem}
 
 -- a pass by steps that give the same
-pub pass-same : {S A : Type 0} (step step' : S → A → S) → ((s : S) (a : A) → step s a ≡ step' s a) → (s : S) (l : List A)
+pub pass_same : {S A : Type 0} (step step' : S → A → S) → ((s : S) (a : A) → step s a ≡ step' s a) → (s : S) (l : List A)
     → pass step s l ≡ pass step' s l
-pass-same step step' e s l = pass-view step step' (λ t. t) e s l
+pass_same step step' e s l = pass_view step step' (λ t. t) e s l
 
-pub pass-map : {S A B : Type 0} (step : S → B → S) (g : A → B) (s : S) (l : List A) → pass step s (map g l) ≡ pass (λ t a. step t (g a)) s l
+pub pass_map : {S A B : Type 0} (step : S → B → S) (g : A → B) (s : S) (l : List A) → pass step s (map g l) ≡ pass (λ t a. step t (g a)) s l
 unfolding pass
-pass-map step g s [] = refl
-pass-map step g s (a ∷ l) = pass-map step g (step s (g a)) l
+pass_map step g s [] = refl
+pass_map step g s (a ∷ l) = pass_map step g (step s (g a)) l
 
 module _ {K E : Type 0} (key : E → K) (lt : K → K → Bool) (g : E → E) (keeps : (e : E) → key (g e) ≡ key e) where
-  insert-map : (m : List E) (e : E) → map g (insert key lt m e) ≡ insert key lt (map g m) (g e)
+  insert_map : (m : List E) (e : E) → map g (insert key lt m e) ≡ insert key lt (map g m) (g e)
   unfolding insert
-  insert-map [] e = refl
-  insert-map (f ∷ m) e = rw (keeps e, keeps f) (go (lt (key e) (key f)) (lt (key f) (key e)) (insert-map m e))
+  insert_map [] e = refl
+  insert_map (f ∷ m) e = rw (keeps e, keeps f) (go (lt (key e) (key f)) (lt (key f) (key e)) (insert_map m e))
     where
       go : (u v : Bool) → map g (insert key lt m e) ≡ insert key lt (map g m) (g e)
           → map g (cond u (e ∷ f ∷ m) (cond v (f ∷ insert key lt m e) (e ∷ m)))
@@ -35,15 +35,15 @@ module _ {K E : Type 0} (key : E → K) (lt : K → K → Bool) (g : E → E) (k
       go false true ih = ap (λ l. g f ∷ l) ih
       go false false ih = refl
 
-  pub survivors-map : (l : List E) → survivors key lt (map g l) ≡ map g (survivors key lt l)
+  pub survivors_map : (l : List E) → survivors key lt (map g l) ≡ map g (survivors key lt l)
   unfolding survivors
-  survivors-map l =
-      pass-map (insert key lt) g [] l ∙ sym (pass-view (insert key lt) (λ m e. insert key lt m (g e)) (map g) insert-map [] l)
+  survivors_map l =
+      pass_map (insert key lt) g [] l ∙ sym (pass_view (insert key lt) (λ m e. insert key lt m (g e)) (map g) insert_map [] l)
 
-  pub lookup-map : (k : K) (m : List E) → lookup key lt k (map g m) ≡ map_option g (lookup key lt k m)
+  pub lookup_map : (k : K) (m : List E) → lookup key lt k (map g m) ≡ map_option g (lookup key lt k m)
   unfolding lookup
-  lookup-map k [] = refl
-  lookup-map k (e ∷ m) = rw (keeps e) (go (same lt k (key e)) (lookup-map k m))
+  lookup_map k [] = refl
+  lookup_map k (e ∷ m) = rw (keeps e) (go (same lt k (key e)) (lookup_map k m))
     where
       go : (u : Bool) → lookup key lt k (map g m) ≡ map_option g (lookup key lt k m)
           → cond u (some (g e)) (lookup key lt k (map g m)) ≡ map_option g (cond u (some e) (lookup key lt k m))
@@ -56,15 +56,15 @@ module _ {K E : Type 0} (key : E → K) (lt : K → K → Bool) (g : E → E) (k
   became_each (e ∷ l) = Forall₂.cons refl (became_each l)
 
   -- by rules that give of what entries became what others give of the entries
-  pub compare-map : {C : Type 0} (r s : Rules E C) → ((e : E) → r.gone (g e) ≡ s.gone e) → ((e : E) → r.came (g e) ≡ s.came e)
+  pub compare_map : {C : Type 0} (r s : Rules E C) → ((e : E) → r.gone (g e) ≡ s.gone e) → ((e : E) → r.came (g e) ≡ s.came e)
       → ((e f : E) → r.kept (g e) (g f) ≡ s.kept e f) → (m n : List E) → compare key lt r (map g m) (map g n) ≡ compare key lt s m n
-  compare-map r s gone came kept m n =
-      compare_alike key lt {P = λ e f. e ≡ g f} {Q = λ e f. e ≡ g f} (λ e f p. ap key p ∙ keeps f) (λ e f p. ap key p ∙ keeps f) r s
+  compare_map r s gone came kept m n =
+      compare_alike_lem key lt {P = λ e f. e ≡ g f} {Q = λ e f. e ≡ g f} (λ e f p. ap key p ∙ keeps f) (λ e f p. ap key p ∙ keeps f) r s
       (λ e f p. ap r.gone p ∙ gone f) (λ e f p. ap r.came p ∙ came f)
       (λ d e f h p q. ap (λ x. r.kept x f) p ∙ ap (r.kept (g e)) q ∙ kept e h) (became_each m) (became_each n)
 
 -- by rules that give the same
-pub compare-rules : {K E C : Type 0} (key : E → K) (lt : K → K → Bool) (r s : Rules E C) → ((e : E) → r.gone e ≡ s.gone e)
+pub compare_rules : {K E C : Type 0} (key : E → K) (lt : K → K → Bool) (r s : Rules E C) → ((e : E) → r.gone e ≡ s.gone e)
     → ((e : E) → r.came e ≡ s.came e) → ((e f : E) → r.kept e f ≡ s.kept e f) → (m n : List E) → compare key lt r m n ≡ compare key lt s m n
-compare-rules {E = E} key lt r s gone came kept m n =
-    let h = compare-map key lt (λ (e : E). e) (λ e. refl) r s gone came kept m n in rw (map-id m, map-id n) at h
+compare_rules {E = E} key lt r s gone came kept m n =
+    let h = compare_map key lt (λ (e : E). e) (λ e. refl) r s gone came kept m n in rw (map-id m, map-id n) at h

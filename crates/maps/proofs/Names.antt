@@ -11,19 +11,19 @@ use borrow.Author.Tests.{lt-ltb, le-ltb, ltb-true, ltb-false}
 use lib.Dec.{ltb}
 use lib.ListN.{length, get_or, drop, drop_of_length-le}
 use lib.Seq.{drop-cons}
-use Rattle.maps.specs.Orders.{Strict, same, orderOf, isLess, before}
+use Rattle.maps.specs.Orders.{Strict, same, order_of, is_less, before}
 use Rattle.maps.specs.declared.Order.{Order}
 use Rattle.maps.specs.declared.Order.TheVariants.{Less, Same, Greater}
 use Rattle.maps.proofs.Tests.{no_both}
 use Rattle.maps.proofs.Orders.{ne_same}
 
 irrefl : (a : List ℕ) → before a a ≡ false
-unfolding before orderOf
+unfolding before order_of
 irrefl [] = refl
 irrefl (x ∷ xs) = rw (le-ltb x x (omega arith)) (irrefl xs)
 
 trans : (a b c : List ℕ) → before a b ≡ true → before b c ≡ true → before a c ≡ true
-unfolding before orderOf
+unfolding before order_of
 trans [] [] c p q = no_both refl (sym p)
 trans [] (y ∷ b) [] p q = no_both refl (sym q)
 trans [] (y ∷ b) (z ∷ c) p q = refl
@@ -32,9 +32,9 @@ trans (x ∷ a) (y ∷ b) [] p q = no_both refl (sym q)
 trans (x ∷ a) (y ∷ b) (z ∷ c) p q = go (ltb x y) (ltb y x) (ltb y z) (ltb z y) refl refl refl refl p q (trans a b c)
   where
     go : (u v s w : Bool) → ltb x y ≡ u → ltb y x ≡ v → ltb y z ≡ s → ltb z y ≡ w
-        → isLess (cond u Less (cond v Greater (orderOf a b))) ≡ true → isLess (cond s Less (cond w Greater (orderOf b c))) ≡ true
+        → is_less (cond u Less (cond v Greater (order_of a b))) ≡ true → is_less (cond s Less (cond w Greater (order_of b c))) ≡ true
         → (before a b ≡ true → before b c ≡ true → before a c ≡ true)
-        → isLess (cond (ltb x z) Less (cond (ltb z x) Greater (orderOf a c))) ≡ true
+        → is_less (cond (ltb x z) Less (cond (ltb z x) Greater (order_of a c))) ≡ true
     go true v true w pu pv ps pw p q ih = rw (lt-ltb x z (omega (arith, ltb-true x y pu, ltb-true y z ps)))
     go true v false true pu pv ps pw p q ih = no_both refl (sym q)
     go true v false false pu pv ps pw p q ih = rw (lt-ltb x z (omega (arith, ltb-true x y pu, ltb-false z y pw)))
@@ -46,22 +46,22 @@ trans (x ∷ a) (y ∷ b) (z ∷ c) p q = go (ltb x y) (ltb y x) (ltb y z) (ltb 
         rw (le-ltb x z (omega arith), le-ltb z x (omega arith)) (ih p q)
 
 total : (a b : List ℕ) → before a b ≡ false → before b a ≡ false → a ≡ b
-unfolding before orderOf
+unfolding before order_of
 total [] [] p q = refl
 total [] (y ∷ b) p q = no_both refl p
 total (x ∷ a) [] p q = no_both refl q
 total (x ∷ a) (y ∷ b) p q = go (ltb x y) (ltb y x) refl refl p q (total a b)
   where
-    go : (u v : Bool) → ltb x y ≡ u → ltb y x ≡ v → isLess (cond u Less (cond v Greater (orderOf a b))) ≡ false
-        → isLess (cond v Less (cond u Greater (orderOf b a))) ≡ false → (before a b ≡ false → before b a ≡ false → a ≡ b) → ◌≡◌ {A = List ℕ} (x ∷ a) (y ∷ b)
+    go : (u v : Bool) → ltb x y ≡ u → ltb y x ≡ v → is_less (cond u Less (cond v Greater (order_of a b))) ≡ false
+        → is_less (cond v Less (cond u Greater (order_of b a))) ≡ false → (before a b ≡ false → before b a ≡ false → a ≡ b) → ◌≡◌ {A = List ℕ} (x ∷ a) (y ∷ b)
     go true v pu pv p q ih = no_both refl p
     go false true pu pv p q ih = no_both refl q
     go false false pu pv p q ih =
         let e : x ≡ y = le_antisymm (ltb-false y x pv) (ltb-false x y pu) in
         rw (e, ih p q)
 
-pub byName : Strict (List ℕ) before
-byName = record { irrefl = irrefl; trans = trans; total = total }
+pub by_name : Strict (List ℕ) before
+by_name = record { irrefl = irrefl; trans = trans; total = total }
 
 -- ---- the order as an answer
 
@@ -71,77 +71,77 @@ flip Less = Greater
 flip Same = Same
 flip Greater = Less
 
-flipped : (a b : List ℕ) → orderOf b a ≡ flip (orderOf a b)
-unfolding orderOf flip
+flipped : (a b : List ℕ) → order_of b a ≡ flip (order_of a b)
+unfolding order_of flip
 flipped [] [] = refl
 flipped [] (y ∷ b) = refl
 flipped (x ∷ a) [] = refl
 flipped (x ∷ a) (y ∷ b) = go (ltb x y) (ltb y x) refl refl (flipped a b)
   where
-    go : (u v : Bool) → ltb x y ≡ u → ltb y x ≡ v → orderOf b a ≡ flip (orderOf a b)
-        → cond v Less (cond u Greater (orderOf b a)) ≡ flip (cond u Less (cond v Greater (orderOf a b)))
+    go : (u v : Bool) → ltb x y ≡ u → ltb y x ≡ v → order_of b a ≡ flip (order_of a b)
+        → cond v Less (cond u Greater (order_of b a)) ≡ flip (cond u Less (cond v Greater (order_of a b)))
     go true true pu pv ih = absurd (omega (arith, ltb-true x y pu, ltb-true y x pv))
     go true false pu pv ih = refl
     go false true pu pv ih = refl
     go false false pu pv ih = ih
 
-abbrev pub isSame : Order → Bool
-isSame Less = false
-isSame Same = true
-isSame Greater = false
+abbrev pub is_same : Order → Bool
+is_same Less = false
+is_same Same = true
+is_same Greater = false
 
 -- what an answer says of two names
-module _ (a b : List ℕ) {o : Order} (e : orderOf a b ≡ o) where
-  pub before-told : before a b ≡ isLess o
+module _ (a b : List ℕ) {o : Order} (e : order_of a b ≡ o) where
+  pub before_told : before a b ≡ is_less o
   unfolding before
-  before-told = ap isLess e
+  before_told = ap is_less e
 
-  pub same-told : same before a b ≡ isSame o
+  pub same_told : same before a b ≡ is_same o
   unfolding before same flip
-  same-told = rw (flipped a b, e) (go o)
+  same_told = rw (flipped a b, e) (go o)
     where
-      go : (x : Order) → (not (isLess x) && not (isLess (flip x))) ≡ isSame x
+      go : (x : Order) → (not (is_less x) && not (is_less (flip x))) ≡ is_same x
       go Less = refl
       go Same = refl
       go Greater = refl
 
 -- ---- a loop over two names: they agree as far as i
 
-module _ (a b : List ℕ) (i : ℕ) (p : orderOf a b ≡ orderOf (drop i a) (drop i b)) where
-  pub ends_same : length a ≤ i → length b ≤ i → Same ≡ orderOf a b
-  unfolding orderOf
+module _ (a b : List ℕ) (i : ℕ) (p : order_of a b ≡ order_of (drop i a) (drop i b)) where
+  pub ends_same : length a ≤ i → length b ≤ i → Same ≡ order_of a b
+  unfolding order_of
   ends_same h k = sym (p ∙ rw (drop_of_length-le a h, drop_of_length-le b k))
 
-  pub ends-less : length a ≤ i → i < length b → Less ≡ orderOf a b
-  unfolding orderOf
-  ends-less h k = sym (p ∙ rw (drop_of_length-le a h, drop-cons b i 0 k))
+  pub ends_less : length a ≤ i → i < length b → Less ≡ order_of a b
+  unfolding order_of
+  ends_less h k = sym (p ∙ rw (drop_of_length-le a h, drop-cons b i 0 k))
 
-  pub ends-greater : i < length a → length b ≤ i → Greater ≡ orderOf a b
-  unfolding orderOf
-  ends-greater h k = sym (p ∙ rw (drop_of_length-le b k, drop-cons a i 0 h))
+  pub ends_greater : i < length a → length b ≤ i → Greater ≡ order_of a b
+  unfolding order_of
+  ends_greater h k = sym (p ∙ rw (drop_of_length-le b k, drop-cons a i 0 h))
 
   -- a byte of each
   module _ (h : i < length a) (k : i < length b) where
-    turns : orderOf a b
-        ≡ cond (ltb (get_or a i 0) (get_or b i 0)) Less (cond (ltb (get_or b i 0) (get_or a i 0)) Greater (orderOf (drop (suc i) a) (drop (suc i) b)))
-    unfolding orderOf
+    turns : order_of a b
+        ≡ cond (ltb (get_or a i 0) (get_or b i 0)) Less (cond (ltb (get_or b i 0) (get_or a i 0)) Greater (order_of (drop (suc i) a) (drop (suc i) b)))
+    unfolding order_of
     turns = p ∙ rw (drop-cons a i 0 h, drop-cons b i 0 k)
 
-    pub finds-less : get_or a i 0 < get_or b i 0 → Less ≡ orderOf a b
-    finds-less l = sym (turns ∙ rw (lt-ltb _ _ l))
+    pub finds_less : get_or a i 0 < get_or b i 0 → Less ≡ order_of a b
+    finds_less l = sym (turns ∙ rw (lt-ltb _ _ l))
 
-    pub finds-greater : get_or b i 0 < get_or a i 0 → Greater ≡ orderOf a b
-    finds-greater l = sym (turns ∙ rw (lt-ltb _ _ l, le-ltb (get_or a i 0) (get_or b i 0) (omega arith)))
+    pub finds_greater : get_or b i 0 < get_or a i 0 → Greater ≡ order_of a b
+    finds_greater l = sym (turns ∙ rw (lt-ltb _ _ l, le-ltb (get_or a i 0) (get_or b i 0) (omega arith)))
 
-    pub goes_on : get_or a i 0 ≡ get_or b i 0 → orderOf a b ≡ orderOf (drop (i + 1) a) (drop (i + 1) b)
+    pub goes_on : get_or a i 0 ≡ get_or b i 0 → order_of a b ≡ order_of (drop (i + 1) a) (drop (i + 1) b)
     goes_on e = turns ∙ rw (e, le-ltb (get_or b i 0) (get_or b i 0) (omega arith), add-one)
 
-    pub finds-other : (get_or a i 0 ≡ get_or b i 0 → ⊥) → same before a b ≡ false
-    finds-other n = go (ltb (get_or a i 0) (get_or b i 0)) refl
+    pub finds_other : (get_or a i 0 ≡ get_or b i 0 → ⊥) → same before a b ≡ false
+    finds_other n = go (ltb (get_or a i 0) (get_or b i 0)) refl
       where
         go : (t : Bool) → ltb (get_or a i 0) (get_or b i 0) ≡ t → same before a b ≡ false
-        go true q = same-told a b (sym (finds-less (ltb-true (get_or a i 0) (get_or b i 0) q)))
-        go false q = same-told a b (sym (finds-greater (omega (arith, ltb-false (get_or a i 0) (get_or b i 0) q))))
+        go true q = same_told a b (sym (finds_less (ltb-true (get_or a i 0) (get_or b i 0) q)))
+        go false q = same_told a b (sym (finds_greater (omega (arith, ltb-false (get_or a i 0) (get_or b i 0) q))))
 
 pub other_length : (a b : List ℕ) → (length a ≡ length b → ⊥) → same before a b ≡ false
-other_length a b n = ne_same byName a b (λ e. n (ap length e))
+other_length a b n = ne_same by_name a b (λ e. n (ap length e))

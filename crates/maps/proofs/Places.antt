@@ -10,47 +10,47 @@ use Rattle.maps.specs.Lists.{pass, All}
 use Rattle.maps.specs.Orders.{same}
 use Rattle.maps.specs.Keyed.{insert, survivors, lookup}
 use Rattle.maps.specs.Walk.{past, following}
-use Rattle.maps.proofs.Survivors.{insert-cases, all_insert, all-survivors}
+use Rattle.maps.proofs.Survivors.{insert_cases, all_insert, all_survivors}
 
 module _ {K E P : Type 0} (key : E → K) (lt : K → K → Bool) (f : P → E) (at : P → K) where
   -- the key at each place is that of the entry there
   abbrev pub Placed : List P → Type 0
   Placed ps = All (λ p. key (f p) ≡ at p) ps
 
-  insert-map : (m : List P) (p : P) → Placed m → key (f p) ≡ at p → insert key lt (map f m) (f p) ≡ map f (insert at lt m p)
+  insert_map : (m : List P) (p : P) → Placed m → key (f p) ≡ at p → insert key lt (map f m) (f p) ≡ map f (insert at lt m p)
   unfolding insert All
-  insert-map [] p h e = refl
-  insert-map (q ∷ m) p h e =
-      insert-cases at lt q m p (λ l. insert key lt (map f (q ∷ m)) (f p) ≡ map f l)
+  insert_map [] p h e = refl
+  insert_map (q ∷ m) p h e =
+      insert_cases at lt q m p (λ l. insert key lt (map f (q ∷ m)) (f p) ≡ map f l)
       (λ u. rw (e, h.0, u))
-      (λ u v. rw (e, h.0, u, v) (ap (λ (l : List E). f q ∷ l) (insert-map m p h.1 e)))
+      (λ u v. rw (e, h.0, u, v) (ap (λ (l : List E). f q ∷ l) (insert_map m p h.1 e)))
       (λ u v. rw (e, h.0, u, v))
 
-  inserts-map : (m ps : List P) → Placed m → Placed ps → pass (insert key lt) (map f m) (map f ps) ≡ map f (pass (insert at lt) m ps)
+  inserts_map : (m ps : List P) → Placed m → Placed ps → pass (insert key lt) (map f m) (map f ps) ≡ map f (pass (insert at lt) m ps)
   unfolding pass All
-  inserts-map m [] h k = refl
-  inserts-map m (p ∷ ps) h k =
-      ap (λ (l : List E). pass (insert key lt) l (map f ps)) (insert-map m p h k.0)
-      ∙ inserts-map (insert at lt m p) ps (all_insert at lt (λ q. key (f q) ≡ at q) m p h k.0) k.1
+  inserts_map m [] h k = refl
+  inserts_map m (p ∷ ps) h k =
+      ap (λ (l : List E). pass (insert key lt) l (map f ps)) (insert_map m p h k.0)
+      ∙ inserts_map (insert at lt m p) ps (all_insert at lt (λ q. key (f q) ≡ at q) m p h k.0) k.1
 
-  pub survivors-map : (ps : List P) → Placed ps → survivors key lt (map f ps) ≡ map f (survivors at lt ps)
+  pub survivors_map : (ps : List P) → Placed ps → survivors key lt (map f ps) ≡ map f (survivors at lt ps)
   unfolding survivors All
-  survivors-map ps h = inserts-map [] ps tt h
+  survivors_map ps h = inserts_map [] ps tt h
 
-  pub lookup-map : (k : K) (m : List P) → Placed m → lookup key lt k (map f m) ≡ Option.map f (lookup at lt k m)
+  pub lookup_map : (k : K) (m : List P) → Placed m → lookup key lt k (map f m) ≡ Option.map f (lookup at lt k m)
   unfolding lookup All
-  lookup-map k [] h = refl
-  lookup-map k (p ∷ m) h = rw h.0 (go (same lt k (at p)) (lookup-map k m h.1))
+  lookup_map k [] h = refl
+  lookup_map k (p ∷ m) h = rw h.0 (go (same lt k (at p)) (lookup_map k m h.1))
     where
       go : (u : Bool) → lookup key lt k (map f m) ≡ Option.map f (lookup at lt k m)
           → cond u (some (f p)) (lookup key lt k (map f m)) ≡ Option.map f (cond u (some p) (lookup at lt k m))
       go true ih = refl
       go false ih = ih
 
-  following-map : (b : Option K) (m : List P) → Placed m → following key lt b (map f m) ≡ Option.map f (following at lt b m)
+  following_map : (b : Option K) (m : List P) → Placed m → following key lt b (map f m) ≡ Option.map f (following at lt b m)
   unfolding following All
-  following-map b [] h = refl
-  following-map b (p ∷ m) h = rw h.0 (go (past lt b (at p)) (following-map b m h.1))
+  following_map b [] h = refl
+  following_map b (p ∷ m) h = rw h.0 (go (past lt b (at p)) (following_map b m h.1))
     where
       go : (u : Bool) → following key lt b (map f m) ≡ Option.map f (following at lt b m)
           → cond u (some (f p)) (following key lt b (map f m)) ≡ Option.map f (cond u (some p) (following at lt b m))
@@ -58,11 +58,11 @@ module _ {K E P : Type 0} (key : E → K) (lt : K → K → Bool) (f : P → E) 
       go false ih = ih
 
   -- the place that stands has the entry that stands
-  pub lookup-placed : (k : K) (ps : List P) → Placed ps → lookup key lt k (survivors key lt (map f ps)) ≡ Option.map f (lookup at lt k (survivors at lt ps))
-  lookup-placed k ps h =
-      ap (lookup key lt k) (survivors-map ps h) ∙ lookup-map k (survivors at lt ps) (all-survivors at lt (λ p. key (f p) ≡ at p) ps h)
+  pub lookup_placed : (k : K) (ps : List P) → Placed ps → lookup key lt k (survivors key lt (map f ps)) ≡ Option.map f (lookup at lt k (survivors at lt ps))
+  lookup_placed k ps h =
+      ap (lookup key lt k) (survivors_map ps h) ∙ lookup_map k (survivors at lt ps) (all_survivors at lt (λ p. key (f p) ≡ at p) ps h)
 
-  pub following-placed : (b : Option K) (ps : List P) → Placed ps
+  pub following_placed : (b : Option K) (ps : List P) → Placed ps
       → following key lt b (survivors key lt (map f ps)) ≡ Option.map f (following at lt b (survivors at lt ps))
-  following-placed b ps h =
-      ap (following key lt b) (survivors-map ps h) ∙ following-map b (survivors at lt ps) (all-survivors at lt (λ p. key (f p) ≡ at p) ps h)
+  following_placed b ps h =
+      ap (following key lt b) (survivors_map ps h) ∙ following_map b (survivors at lt ps) (all_survivors at lt (λ p. key (f p) ≡ at p) ps h)

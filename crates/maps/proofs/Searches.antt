@@ -13,14 +13,14 @@ use lib.Seq.{take-suc, take-length}
 use Rattle.maps.specs.Lists.{pass}
 use Rattle.maps.specs.Orders.{Strict, same}
 use Rattle.maps.specs.Keyed.{survivors, lookup}
-use Rattle.maps.specs.Walk.{isSome, better, least, has, seen, lastSeen, latest}
-use Rattle.maps.proofs.Lists.{flatMap-append}
-use Rattle.maps.proofs.Survivors.{lookup-lastSeen}
+use Rattle.maps.specs.Walk.{is_some, better, least, has, seen, last_seen, latest}
+use Rattle.maps.proofs.Lists.{flat_map_append}
+use Rattle.maps.proofs.Survivors.{lookup_last_seen}
 
-or-none : {A : Type 0} (o : Option A) → or_else o none ≡ o
+or_none : {A : Type 0} (o : Option A) → or_else o none ≡ o
 unfolding or_else
-or-none none = refl
-or-none (some a) = refl
+or_none none = refl
+or_none (some a) = refl
 
 or_assoc : {A : Type 0} (o p q : Option A) → or_else o (or_else p q) ≡ or_else (or_else o p) q
 unfolding or_else
@@ -36,9 +36,9 @@ module _ {K E : Type 0} (key : E → K) (lt : K → K → Bool) (k : K) where
   unfolding seen
   seen_other o e p = rw p
 
-  seen-or : (o : Option E) (e : E) → seen key lt k o e ≡ or_else (seen key lt k none e) o
+  seen_or : (o : Option E) (e : E) → seen key lt k o e ≡ or_else (seen key lt k none e) o
   unfolding seen or_else
-  seen-or o e = go (same lt k (key e))
+  seen_or o e = go (same lt k (key e))
     where
       go : (u : Bool) → cond u (some e) o ≡ or_else (cond u (some e) none) o
       go true = refl
@@ -46,40 +46,40 @@ module _ {K E : Type 0} (key : E → K) (lt : K → K → Bool) (k : K) where
 
   -- ---- from the front
 
-  pub lastSeen-cons : (o : Option E) (e : E) (l : List E) → lastSeen key lt k o (e ∷ l) ≡ lastSeen key lt k (seen key lt k o e) l
-  unfolding lastSeen pass
-  lastSeen-cons o e l = refl
+  pub last_seen_cons : (o : Option E) (e : E) (l : List E) → last_seen key lt k o (e ∷ l) ≡ last_seen key lt k (seen key lt k o e) l
+  unfolding last_seen pass
+  last_seen_cons o e l = refl
 
-  pub lastSeen-nil : (o : Option E) → lastSeen key lt k o [] ≡ o
-  unfolding lastSeen pass
-  lastSeen-nil o = refl
+  pub last_seen_nil : (o : Option E) → last_seen key lt k o [] ≡ o
+  unfolding last_seen pass
+  last_seen_nil o = refl
 
-  pub lastSeen-latest : (o : Option E) (l : List E) → lastSeen key lt k o l ≡ or_else (latest key lt k l) o
+  pub last_seen_latest : (o : Option E) (l : List E) → last_seen key lt k o l ≡ or_else (latest key lt k l) o
   unfolding latest or_else
-  lastSeen-latest o [] = lastSeen-nil o
-  lastSeen-latest o (e ∷ l) =
-      lastSeen-cons o e l
-      ∙ lastSeen-latest (seen key lt k o e) l
-      ∙ ap (or_else (latest key lt k l)) (seen-or o e)
+  last_seen_latest o [] = last_seen_nil o
+  last_seen_latest o (e ∷ l) =
+      last_seen_cons o e l
+      ∙ last_seen_latest (seen key lt k o e) l
+      ∙ ap (or_else (latest key lt k l)) (seen_or o e)
       ∙ or_assoc (latest key lt k l) (seen key lt k none e) o
 
   -- ---- from the end
 
-  pub latest-append : (xs ys : List E) → latest key lt k (xs ++ ys) ≡ or_else (latest key lt k ys) (latest key lt k xs)
+  pub latest_append : (xs ys : List E) → latest key lt k (xs ++ ys) ≡ or_else (latest key lt k ys) (latest key lt k xs)
   unfolding latest
-  latest-append [] ys = sym (or-none (latest key lt k ys))
-  latest-append (e ∷ xs) ys =
-      ap (λ o. or_else o (seen key lt k none e)) (latest-append xs ys)
+  latest_append [] ys = sym (or_none (latest key lt k ys))
+  latest_append (e ∷ xs) ys =
+      ap (λ o. or_else o (seen key lt k none e)) (latest_append xs ys)
       ∙ sym (or_assoc (latest key lt k ys) (latest key lt k xs) (seen key lt k none e))
 
   -- A loop that goes back over the positions of a list, each of which stands for some entries: for none, if it is skipped, or for one.
   module _ {A : Type 0} (f : A → List E) (l : List A) where
-    pub latest-start : latest key lt k (flat_map f (take (length l) l)) ≡ latest key lt k (flat_map f l)
-    latest-start = rw (take-length l)
+    pub latest_start : latest key lt k (flat_map f (take (length l) l)) ≡ latest key lt k (flat_map f l)
+    latest_start = rw (take-length l)
 
-    pub latest-nothing : (i : ℕ) → i ≡ 0 → latest key lt k (flat_map f (take i l)) ≡ none
+    pub latest_nothing : (i : ℕ) → i ≡ 0 → latest key lt k (flat_map f (take i l)) ≡ none
     unfolding latest flat_map
-    latest-nothing i e = rw e
+    latest_nothing i e = rw e
 
     module _ (d : A) where
       back : (i : ℕ) → i < length l
@@ -87,32 +87,32 @@ module _ {K E : Type 0} (key : E → K) (lt : K → K → Bool) (k : K) where
       unfolding flat_map
       back i h =
           ap (λ x. latest key lt k (flat_map f x)) (take-suc l i d h)
-          ∙ ap (latest key lt k) (flatMap-append f (take i l) (get_or l i d ∷ []))
-          ∙ rw (append-nil (f (get_or l i d))) (latest-append (flat_map f (take i l)) (f (get_or l i d)))
+          ∙ ap (latest key lt k) (flat_map_append f (take i l) (get_or l i d ∷ []))
+          ∙ rw (append-nil (f (get_or l i d))) (latest_append (flat_map f (take i l)) (f (get_or l i d)))
 
-      pub latest-back : (i : ℕ) → 0 < i → i ≤ length l
+      pub latest_back : (i : ℕ) → 0 < i → i ≤ length l
           → latest key lt k (flat_map f (take i l)) ≡ or_else (latest key lt k (f (get_or l (i - 1) d))) (latest key lt k (flat_map f (take (i - 1) l)))
-      latest-back zero h b = absurd (not-suc-le-zero h)
-      latest-back (suc i) h b = let q : suc i - 1 ≡ i = omega arith in rw q (back i b)
+      latest_back zero h b = absurd (not-suc-le-zero h)
+      latest_back (suc i) h b = let q : suc i - 1 ≡ i = omega arith in rw q (back i b)
 
       module _ (i : ℕ) (h : 0 < i) (b : i ≤ length l) where
-        pub latest-skips : f (get_or l (i - 1) d) ≡ [] → latest key lt k (flat_map f (take i l)) ≡ latest key lt k (flat_map f (take (i - 1) l))
+        pub latest_skips : f (get_or l (i - 1) d) ≡ [] → latest key lt k (flat_map f (take i l)) ≡ latest key lt k (flat_map f (take (i - 1) l))
         unfolding latest or_else
-        latest-skips e = latest-back i h b ∙ rw e
+        latest_skips e = latest_back i h b ∙ rw e
 
         module _ (e : E) (one : f (get_or l (i - 1) d) ≡ e ∷ []) where
-          pub latest-other : same lt k (key e) ≡ false → latest key lt k (flat_map f (take i l)) ≡ latest key lt k (flat_map f (take (i - 1) l))
+          pub latest_other : same lt k (key e) ≡ false → latest key lt k (flat_map f (take i l)) ≡ latest key lt k (flat_map f (take (i - 1) l))
           unfolding latest or_else
-          latest-other p = latest-back i h b ∙ rw (one, seen_other none e p)
+          latest_other p = latest_back i h b ∙ rw (one, seen_other none e p)
 
-          pub latest-found : same lt k (key e) ≡ true → latest key lt k (flat_map f (take i l)) ≡ some e
+          pub latest_found : same lt k (key e) ≡ true → latest key lt k (flat_map f (take i l)) ≡ some e
           unfolding latest or_else
-          latest-found p = latest-back i h b ∙ rw (one, seen_here none e p)
+          latest_found p = latest_back i h b ∙ rw (one, seen_here none e p)
 
 -- the two searches find what stands
-pub lookup-latest : {K E : Type 0} {lt : K → K → Bool} (key : E → K) (S : Strict K lt) (k : K) (l : List E)
+pub lookup_latest : {K E : Type 0} {lt : K → K → Bool} (key : E → K) (S : Strict K lt) (k : K) (l : List E)
     → lookup key lt k (survivors key lt l) ≡ latest key lt k l
-lookup-latest {lt = lt} key S k l = lookup-lastSeen key S k l ∙ lastSeen-latest key lt k none l ∙ or-none (latest key lt k l)
+lookup_latest {lt = lt} key S k l = lookup_last_seen key S k l ∙ last_seen_latest key lt k none l ∙ or_none (latest key lt k l)
 
 -- ---- whether an entry is listed, from the front
 
@@ -125,37 +125,37 @@ module _ {K E : Type 0} (key : E → K) (lt : K → K → Bool) (k : K) where
   unfolding has
   has_other e l p = rw p
 
-  pub has-nil : has key lt k [] ≡ false
+  pub has_nil : has key lt k [] ≡ false
   unfolding has
-  has-nil = refl
+  has_nil = refl
 
-  seen-has : (o : Option E) (l : List E) → isSome (lastSeen key lt k o l) ≡ isSome o || has key lt k l
-  unfolding has seen isSome
-  seen-has o [] = ap isSome (lastSeen-nil key lt k o) ∙ or-false (isSome o)
+  seen_has : (o : Option E) (l : List E) → is_some (last_seen key lt k o l) ≡ is_some o || has key lt k l
+  unfolding has seen is_some
+  seen_has o [] = ap is_some (last_seen_nil key lt k o) ∙ or_false (is_some o)
     where
-      or-false : (u : Bool) → u ≡ u || false
-      or-false true = refl
-      or-false false = refl
-  seen-has o (e ∷ l) = ap isSome (lastSeen-cons key lt k o e l) ∙ seen-has (seen key lt k o e) l ∙ go (same lt k (key e)) refl (isSome o) refl
+      or_false : (u : Bool) → u ≡ u || false
+      or_false true = refl
+      or_false false = refl
+  seen_has o (e ∷ l) = ap is_some (last_seen_cons key lt k o e l) ∙ seen_has (seen key lt k o e) l ∙ go (same lt k (key e)) refl (is_some o) refl
     where
-      go : (u : Bool) → same lt k (key e) ≡ u → (v : Bool) → isSome o ≡ v → isSome (seen key lt k o e) || has key lt k l ≡ v || (u || has key lt k l)
+      go : (u : Bool) → same lt k (key e) ≡ u → (v : Bool) → is_some o ≡ v → is_some (seen key lt k o e) || has key lt k l ≡ v || (u || has key lt k l)
       go true p true q = rw p
       go true p false q = rw p
       go false p v q = rw (p, q)
 
 -- something stands under a key if something is listed under it
-pub lookup-has : {K E : Type 0} {lt : K → K → Bool} (key : E → K) (S : Strict K lt) (k : K) (l : List E)
-    → isSome (lookup key lt k (survivors key lt l)) ≡ has key lt k l
-unfolding isSome
-lookup-has {lt = lt} key S k l = ap isSome (lookup-lastSeen key S k l) ∙ seen-has key lt k none l
+pub lookup_has : {K E : Type 0} {lt : K → K → Bool} (key : E → K) (S : Strict K lt) (k : K) (l : List E)
+    → is_some (lookup key lt k (survivors key lt l)) ≡ has key lt k l
+unfolding is_some
+lookup_has {lt = lt} key S k l = ap is_some (lookup_last_seen key S k l) ∙ seen_has key lt k none l
 
 -- ---- the best entry, from the front
 
 module _ {K E : Type 0} (key : E → K) (lt : K → K → Bool) (b : Option K) where
-  pub least-cons : (o : Option E) (e : E) (l : List E) → least key lt b o (e ∷ l) ≡ least key lt b (better key lt b o e) l
+  pub least_cons : (o : Option E) (e : E) (l : List E) → least key lt b o (e ∷ l) ≡ least key lt b (better key lt b o e) l
   unfolding least pass
-  least-cons o e l = refl
+  least_cons o e l = refl
 
-  pub least-nil : (o : Option E) → least key lt b o [] ≡ o
+  pub least_nil : (o : Option E) → least key lt b o [] ≡ o
   unfolding least pass
-  least-nil o = refl
+  least_nil o = refl

@@ -12,45 +12,45 @@ use Rattle.maps.specs.Lists.{All}
 use Rattle.maps.specs.Orders.{Strict}
 use Rattle.maps.specs.Keyed.{insert, survivors, lookup}
 use Rattle.maps.specs.Compare.{unmatched, between}
-use Rattle.maps.specs.Walk.{isSome, past, Rising, above, following, rest, nearer, better, least, covers}
-use Rattle.maps.proofs.Lists.{pass-view, every-all}
+use Rattle.maps.specs.Walk.{is_some, past, Rising, above, following, rest, nearer, better, least, covers}
+use Rattle.maps.proofs.Lists.{pass_view, every_all}
 use Rattle.maps.proofs.Tests.{no_both}
-use Rattle.maps.proofs.Orders.{asym, same_self, after-other}
-use Rattle.maps.proofs.Survivors.{After, insert-cases, all-survivors}
+use Rattle.maps.proofs.Orders.{asym, same_self, after_other}
+use Rattle.maps.proofs.Survivors.{After, insert_cases, all_survivors}
 
 module _ {K E : Type 0} {lt : K → K → Bool} (key : E → K) (S : Strict K lt) where
   -- ---- the entry that follows
 
-  past-trans : (b : Option K) (j k : K) → past lt b j ≡ true → lt j k ≡ true → past lt b k ≡ true
+  past_trans : (b : Option K) (j k : K) → past lt b j ≡ true → lt j k ≡ true → past lt b k ≡ true
   unfolding past
-  past-trans none j k p q = refl
-  past-trans (some a) j k p q = S.trans a j k p q
+  past_trans none j k p q = refl
+  past_trans (some a) j k p q = S.trans a j k p q
 
-  not-past : (b : Option K) (o : Option E) (e : E) → past lt b (key e) ≡ false → nearer key lt b o e ≡ false
+  not_past : (b : Option K) (o : Option E) (e : E) → past lt b (key e) ≡ false → nearer key lt b o e ≡ false
   unfolding nearer
-  not-past b none e q = q
-  not-past b (some f) e q = rw q (and-false (not (lt (key f) (key e))))
+  not_past b none e q = q
+  not_past b (some f) e q = rw q (and_false (not (lt (key f) (key e))))
     where
-      and-false : (u : Bool) → (u && false) ≡ false
-      and-false true = refl
-      and-false false = refl
+      and_false : (u : Bool) → (u && false) ≡ false
+      and_false true = refl
+      and_false false = refl
 
   -- one entry more
-  following-insert : (b : Option K) (m : List E) (e : E)
+  following_insert : (b : Option K) (m : List E) (e : E)
       → following key lt b (insert key lt m e) ≡ better key lt b (following key lt b m) e
   unfolding following insert better nearer
-  following-insert b [] e = refl
-  following-insert b (f ∷ m) e =
-      insert-cases key lt f m e (λ l. following key lt b l ≡ better key lt b (following key lt b (f ∷ m)) e)
+  following_insert b [] e = refl
+  following_insert b (f ∷ m) e =
+      insert_cases key lt f m e (λ l. following key lt b l ≡ better key lt b (following key lt b (f ∷ m)) e)
       (λ u. first u (past lt b (key f)) (past lt b (key e)) refl refl)
-      (λ u v. later v (past lt b (key f)) (following-insert b m e))
+      (λ u v. later v (past lt b (key f)) (following_insert b m e))
       (λ u v. equal v (past lt b (key f)) (past lt b (key e)) refl (ap (past lt b) (S.total (key e) (key f) u v)))
     where
       first : lt (key e) (key f) ≡ true → (w x : Bool) → past lt b (key f) ≡ w → past lt b (key e) ≡ x
           → cond x (some e) (cond w (some f) (following key lt b m)) ≡ better key lt b (cond w (some f) (following key lt b m)) e
       first u true true p q = rw (asym S (key e) (key f) u, q)
-      first u false true p q = no_both (past-trans b (key e) (key f) q u) p
-      first u w false p q = rw (not-past b (cond w (some f) (following key lt b m)) e q)
+      first u false true p q = no_both (past_trans b (key e) (key f) q u) p
+      first u w false p q = rw (not_past b (cond w (some f) (following key lt b m)) e q)
 
       later : lt (key f) (key e) ≡ true → (w : Bool) → following key lt b (insert key lt m e) ≡ better key lt b (following key lt b m) e
           → cond w (some f) (following key lt b (insert key lt m e)) ≡ better key lt b (cond w (some f) (following key lt b m)) e
@@ -62,29 +62,29 @@ module _ {K E : Type 0} {lt : K → K → Bool} (key : E → K) (S : Strict K lt
       equal v true true q p = rw (v, q)
       equal v true false q p = no_both p q
       equal v false true q p = no_both q p
-      equal v false false q p = rw (not-past b (following key lt b m) e q)
+      equal v false false q p = rw (not_past b (following key lt b m) e q)
 
   -- what a pass that keeps the best entry finds
-  pub following-least : (b : Option K) (l : List E) → following key lt b (survivors key lt l) ≡ least key lt b none l
+  pub following_least : (b : Option K) (l : List E) → following key lt b (survivors key lt l) ≡ least key lt b none l
   unfolding survivors following least
-  following-least b l = pass-view (insert key lt) (better key lt b) (following key lt b) (following-insert b) [] l
+  following_least b l = pass_view (insert key lt) (better key lt b) (following key lt b) (following_insert b) [] l
 
   -- ---- a turn
 
-  above-after : (k : K) (m : List E) → After key lt k m → above key lt (some k) m ≡ m
+  above_after : (k : K) (m : List E) → After key lt k m → above key lt (some k) m ≡ m
   unfolding above past All
-  above-after k [] h = refl
-  above-after k (f ∷ m) h = rw h.0
+  above_after k [] h = refl
+  above_after k (f ∷ m) h = rw h.0
 
-  above-start : (m : List E) → above key lt none m ≡ m
+  above_start : (m : List E) → above key lt none m ≡ m
   unfolding above past
-  above-start [] = refl
-  above-start (f ∷ m) = refl
+  above_start [] = refl
+  above_start (f ∷ m) = refl
 
-  after-following : (j : K) (b : Option K) (m : List E) (e : E) → After key lt j m → following key lt b m ≡ some e → lt j (key e) ≡ true
+  after_following : (j : K) (b : Option K) (m : List E) (e : E) → After key lt j m → following key lt b m ≡ some e → lt j (key e) ≡ true
   unfolding following All
-  after-following j b [] e h p = absurd (none-ne-some e p)
-  after-following j b (f ∷ m) e h p = go (past lt b (key f)) p (after-following j b m e h.1)
+  after_following j b [] e h p = absurd (none-ne-some e p)
+  after_following j b (f ∷ m) e h p = go (past lt b (key f)) p (after_following j b m e h.1)
     where
       go : (u : Bool) → cond u (some f) (following key lt b m) ≡ some e → (following key lt b m ≡ some e → lt j (key e) ≡ true)
           → lt j (key e) ≡ true
@@ -92,10 +92,10 @@ module _ {K E : Type 0} {lt : K → K → Bool} (key : E → K) (S : Strict K lt
       go false q ih = ih q
 
   -- nothing is left
-  above-done : (b : Option K) (m : List E) → following key lt b m ≡ none → above key lt b m ≡ []
+  above_done : (b : Option K) (m : List E) → following key lt b m ≡ none → above key lt b m ≡ []
   unfolding following above
-  above-done b [] p = refl
-  above-done b (f ∷ m) p = go (past lt b (key f)) p (above-done b m)
+  above_done b [] p = refl
+  above_done b (f ∷ m) p = go (past lt b (key f)) p (above_done b m)
     where
       go : (u : Bool) → cond u (some f) (following key lt b m) ≡ none → (following key lt b m ≡ none → above key lt b m ≡ [])
           → cond u (f ∷ m) (above key lt b m) ≡ []
@@ -110,7 +110,7 @@ module _ {K E : Type 0} {lt : K → K → Bool} (key : E → K) (S : Strict K lt
   at_head : (f : E) (m : List E) → After key lt (key f) m
       → (lookup key lt (key f) (f ∷ m) ≡ some f) × (f ∷ m ≡ f ∷ above key lt (some (key f)) (f ∷ m))
   unfolding lookup above past
-  at_head f m h = (rw (same_self S (key f)), rw (S.irrefl (key f), above-after (key f) m h))
+  at_head f m h = (rw (same_self S (key f)), rw (S.irrefl (key f), above_after (key f) m h))
 
   pub turn : (b : Option K) (e : E) (m : List E) → Rising key lt m → following key lt b m ≡ some e → Turn b e m
   unfolding following above past lookup Rising
@@ -124,24 +124,24 @@ module _ {K E : Type 0} {lt : K → K → Bool} (key : E → K) (S : Strict K lt
           rw (← i) (record { found = (at_head f m R.0).0; split = rw pu (at_head f m R.0).1 })
       go false pu q ih =
           let t : Turn b e m = ih q in
-          let v : lt (key f) (key e) ≡ true = after-following (key f) b m e R.0 q in
-          record { found = rw (after-other S (key e) (key f) v) t.found; split = rw (pu, asym S (key f) (key e) v) t.split }
+          let v : lt (key f) (key e) ≡ true = after_following (key f) b m e R.0 q in
+          record { found = rw (after_other S (key e) (key f) v) t.found; split = rw (pu, asym S (key f) (key e) v) t.split }
 
   -- ---- the walk
 
   module _ {C : Type 0} (g : Option E → Option E → List C) (m n : List E) where
-    pub rest-start : rest key lt g m n none ≡ between key lt g m n
+    pub rest_start : rest key lt g m n none ≡ between key lt g m n
     unfolding rest
-    rest-start = rw (above-start m)
+    rest_start = rw (above_start m)
 
-    pub rest-done : (b : Option K) → following key lt b m ≡ none → rest key lt g m n b ≡ []
+    pub rest_done : (b : Option K) → following key lt b m ≡ none → rest key lt g m n b ≡ []
     unfolding rest between flat_map
-    rest-done b p = rw (above-done b m p)
+    rest_done b p = rw (above_done b m p)
 
-    pub rest-turn : (b : Option K) (e : E) → Rising key lt m → following key lt b m ≡ some e
+    pub rest_turn : (b : Option K) (e : E) → Rising key lt m → following key lt b m ≡ some e
         → rest key lt g m n b ≡ g (some e) (lookup key lt (key e) n) ++ rest key lt g m n (some (key e))
     unfolding rest between flat_map
-    rest-turn b e R p = rw (turn b e m R p).split
+    rest_turn b e R p = rw (turn b e m R p).split
 
   -- the measure of the walk
   pub left_less : (m : List E) (b : Option K) (e : E) → Rising key lt m → following key lt b m ≡ some e
@@ -151,19 +151,19 @@ module _ {K E : Type 0} {lt : K → K → Bool} (key : E → K) (S : Strict K lt
 -- ---- a walk that has nothing to report
 
 module _ {K E C : Type 0} (key : E → K) (lt : K → K → Bool) (c : E → List C) (n : List E) where
-  unmatched-has : (e : E) (o : Option E) → isSome o ≡ true → unmatched c (some e) o ≡ []
-  unfolding unmatched isSome
-  unmatched-has e none p = no_both p refl
-  unmatched-has e (some f) p = refl
+  unmatched_has : (e : E) (o : Option E) → is_some o ≡ true → unmatched c (some e) o ≡ []
+  unfolding unmatched is_some
+  unmatched_has e none p = no_both p refl
+  unmatched_has e (some f) p = refl
 
-  matched-all : (m : List E) → All (λ e. isSome (lookup key lt (key e) n) ≡ true) m → between key lt (unmatched c) m n ≡ []
+  matched_all : (m : List E) → All (λ e. is_some (lookup key lt (key e) n) ≡ true) m → between key lt (unmatched c) m n ≡ []
   unfolding between flat_map All
-  matched-all [] h = refl
-  matched-all (e ∷ m) h = rw (unmatched-has e (lookup key lt (key e) n) h.0) (matched-all m h.1)
+  matched_all [] h = refl
+  matched_all (e ∷ m) h = rw (unmatched_has e (lookup key lt (key e) n) h.0) (matched_all m h.1)
 
   -- each key that is listed stands on the other side
   pub covered_none : (l : List E) → covers key lt n l ≡ true → between key lt (unmatched c) (survivors key lt l) n ≡ []
   unfolding covers
   covered_none l p =
-      matched-all (survivors key lt l)
-      (all-survivors key lt (λ e. isSome (lookup key lt (key e) n) ≡ true) l (every-all (λ e. isSome (lookup key lt (key e) n)) l p))
+      matched_all (survivors key lt l)
+      (all_survivors key lt (λ e. is_some (lookup key lt (key e) n) ≡ true) l (every_all (λ e. is_some (lookup key lt (key e) n)) l p))

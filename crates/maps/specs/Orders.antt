@@ -15,16 +15,16 @@ unfoldable pub same : {K : Type 0} → (K → K → Bool) → K → K → Bool
 same lt a b = not (lt a b) && not (lt b a)
 
 -- how two names stand: by their first different byte, a name before its extensions
-unfoldable pub orderOf : List ℕ → List ℕ → Order
-orderOf [] [] = Same
-orderOf [] (y ∷ ys) = Less
-orderOf (x ∷ xs) [] = Greater
-orderOf (x ∷ xs) (y ∷ ys) = cond (ltb x y) Less (cond (ltb y x) Greater (orderOf xs ys))
+unfoldable pub order_of : List ℕ → List ℕ → Order
+order_of [] [] = Same
+order_of [] (y ∷ ys) = Less
+order_of (x ∷ xs) [] = Greater
+order_of (x ∷ xs) (y ∷ ys) = cond (ltb x y) Less (cond (ltb y x) Greater (order_of xs ys))
 
-abbrev pub isLess : Order → Bool
-isLess Less = true
-isLess Same = false
-isLess Greater = false
+abbrev pub is_less : Order → Bool
+is_less Less = true
+is_less Same = false
+is_less Greater = false
 
 unfoldable pub before : List ℕ → List ℕ → Bool
-before a b = isLess (orderOf a b)
+before a b = is_less (order_of a b)

@@ -9,9 +9,9 @@ use Rattle.maps.specs.Keyed.{lookup}
 use Rattle.maps.specs.Compare.{between}
 
 -- whether there is something
-unfoldable pub isSome : {A : Type 0} → Option A → Bool
-isSome none = false
-isSome (some a) = true
+unfoldable pub is_some : {A : Type 0} → Option A → Bool
+is_some none = false
+is_some (some a) = true
 
 -- whether k is past a bound: none is before all keys, some a is just after a
 unfoldable pub past : {K : Type 0} → (K → K → Bool) → Option K → K → Bool
@@ -58,15 +58,15 @@ module _ {K E : Type 0} (key : E → K) (lt : K → K → Bool) where
 
   -- whether a map has each key of a list
   unfoldable pub covers : List E → List E → Bool
-  covers n l = every (λ e. isSome (lookup key lt (key e) n)) l
+  covers n l = every (λ e. is_some (lookup key lt (key e) n)) l
 
   -- what was found last under k, after one entry more
   unfoldable pub seen : K → Option E → E → Option E
   seen k o e = cond (same lt k (key e)) (some e) o
 
   -- the same after the entries of a list, in one pass from the front
-  unfoldable pub lastSeen : K → Option E → List E → Option E
-  lastSeen k o l = pass (seen k) o l
+  unfoldable pub last_seen : K → Option E → List E → Option E
+  last_seen k o l = pass (seen k) o l
 
   -- what a search from the end finds first
   unfoldable pub latest : K → List E → Option E

@@ -2,7 +2,7 @@
 #![tactic(auto)]
 
 ghost use Rattle.std.specs.Prelude.{◌≡◌};
-ghost use Rattle.maps.specs.Orders.{orderOf};
+ghost use Rattle.maps.specs.Orders.{order_of};
 
 #[derive(Clone, Copy)]
 pub enum Order {
@@ -13,7 +13,7 @@ pub enum Order {
 
 // How two names stand: by their first difference, a name before its extensions.
 pub fn compared(a: &[u8], b: &[u8]) -> Order
-    ensures { result ≡ orderOf a.now b.now }
+    ensures { result ≡ order_of a.now b.now }
 {
     let mut i = 0;
     loop {

@@ -1,9 +1,9 @@
 // The parts of a field after its name: marks, encoding, limit, type.
 ghost use Rattle.std.specs.Prelude.{◌≡◌, ◌&&◌, ◌+◌, ◌<◌, eqb, length, get_or};
-ghost use Rattle.image.specs.Fields.{encodingAt};
+ghost use Rattle.image.specs.Fields.{encoding_at};
 ghost use Rattle.image.specs.WellFormed.{Good};
 ghost use Rattle.parts.specs.declared.Shape.{Shape};
-ghost use Rattle.parts.specs.Promise.{ItemHere, itemEnd, fieldIn, encodingIn, limitPlace, typePlace, codingOf, limitOf};
+ghost use Rattle.parts.specs.Promise.{ItemHere, item_end, field_in, encoding_in, limit_place, type_place, coding_of, limit_of};
 
 use parts::names::name_end;
 use parts::types::type_end;
@@ -12,7 +12,7 @@ use parts::{Encoding, Limit};
 // Whether a field is marked as deprecated.
 pub fn field_deprecated(image: &[u8], at: usize) -> bool
     requires { ItemHere Shape.Field image.now at }
-    ensures { result ≡ (fieldIn image.now at).marks.deprecated }
+    ensures { result ≡ (field_in image.now at).marks.deprecated }
 {
     let marks = name_end(image, at + 4);
     image[marks] % 2 == 1
@@ -20,8 +20,8 @@ pub fn field_deprecated(image: &[u8], at: usize) -> bool
 
 // The deltas of an encoding: so many bytes 3 before its base.
 fn deltas(image: &[u8], at: usize) -> usize
-    requires { Good (encodingAt image.now at) }
-    ensures { result ≡ (encodingIn image.now at).deltas }
+    requires { Good (encoding_at image.now at) }
+    ensures { result ≡ (encoding_in image.now at).deltas }
 {
     let mut n: usize = 0;
     while image[at + n] == 3 {
@@ -33,7 +33,7 @@ fn deltas(image: &[u8], at: usize) -> usize
 // A field's encoding.
 pub fn field_encoding(image: &[u8], at: usize) -> Encoding
     requires { ItemHere Shape.Field image.now at }
-    ensures { codingOf result ≡ (fieldIn image.now at).encoding }
+    ensures { coding_of result ≡ (field_in image.now at).encoding }
 {
     let start = name_end(image, at + 4) + 1;
     let n = deltas(image, start);
@@ -46,7 +46,7 @@ pub fn field_encoding(image: &[u8], at: usize) -> Encoding
 // Where a field's limit stands.
 fn limit_place(image: &[u8], at: usize) -> usize
     requires { ItemHere Shape.Field image.now at }
-    ensures { result ≡ limitPlace image.now at }
+    ensures { result ≡ limit_place image.now at }
 {
     let start = name_end(image, at + 4) + 1;
     start + deltas(image, start) + 1
@@ -55,7 +55,7 @@ fn limit_place(image: &[u8], at: usize) -> usize
 // A field's limit, if it has one.
 pub fn field_limit(image: &[u8], at: usize) -> Limit
     requires { ItemHere Shape.Field image.now at }
-    ensures { limitOf result ≡ (fieldIn image.now at).limit }
+    ensures { limit_of result ≡ (field_in image.now at).limit }
 {
     let place = limit_place(image, at);
     if image[place] == 0 {
@@ -78,7 +78,7 @@ fn is_plain(image: &[u8], at: usize) -> bool
 // Where a field's type stands. Most fields are plain: their type is found by the length of the name alone.
 pub fn field_type(image: &[u8], at: usize) -> usize
     requires { ItemHere Shape.Field image.now at }
-    ensures { result ≡ typePlace image.now at }
+    ensures { result ≡ type_place image.now at }
 {
     let start = name_end(image, at + 4) + 1;
     if is_plain(image, start) {
@@ -94,7 +94,7 @@ pub fn field_type(image: &[u8], at: usize) -> usize
 // The end of a field.
 pub(crate) fn field_end(image: &[u8], at: usize) -> usize
     requires { ItemHere Shape.Field image.now at }
-    ensures { result ≡ itemEnd Shape.Field image.now at }
+    ensures { result ≡ item_end Shape.Field image.now at }
 {
     type_end(image, field_type(image, at))
 }

@@ -1,7 +1,7 @@
 // Items of declarations: fields, variants and bits. Each starts with its ordinal and its name, so these are found without its shape.
 ghost use Rattle.std.specs.Prelude.{◌≡◌, ◌+◌, ◌≤◌, length};
-ghost use Rattle.image.specs.Codes.{number, unionKind};
-ghost use Rattle.parts.specs.Promise.{DeclHere, declIn, itemsIn, ItemHere, itemEnd, ItemsHere, itemsEnd, ordinalIn, itemName, itemsAt, variantItems};
+ghost use Rattle.image.specs.Codes.{number, union_kind};
+ghost use Rattle.parts.specs.Promise.{DeclHere, decl_in, items_in, ItemHere, item_end, ItemsHere, items_end, ordinal_in, item_name, items_at, variant_items};
 
 use crate::fields::field_end;
 use image::numbers::{u16_at, u32_at};
@@ -12,7 +12,7 @@ use parts::{Run, Shape};
 // The ordinal of an item; of flags it is the bit.
 pub fn ordinal_at(image: &[u8], at: usize) -> u32
     requires { ItemHere Shape.Bare image.now at }
-    ensures { result ≡ ordinalIn image.now at }
+    ensures { result ≡ ordinal_in image.now at }
 {
     u32_at(image, at)
 }
@@ -20,7 +20,7 @@ pub fn ordinal_at(image: &[u8], at: usize) -> u32
 // The bytes of the name of an item.
 pub fn item_name(image: &[u8], at: usize) -> &[u8]
     requires { ItemHere Shape.Bare image.now at }
-    ensures { result.now ≡ itemName image.now at }
+    ensures { result.now ≡ item_name image.now at }
 {
     name_at(image, at + 4)
 }
@@ -28,7 +28,7 @@ pub fn item_name(image: &[u8], at: usize) -> &[u8]
 // A count at a place, and the items after it.
 fn items_at(image: &[u8], at: usize) -> Run
     requires { at + 2 ≤ length image.now }
-    ensures { result ≡ itemsAt image.now at }
+    ensures { result ≡ items_at image.now at }
 {
     Run {
         start: at + 2,
@@ -38,8 +38,8 @@ fn items_at(image: &[u8], at: usize) -> Run
 
 // The items of a message, an enum, flags or a union.
 pub fn decl_items(image: &[u8], at: usize) -> Run
-    requires { DeclHere image.now at × ((declIn image.now at).kind ≤ number unionKind) }
-    ensures { result ≡ itemsIn image.now at }
+    requires { DeclHere image.now at × ((decl_in image.now at).kind ≤ number union_kind) }
+    ensures { result ≡ items_in image.now at }
 {
     let place = width_place(image, at);
     if stores_width(image, at) {
@@ -51,7 +51,7 @@ pub fn decl_items(image: &[u8], at: usize) -> Run
 // The fields of a union's variant.
 pub fn variant_items(image: &[u8], at: usize) -> Run
     requires { ItemHere Shape.Variant image.now at }
-    ensures { result ≡ variantItems image.now at }
+    ensures { result ≡ variant_items image.now at }
 {
     items_at(image, name_end(image, at + 4))
 }
@@ -59,7 +59,7 @@ pub fn variant_items(image: &[u8], at: usize) -> Run
 // The end of so many fields.
 fn fields_end(image: &[u8], at: usize, count: usize) -> usize
     requires { ItemsHere Shape.Field image.now count at }
-    ensures { result ≡ itemsEnd Shape.Field image.now count at }
+    ensures { result ≡ items_end Shape.Field image.now count at }
 {
     let mut next = at;
     let mut left = count;
@@ -73,7 +73,7 @@ fn fields_end(image: &[u8], at: usize, count: usize) -> usize
 // The end of a union's variant.
 fn variant_end(image: &[u8], at: usize) -> usize
     requires { ItemHere Shape.Variant image.now at }
-    ensures { result ≡ itemEnd Shape.Variant image.now at }
+    ensures { result ≡ item_end Shape.Variant image.now at }
 {
     let fields = variant_items(image, at);
     fields_end(image, fields.start, fields.count)
@@ -82,7 +82,7 @@ fn variant_end(image: &[u8], at: usize) -> usize
 // The end of a bare item.
 fn bare_end(image: &[u8], at: usize) -> usize
     requires { ItemHere Shape.Bare image.now at }
-    ensures { result ≡ itemEnd Shape.Bare image.now at }
+    ensures { result ≡ item_end Shape.Bare image.now at }
 {
     name_end(image, at + 4)
 }
@@ -90,7 +90,7 @@ fn bare_end(image: &[u8], at: usize) -> usize
 // The place after an item, where the next one starts.
 pub fn item_end(image: &[u8], shape: Shape, at: usize) -> usize
     requires { ItemHere shape image.now at }
-    ensures { result ≡ itemEnd shape image.now at }
+    ensures { result ≡ item_end shape image.now at }
 {
     match shape {
         Shape::Field => field_end(image, at),

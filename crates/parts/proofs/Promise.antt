@@ -9,89 +9,89 @@ use native.Mathlib.Omega.{arith}
 use lib.ListN.{get_or}
 use Rattle.image.specs.Schema.{Schema}
 use Rattle.image.specs.Parse.{Parsed, ok, no}
-use Rattle.image.specs.Image.{readImage}
-use Rattle.image.specs.WellFormed.{Good, valueOr}
+use Rattle.image.specs.Image.{read_image}
+use Rattle.image.specs.WellFormed.{Good, value_or}
 use Rattle.reader.specs.Answer.{Answers}
 use Rattle.reader.specs.declared.Acceptance.{Acceptance}
-use Rattle.reader.proofs.Laws.Answers.{accepted-good, rejected-no}
-use Rattle.parts.specs.Promise.{Accepted, schemaOf, nameEnd, namePlaces, itemEnd, placesFrom, DeclHere, declIn, entryDecl, EntryHere, Resolved}
+use Rattle.reader.proofs.Laws.Answers.{accepted_good, rejected_no}
+use Rattle.parts.specs.Promise.{Accepted, schema_of, name_end, name_places, item_end, places_from, DeclHere, decl_in, entry_decl, EntryHere, Resolved}
 use Rattle.parts.specs.declared.Shape.{Shape}
 use Rattle.parts.specs.declared.Entry.{Entry}
-use Rattle.parts.proofs.Laws.Places.{places-none as by-none, places-more as by-more}
-use Rattle.parts.proofs.Laws.Decls.{decl-head}
+use Rattle.parts.proofs.Laws.Places.{places_none as by_none, places_more as by_more}
+use Rattle.parts.proofs.Laws.Decls.{decl_head}
 -- the image: its length, how many entries and ids it has, and its namespace by the names at their places
-pub use Rattle.parts.proofs.Laws.Contents.{accepted-most, entries-most, ids-most, segments-listed}
+pub use Rattle.parts.proofs.Laws.Contents.{accepted_most, entries_most, ids_most, segments_listed}
 -- the name of an entry's declaration
-pub use Rattle.parts.proofs.Laws.Bodies.{entry-short}
+pub use Rattle.parts.proofs.Laws.Bodies.{entry_short}
 -- so many names, or items: the first, and the rest
-pub use Rattle.parts.proofs.Laws.Skips.{names-first, names-rest}
-pub use Rattle.parts.proofs.Laws.Items.{items-first, items-rest}
+pub use Rattle.parts.proofs.Laws.Skips.{names_first, names_rest}
+pub use Rattle.parts.proofs.Laws.Items.{items_first, items_rest}
 -- a declaration: the items of a message, an enum, flags, a union, and that they are its fields or its variants; a newtype's type
-pub use Rattle.parts.proofs.Laws.Counted.{message-listed, enum-listed, flags-listed, union-listed, inner-here, inner-tree}
+pub use Rattle.parts.proofs.Laws.Counted.{message_listed, enum_listed, flags_listed, union_listed, inner_here, inner_tree}
 -- a kind: its word in the table of all
-pub use Rattle.image.proofs.Laws.Kinds.{kind-named}
+pub use Rattle.image.proofs.Laws.Kinds.{kind_named}
 -- an item: what holds of a bare one holds of its start; the values of a field and of a union's variant
-pub use Rattle.parts.proofs.Laws.Items.{item-bare, field-ordinal, field-name, field-type-here, field-type, variant-ordinal, variant-name, variant-listed}
+pub use Rattle.parts.proofs.Laws.Items.{item_bare, field_ordinal, field_name, field_type_here, field_type, variant_ordinal_lem, variant_name_lem, variant_listed}
 -- a type has a label; a node by how many inner types its tag has
-pub use Rattle.parts.proofs.Laws.Trees.{type-some, type-label, type-first, type-second, node-leaf, node-one, node-two}
-pub use Rattle.parts.proofs.Laws.Ends.{end-leaf, end-one, end-two}
+pub use Rattle.parts.proofs.Laws.Trees.{type_some, type_label, type_first, type_second, node_leaf, node_one, node_two}
+pub use Rattle.parts.proofs.Laws.Ends.{end_leaf, end_one, end_two}
 -- a label: what its tag allows; the names of bits
-pub use Rattle.parts.proofs.Laws.Labels.{label-regular, bits-listed}
+pub use Rattle.parts.proofs.Laws.Labels.{label_regular, bits_listed}
 
 -- what `read_image` accepted
-pub accepted : (s : List ℕ) {r : Acceptance} → Answers (readImage s) r → r ≡ Acceptance.Accepted → Accepted s
+pub accepted : (s : List ℕ) {r : Acceptance} → Answers (read_image s) r → r ≡ Acceptance.Accepted → Accepted s
 unfolding Accepted
-accepted s a e = accepted-good (readImage s) e a
+accepted s a e = accepted_good (read_image s) e a
 
 -- what it answered, as a parse: an accepted image holds its schema, and a rejected one has the answer's number
 module _ (s : List ℕ) where
-  pub accepted-read : Accepted s → (n : ℕ) × (readImage s ≡ ok (schemaOf s) n)
-  unfolding Accepted schemaOf Good valueOr
-  accepted-read g = go (readImage s) refl g
+  pub accepted_read : Accepted s → (n : ℕ) × (read_image s ≡ ok (schema_of s) n)
+  unfolding Accepted schema_of Good value_or
+  accepted_read g = go (read_image s) refl g
     where
-      go : (p : Parsed Schema) → readImage s ≡ p → Good p → (n : ℕ) × (readImage s ≡ ok (schemaOf s) n)
+      go : (p : Parsed Schema) → read_image s ≡ p → Good p → (n : ℕ) × (read_image s ≡ ok (schema_of s) n)
       go (ok x n) e g = (n, e ∙ rw e)
       go (no k) e g = absurd g
 
-  pub read-accepted : {x : Schema} {n : ℕ} → readImage s ≡ ok x n → Accepted s × (schemaOf s ≡ x)
-  unfolding Accepted schemaOf Good valueOr
-  read-accepted e = (rw e tt, rw e)
+  pub read_accepted : {x : Schema} {n : ℕ} → read_image s ≡ ok x n → Accepted s × (schema_of s ≡ x)
+  unfolding Accepted schema_of Good value_or
+  read_accepted e = (rw e tt, rw e)
 
-  pub rejected-read : {r : Acceptance} {k : ℕ} → Answers (readImage s) r → r ≡ Acceptance.Rejected k → readImage s ≡ no k
-  rejected-read a e = rejected-no (readImage s) e a
+  pub rejected_read : {r : Acceptance} {k : ℕ} → Answers (read_image s) r → r ≡ Acceptance.Rejected k → read_image s ≡ no k
+  rejected_read a e = rejected_no (read_image s) e a
 
 -- the two answers of `entry`
 module _ (s : List ℕ) (id : ℕ) {r : Entry} (h : Resolved s id r) where
-  pub resolved-here : {at : ℕ} → r ≡ Entry.Body at → DeclHere s at
+  pub resolved_here : {at : ℕ} → r ≡ Entry.Body at → DeclHere s at
   unfolding EntryHere
-  resolved-here e = rw e at h.here
+  resolved_here e = rw e at h.here
 
-  pub resolved-body : {at : ℕ} → r ≡ Entry.Body at → get_or (schemaOf s).registry id none ≡ some (declIn s at)
-  unfolding entryDecl
-  resolved-body e = sym h.value ∙ ap (entryDecl s) e
+  pub resolved_body : {at : ℕ} → r ≡ Entry.Body at → get_or (schema_of s).registry id none ≡ some (decl_in s at)
+  unfolding entry_decl
+  resolved_body e = sym h.value ∙ ap (entry_decl s) e
 
-  pub resolved-none : r ≡ Entry.Unresolvable → get_or (schemaOf s).registry id none ≡ none
-  unfolding entryDecl
-  resolved-none e = sym h.value ∙ ap (entryDecl s) e
+  pub resolved_none : r ≡ Entry.Unresolvable → get_or (schema_of s).registry id none ≡ none
+  unfolding entry_decl
+  resolved_none e = sym h.value ∙ ap (entry_decl s) e
 
 -- a declaration's kind
-pub decl-most : (s : List ℕ) (at : ℕ) → DeclHere s at → (declIn s at).kind ≤ 8
-decl-most s at g = let h = decl-head s at g in let e = h.is in let l = h.most in omega arith
+pub decl_most : (s : List ℕ) (at : ℕ) → DeclHere s at → (decl_in s at).kind ≤ 8
+decl_most s at g = let h = decl_head s at g in let e = h.is in let l = h.most in omega arith
 
 -- the places of items and of names: none, or the first and the others
 module _ (s : List ℕ) (c at : ℕ) where
-  pub places-none : (h : Shape) → c ≡ 0 → placesFrom h s c at ≡ []
-  unfolding placesFrom
-  places-none h e = rw (e, by-none (itemEnd h s) at)
+  pub places_none : (h : Shape) → c ≡ 0 → places_from h s c at ≡ []
+  unfolding places_from
+  places_none h e = rw (e, by_none (item_end h s) at)
 
-  pub places-more : (h : Shape) → 0 < c → placesFrom h s c at ≡ at ∷ placesFrom h s (c - 1) (itemEnd h s at)
-  unfolding placesFrom
-  places-more h l = by-more (itemEnd h s) c at l
+  pub places_more : (h : Shape) → 0 < c → places_from h s c at ≡ at ∷ places_from h s (c - 1) (item_end h s at)
+  unfolding places_from
+  places_more h l = by_more (item_end h s) c at l
 
-  pub name-places-none : c ≡ 0 → namePlaces s c at ≡ []
-  unfolding namePlaces
-  name-places-none e = rw (e, by-none (nameEnd s) at)
+  pub name_places_none : c ≡ 0 → name_places s c at ≡ []
+  unfolding name_places
+  name_places_none e = rw (e, by_none (name_end s) at)
 
-  pub name-places-more : 0 < c → namePlaces s c at ≡ at ∷ namePlaces s (c - 1) (nameEnd s at)
-  unfolding namePlaces
-  name-places-more l = by-more (nameEnd s) c at l
+  pub name_places_more : 0 < c → name_places s c at ≡ at ∷ name_places s (c - 1) (name_end s at)
+  unfolding name_places
+  name_places_more l = by_more (name_end s) c at l

@@ -1,20 +1,20 @@
 -- What the crates above may say of an accepted image. Places are positions in the image. `XHere s at` says that an X is well formed at a
 -- place, `xIn s at` is its value, `xEnd s at` the place after it, `xPlace` the place of a part of it; of a place where none stands a
--- value is a default and says nothing. proofs/Promise.antt ties all of them to `schemaOf`. Assumes nothing.
+-- value is a default and says nothing. proofs/Promise.antt ties all of them to `schema_of`. Assumes nothing.
 use Rattle.std.specs.Prelude.{◌≡◌, Bool, cond, ◌&&◌, ◌||◌, List, [], ◌∷◌, map, ℕ, zero, suc, ◌+◌, ◌-◌, ◌≤◌, ◌<◌, eqb, leb, length, get_or, take, drop}
 use Rattle.std.proofs.Math.Option.{Option, none, some}
-use Rattle.image.specs.Codes.{number, bodyRefusal, enumKind, flagsKind, implKind, primitiveTag, subByteTag, semanticTag, namedTag, fixedArrayTag, bitsTag}
-use Rattle.image.specs.Kinds.{kindOf}
-use Rattle.image.specs.Schema.{Name, unmarked, Label, label, Ty, noType, Field, Variant, Decl, decl, Schema, noSchema}
-use Rattle.image.specs.Formats.{hasWidths}
+use Rattle.image.specs.Codes.{number, body_refusal, enum_kind, flags_kind, impl_kind, primitive_tag, sub_byte_tag, semantic_tag, named_tag, fixed_array_tag, bits_tag}
+use Rattle.image.specs.Kinds.{kind_of}
+use Rattle.image.specs.Schema.{Name, unmarked, Label, label, Ty, no_type, Field, Variant, Decl, decl, Schema, no_schema}
+use Rattle.image.specs.Formats.{has_widths}
 use Rattle.image.specs.Schema.{Encoding as Coding}
-use Rattle.image.specs.Parse.{Parsed, bind, littleEndian, byteAt, many}
-use Rattle.image.specs.Names.{nameAt, namesAt}
-use Rattle.image.specs.Types.{labelOf, typeOf}
-use Rattle.image.specs.Fields.{plain, encodingAt, limitAt, fieldAt, bareAt, variantAt}
-use Rattle.image.specs.Bodies.{declAt}
-use Rattle.image.specs.Image.{format, segmentCount, segmentsAt, readImage}
-use Rattle.image.specs.WellFormed.{Good, valueOr, endOf}
+use Rattle.image.specs.Parse.{Parsed, bind, little_endian, byte_at, many}
+use Rattle.image.specs.Names.{name_at, names_at}
+use Rattle.image.specs.Types.{label_of, type_of}
+use Rattle.image.specs.Fields.{plain, encoding_at, limit_at, field_at, bare_at, variant_at}
+use Rattle.image.specs.Bodies.{decl_at}
+use Rattle.image.specs.Image.{format, segment_count, segments_at, read_image}
+use Rattle.image.specs.WellFormed.{Good, value_or, end_of}
 use Rattle.parts.specs.declared.Entry.{Entry}
 use Rattle.parts.specs.declared.Entry.TheVariants.{Body, Unresolvable}
 use Rattle.parts.specs.declared.Shape.{Shape}
@@ -28,90 +28,90 @@ use Rattle.parts.specs.declared.Width.TheVariants.{Wire, Absent}
 
 -- the image is accepted, and holds this schema
 unfoldable pub Accepted : List ℕ → Type 0
-Accepted s = Good (readImage s)
+Accepted s = Good (read_image s)
 
-unfoldable pub schemaOf : List ℕ → Schema
-schemaOf s = valueOr noSchema (readImage s)
+unfoldable pub schema_of : List ℕ → Schema
+schema_of s = value_or no_schema (read_image s)
 
 -- of places where none stands
-abbrev pub noLabel : Label
-noLabel = label (number primitiveTag) 0 0 []
+abbrev pub no_label : Label
+no_label = label (number primitive_tag) 0 0 []
 
-abbrev pub noField : Field
-noField = record { ordinal = 0; name = []; marks = unmarked; encoding = plain 0; limit = none; type = noType }
+abbrev pub no_field : Field
+no_field = record { ordinal = 0; name = []; marks = unmarked; encoding = plain 0; limit = none; type = no_type }
 
-abbrev pub noVariant : Variant
-noVariant = record { ordinal = 0; name = []; fields = [] }
+abbrev pub no_variant : Variant
+no_variant = record { ordinal = 0; name = []; fields = [] }
 
-abbrev pub noDecl : Decl
-noDecl = decl (number implKind) [] unmarked none [] [] noType
+abbrev pub no_decl : Decl
+no_decl = decl (number impl_kind) [] unmarked none [] [] no_type
 
 -- Names.
 unfoldable pub NameHere : List ℕ → ℕ → Type 0
-NameHere s at = Good (nameAt (number bodyRefusal) s at)
+NameHere s at = Good (name_at (number body_refusal) s at)
 
-unfoldable pub nameIn : List ℕ → ℕ → Name
-nameIn s at = valueOr [] (nameAt (number bodyRefusal) s at)
+unfoldable pub name_in : List ℕ → ℕ → Name
+name_in s at = value_or [] (name_at (number body_refusal) s at)
 
-unfoldable pub nameEnd : List ℕ → ℕ → ℕ
-nameEnd s at = endOf (nameAt (number bodyRefusal) s at)
+unfoldable pub name_end : List ℕ → ℕ → ℕ
+name_end s at = end_of (name_at (number body_refusal) s at)
 
 -- Things one after the other: the places of so many, from the first one's and what ends one.
-unfoldable pub placesBy : (ℕ → ℕ) → ℕ → ℕ → List ℕ
-placesBy end zero at = []
-placesBy end (suc count) at = at ∷ placesBy end count (end at)
+unfoldable pub places_by : (ℕ → ℕ) → ℕ → ℕ → List ℕ
+places_by end zero at = []
+places_by end (suc count) at = at ∷ places_by end count (end at)
 
 unfoldable pub NamesHere : List ℕ → ℕ → ℕ → Type 0
-NamesHere s count at = Good (namesAt (number bodyRefusal) count s at)
+NamesHere s count at = Good (names_at (number body_refusal) count s at)
 
-unfoldable pub namePlaces : List ℕ → ℕ → ℕ → List ℕ
-namePlaces s count at = placesBy (nameEnd s) count at
+unfoldable pub name_places : List ℕ → ℕ → ℕ → List ℕ
+name_places s count at = places_by (name_end s) count at
 
 -- the place after so many names
-unfoldable pub namesEnd : List ℕ → ℕ → ℕ → ℕ
-namesEnd s count at = endOf (namesAt (number bodyRefusal) count s at)
+unfoldable pub names_end : List ℕ → ℕ → ℕ → ℕ
+names_end s count at = end_of (names_at (number body_refusal) count s at)
 
 -- so many names stand in a row, and are these
 pub record NamesListed (s : List ℕ) (n : Run) (xs : List Name) : Type 0 where
   pub here : NamesHere s n.count n.start
-  pub are : xs ≡ map (nameIn s) (namePlaces s n.count n.start)
+  pub are : xs ≡ map (name_in s) (name_places s n.count n.start)
 
 -- Types. A label is a node without its inner types.
 unfoldable pub LabelHere : List ℕ → ℕ → Type 0
-LabelHere s at = Good (labelOf (drop at s))
+LabelHere s at = Good (label_of (drop at s))
 
-unfoldable pub labelIn : List ℕ → ℕ → Label
-labelIn s at = valueOr noLabel (labelOf (drop at s))
+unfoldable pub label_in : List ℕ → ℕ → Label
+label_in s at = value_or no_label (label_of (drop at s))
 
 -- what its tag has is within document 01's values, and what it has not is 0 or empty
 pub record Regular (l : Label) : Type 0 where
-  pub most : l.tag ≤ number bitsTag
-  pub primitive : l.tag ≡ number primitiveTag → l.first ≤ 13
-  pub sign : l.tag ≡ number subByteTag → l.first ≤ 1
-  pub bits : l.tag ≡ number subByteTag → (1 ≤ l.second) × (l.second ≤ 64)
-  pub semantic : l.tag ≡ number semanticTag → l.first ≤ 5
-  pub first : (number namedTag) < l.tag → (l.tag ≡ number fixedArrayTag → ⊥) → l.first ≡ 0
-  pub second : (l.tag ≡ number subByteTag → ⊥) → l.second ≡ 0
-  pub names : (l.tag ≡ number bitsTag → ⊥) → l.names ≡ []
+  pub most : l.tag ≤ number bits_tag
+  pub primitive : l.tag ≡ number primitive_tag → l.first ≤ 13
+  pub sign : l.tag ≡ number sub_byte_tag → l.first ≤ 1
+  pub bits : l.tag ≡ number sub_byte_tag → (1 ≤ l.second) × (l.second ≤ 64)
+  pub semantic : l.tag ≡ number semantic_tag → l.first ≤ 5
+  pub first : (number named_tag) < l.tag → (l.tag ≡ number fixed_array_tag → ⊥) → l.first ≡ 0
+  pub second : (l.tag ≡ number sub_byte_tag → ⊥) → l.second ≡ 0
+  pub names : (l.tag ≡ number bits_tag → ⊥) → l.names ≡ []
 
 -- where the first inner type starts, if there is one
-unfoldable pub labelEnd : List ℕ → ℕ → ℕ
-labelEnd s at = at + endOf (labelOf (drop at s))
+unfoldable pub label_end : List ℕ → ℕ → ℕ
+label_end s at = at + end_of (label_of (drop at s))
 
 -- the names of bits
-unfoldable pub bitsIn : List ℕ → ℕ → Run
-bitsIn s at = record { start = at + 2; count = get_or s (at + 1) 0 }
+unfoldable pub bits_in : List ℕ → ℕ → Run
+bits_in s at = record { start = at + 2; count = get_or s (at + 1) 0 }
 
 -- a type of at most `left` nodes on a path; at most 32 stand anywhere
 pub record TypeHere (left : ℕ) (s : List ℕ) (at : ℕ) : Type 0 where
   pub few : left ≤ 32
-  pub good : Good (typeOf left (drop at s))
+  pub good : Good (type_of left (drop at s))
 
-unfoldable pub treeIn : List ℕ → ℕ → Ty
-treeIn s at = valueOr noType (typeOf 32 (drop at s))
+unfoldable pub tree_in : List ℕ → ℕ → Ty
+tree_in s at = value_or no_type (type_of 32 (drop at s))
 
-unfoldable pub typeEnd : List ℕ → ℕ → ℕ
-typeEnd s at = at + endOf (typeOf 32 (drop at s))
+unfoldable pub type_end : List ℕ → ℕ → ℕ
+type_end s at = at + end_of (type_of 32 (drop at s))
 
 -- Items.
 abbrev pub ItemOf : Shape → Type 0
@@ -119,163 +119,163 @@ ItemOf shape.Field = Field
 ItemOf shape.Bare = Variant
 ItemOf shape.Variant = Variant
 
-unfoldable pub itemAt : (h : Shape) → List ℕ → ℕ → Parsed (ItemOf h)
-itemAt shape.Field = fieldAt
-itemAt shape.Bare = bareAt
-itemAt shape.Variant = variantAt
+unfoldable pub item_at : (h : Shape) → List ℕ → ℕ → Parsed (ItemOf h)
+item_at shape.Field = field_at
+item_at shape.Bare = bare_at
+item_at shape.Variant = variant_at
 
 unfoldable pub ItemHere : Shape → List ℕ → ℕ → Type 0
-ItemHere h s at = Good (itemAt h s at)
+ItemHere h s at = Good (item_at h s at)
 
-unfoldable pub itemEnd : Shape → List ℕ → ℕ → ℕ
-itemEnd h s at = endOf (itemAt h s at)
+unfoldable pub item_end : Shape → List ℕ → ℕ → ℕ
+item_end h s at = end_of (item_at h s at)
 
 unfoldable pub ItemsHere : Shape → List ℕ → ℕ → ℕ → Type 0
-ItemsHere h s count at = Good (many (itemAt h) count s at)
+ItemsHere h s count at = Good (many (item_at h) count s at)
 
 -- the place after so many items
-unfoldable pub itemsEnd : Shape → List ℕ → ℕ → ℕ → ℕ
-itemsEnd h s count at = endOf (many (itemAt h) count s at)
+unfoldable pub items_end : Shape → List ℕ → ℕ → ℕ → ℕ
+items_end h s count at = end_of (many (item_at h) count s at)
 
-unfoldable pub placesFrom : Shape → List ℕ → ℕ → ℕ → List ℕ
-placesFrom h s count at = placesBy (itemEnd h s) count at
+unfoldable pub places_from : Shape → List ℕ → ℕ → ℕ → List ℕ
+places_from h s count at = places_by (item_end h s) count at
 
 -- so many items of a shape stand in a row, and are these
 pub record ItemsListed (h : Shape) (s : List ℕ) (n : Run) (item : ℕ → ItemOf h) (xs : List (ItemOf h)) : Type 0 where
   pub here : ItemsHere h s n.count n.start
-  pub are : xs ≡ map item (placesFrom h s n.count n.start)
+  pub are : xs ≡ map item (places_from h s n.count n.start)
 
 -- a u16 count, and as many items
-unfoldable pub itemsAt : List ℕ → ℕ → Run
-itemsAt s at = record { start = at + 2; count = littleEndian 2 (drop at s) }
+unfoldable pub items_at : List ℕ → ℕ → Run
+items_at s at = record { start = at + 2; count = little_endian 2 (drop at s) }
 
-unfoldable pub bareIn : List ℕ → ℕ → Variant
-bareIn s at = valueOr noVariant (bareAt s at)
+unfoldable pub bare_in : List ℕ → ℕ → Variant
+bare_in s at = value_or no_variant (bare_at s at)
 
-unfoldable pub variantIn : List ℕ → ℕ → Variant
-variantIn s at = valueOr noVariant (variantAt s at)
+unfoldable pub variant_in : List ℕ → ℕ → Variant
+variant_in s at = value_or no_variant (variant_at s at)
 
 -- the fields of a union's variant
-unfoldable pub variantItems : List ℕ → ℕ → Run
-variantItems s at = itemsAt s (nameEnd s (at + 4))
+unfoldable pub variant_items : List ℕ → ℕ → Run
+variant_items s at = items_at s (name_end s (at + 4))
 
 -- Every item starts with its ordinal and its name, as a bare one does.
-abbrev pub ordinalIn : List ℕ → ℕ → ℕ
-ordinalIn s at = (bareIn s at).ordinal
+abbrev pub ordinal_in : List ℕ → ℕ → ℕ
+ordinal_in s at = (bare_in s at).ordinal
 
-abbrev pub itemName : List ℕ → ℕ → Name
-itemName s at = (bareIn s at).name
+abbrev pub item_name : List ℕ → ℕ → Name
+item_name s at = (bare_in s at).name
 
 -- Fields.
-unfoldable pub fieldIn : List ℕ → ℕ → Field
-fieldIn s at = valueOr noField (fieldAt s at)
+unfoldable pub field_in : List ℕ → ℕ → Field
+field_in s at = value_or no_field (field_at s at)
 
 -- its parts after the name
-unfoldable pub marksPlace : List ℕ → ℕ → ℕ
-marksPlace s at = nameEnd s (at + 4)
+unfoldable pub marks_place : List ℕ → ℕ → ℕ
+marks_place s at = name_end s (at + 4)
 
-unfoldable pub encodingPlace : List ℕ → ℕ → ℕ
-encodingPlace s at = marksPlace s at + 1
+unfoldable pub encoding_place : List ℕ → ℕ → ℕ
+encoding_place s at = marks_place s at + 1
 
-unfoldable pub encodingIn : List ℕ → ℕ → Coding
-encodingIn s at = valueOr (plain 0) (encodingAt s at)
+unfoldable pub encoding_in : List ℕ → ℕ → Coding
+encoding_in s at = value_or (plain 0) (encoding_at s at)
 
-unfoldable pub limitPlace : List ℕ → ℕ → ℕ
-limitPlace s at = endOf (encodingAt s (encodingPlace s at))
+unfoldable pub limit_place : List ℕ → ℕ → ℕ
+limit_place s at = end_of (encoding_at s (encoding_place s at))
 
-unfoldable pub typePlace : List ℕ → ℕ → ℕ
-typePlace s at = endOf (limitAt s (limitPlace s at))
+unfoldable pub type_place : List ℕ → ℕ → ℕ
+type_place s at = end_of (limit_at s (limit_place s at))
 
 -- the values of the code's answers
-unfoldable pub codingOf : Encoding → Coding
-codingOf e = record { deltas = e.deltas; base = e.base }
+unfoldable pub coding_of : Encoding → Coding
+coding_of e = record { deltas = e.deltas; base = e.base }
 
-unfoldable pub limitOf : Limit → Option ℕ
-limitOf (Most n) = some n
-limitOf Unlimited = none
+unfoldable pub limit_of : Limit → Option ℕ
+limit_of (Most n) = some n
+limit_of Unlimited = none
 
-unfoldable pub widthOf : Width → Option ℕ
-widthOf (Wire w) = some w
-widthOf Absent = none
+unfoldable pub width_of : Width → Option ℕ
+width_of (Wire w) = some w
+width_of Absent = none
 
 -- Declarations, in the image's format.
-unfoldable pub bodyAt : List ℕ → ℕ → Parsed Decl
-bodyAt s at = bind (byteAt (number bodyRefusal) s at) (λ kind n. declAt (format s) (kindOf kind) s n)
+unfoldable pub body_at : List ℕ → ℕ → Parsed Decl
+body_at s at = bind (byte_at (number body_refusal) s at) (λ kind n. decl_at (format s) (kind_of kind) s n)
 
 unfoldable pub DeclHere : List ℕ → ℕ → Type 0
-DeclHere s at = Good (bodyAt s at)
+DeclHere s at = Good (body_at s at)
 
-unfoldable pub declIn : List ℕ → ℕ → Decl
-declIn s at = valueOr noDecl (bodyAt s at)
+unfoldable pub decl_in : List ℕ → ℕ → Decl
+decl_in s at = value_or no_decl (body_at s at)
 
 -- the marks of messages and enums are a byte after the name
-unfoldable pub marksSize : ℕ → ℕ
-marksSize kind = cond (leb kind (number enumKind)) 1 0
+unfoldable pub marks_size : ℕ → ℕ
+marks_size kind = cond (leb kind (number enum_kind)) 1 0
 
 -- and the width of enums and flags, in a format that stores it, is a byte after that
-unfoldable pub widthPlace : List ℕ → ℕ → ℕ
-widthPlace s at = nameEnd s (at + 1) + marksSize (declIn s at).kind
+unfoldable pub width_place : List ℕ → ℕ → ℕ
+width_place s at = name_end s (at + 1) + marks_size (decl_in s at).kind
 
 unfoldable pub measured : ℕ → Bool
-measured kind = eqb kind (number enumKind) || eqb kind (number flagsKind)
+measured kind = eqb kind (number enum_kind) || eqb kind (number flags_kind)
 
-unfoldable pub storesWidth : ℕ → ℕ → Bool
-storesWidth format kind = hasWidths format && measured kind
+unfoldable pub stores_width : ℕ → ℕ → Bool
+stores_width format kind = has_widths format && measured kind
 
-unfoldable pub widthSize : ℕ → ℕ → ℕ
-widthSize format kind = cond (storesWidth format kind) 1 0
+unfoldable pub width_size : ℕ → ℕ → ℕ
+width_size format kind = cond (stores_width format kind) 1 0
 
 -- the items of a message, an enum, flags or a union
-unfoldable pub itemsIn : List ℕ → ℕ → Run
-itemsIn s at = itemsAt s (widthPlace s at + widthSize (format s) (declIn s at).kind)
+unfoldable pub items_in : List ℕ → ℕ → Run
+items_in s at = items_at s (width_place s at + width_size (format s) (decl_in s at).kind)
 
 -- the type of a newtype
-unfoldable pub innerPlace : List ℕ → ℕ → ℕ
-innerPlace s at = nameEnd s (at + 1)
+unfoldable pub inner_place : List ℕ → ℕ → ℕ
+inner_place s at = name_end s (at + 1)
 
 -- The entry of an id: "An id that is N or more, or whose entry is empty, is unresolvable".
-unfoldable pub entryDecl : List ℕ → Entry → Option Decl
-entryDecl s (Body at) = some (declIn s at)
-entryDecl s Unresolvable = none
+unfoldable pub entry_decl : List ℕ → Entry → Option Decl
+entry_decl s (Body at) = some (decl_in s at)
+entry_decl s Unresolvable = none
 
 unfoldable pub EntryHere : List ℕ → Entry → Type 0
 EntryHere s (Body at) = DeclHere s at
 EntryHere s Unresolvable = Unit {0}
 
 pub record Resolved (s : List ℕ) (id : ℕ) (r : Entry) : Type 0 where
-  pub value : entryDecl s r ≡ get_or (schemaOf s).registry id none
+  pub value : entry_decl s r ≡ get_or (schema_of s).registry id none
   pub here : EntryHere s r
 
 -- What starts a declaration in any format: its kind, and its name unless it is an impl. Of bytes that need not be a whole image.
 pub record StartHere (s : List ℕ) (at : ℕ) : Type 0 where
   pub there : at < length s
-  pub kind : get_or s at 0 ≤ number implKind
-  pub name : ¬ (get_or s at 0 ≡ number implKind) → NameHere s (at + 1)
+  pub kind : get_or s at 0 ≤ number impl_kind
+  pub name : ¬ (get_or s at 0 ≡ number impl_kind) → NameHere s (at + 1)
 
-unfoldable pub startKind : List ℕ → ℕ → ℕ
-startKind s at = get_or s at 0
+unfoldable pub start_kind : List ℕ → ℕ → ℕ
+start_kind s at = get_or s at 0
 
-unfoldable pub startName : List ℕ → ℕ → Name
-startName s at = cond (eqb (startKind s at) (number implKind)) [] (nameIn s (at + 1))
+unfoldable pub start_name : List ℕ → ℕ → Name
+start_name s at = cond (eqb (start_kind s at) (number impl_kind)) [] (name_in s (at + 1))
 
 -- so many bytes from a place on, as a list of their own
-abbrev pub bytesIn : List ℕ → ℕ → ℕ → List ℕ
-bytesIn s from count = take (from + count - from) (drop from s)
+abbrev pub bytes_in : List ℕ → ℕ → ℕ → List ℕ
+bytes_in s from count = take (from + count - from) (drop from s)
 
 -- bytes of the image that hold the declaration of the entry of an id at their start
 pub record BodyIn (s : List ℕ) (id from count : ℕ) : Type 0 where
   pub inside : from + count ≤ length s
-  pub here : StartHere (bytesIn s from count) 0
+  pub here : StartHere (bytes_in s from count) 0
   pub decl : Decl
-  pub is : get_or (schemaOf s).registry id none ≡ some decl
-  pub kind : startKind (bytesIn s from count) 0 ≡ decl.kind
-  pub name : startName (bytesIn s from count) 0 ≡ decl.name
+  pub is : get_or (schema_of s).registry id none ≡ some decl
+  pub kind : start_kind (bytes_in s from count) 0 ≡ decl.kind
+  pub name : start_name (bytes_in s from count) 0 ≡ decl.name
 
 -- where the body of the entry of an id lies; no bytes, if the entry is empty
 pub record BodyOf (s : List ℕ) (id : ℕ) (r : Run) : Type 0 where
-  pub empty : r.count ≡ 0 → get_or (schemaOf s).registry id none ≡ none
+  pub empty : r.count ≡ 0 → get_or (schema_of s).registry id none ≡ none
   pub body : (r.count ≡ 0 → ⊥) → BodyIn s id r.start r.count
 
 -- the namespace's segments
-unfoldable pub segmentsIn : List ℕ → Run
-segmentsIn s = record { start = segmentsAt s; count = segmentCount s }
+unfoldable pub segments_in : List ℕ → Run
+segments_in s = record { start = segments_at s; count = segment_count s }

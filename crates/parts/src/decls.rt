@@ -1,9 +1,9 @@
 // Declarations at places of the image.
 ghost use Rattle.std.specs.Prelude.{◌≡◌, ◌<◌};
-ghost use Rattle.image.specs.Codes.{number, newtypeKind, implKind};
-ghost use Rattle.image.specs.Fields.{marksOf};
+ghost use Rattle.image.specs.Codes.{number, newtype_kind, impl_kind};
+ghost use Rattle.image.specs.Fields.{marks_of};
 ghost use Rattle.image.specs.Image.{format};
-ghost use Rattle.parts.specs.Promise.{DeclHere, declIn, measured, storesWidth, widthOf, widthPlace, innerPlace};
+ghost use Rattle.parts.specs.Promise.{DeclHere, decl_in, measured, stores_width, width_of, width_place, inner_place};
 
 use crate::Width;
 use crate::names::name_end;
@@ -15,7 +15,7 @@ use image::numbers::u16_at;
 // The kind, one of `image::kinds`.
 pub fn decl_kind(image: &[u8], at: usize) -> u8
     requires { DeclHere image.now at }
-    ensures { result ≡ (declIn image.now at).kind }
+    ensures { result ≡ (decl_in image.now at).kind }
 {
     start_kind(image, at)
 }
@@ -23,7 +23,7 @@ pub fn decl_kind(image: &[u8], at: usize) -> u8
 // The bytes of the name; an impl's is empty.
 pub fn decl_name(image: &[u8], at: usize) -> &[u8]
     requires { DeclHere image.now at }
-    ensures { result.now ≡ (declIn image.now at).name }
+    ensures { result.now ≡ (decl_in image.now at).name }
 {
     start_name(image, at)
 }
@@ -31,7 +31,7 @@ pub fn decl_name(image: &[u8], at: usize) -> &[u8]
 // The marks of a declaration as one number. Only messages and enums have them; those of others are none.
 fn marks(image: &[u8], at: usize) -> u8
     requires { DeclHere image.now at }
-    ensures { marksOf result ≡ (declIn image.now at).marks }
+    ensures { marks_of result ≡ (decl_in image.now at).marks }
 {
     if ENUM < image[at] {
         return 0;
@@ -43,7 +43,7 @@ fn marks(image: &[u8], at: usize) -> u8
 // Whether a declaration is marked as deprecated.
 pub fn deprecated(image: &[u8], at: usize) -> bool
     requires { DeclHere image.now at }
-    ensures { result ≡ (declIn image.now at).marks.deprecated }
+    ensures { result ≡ (decl_in image.now at).marks.deprecated }
 {
     marks(image, at) % 2 == 1
 }
@@ -51,7 +51,7 @@ pub fn deprecated(image: &[u8], at: usize) -> bool
 // Whether a declaration is marked as non-exhaustive.
 pub fn non_exhaustive(image: &[u8], at: usize) -> bool
     requires { DeclHere image.now at }
-    ensures { result ≡ (declIn image.now at).marks.nonExhaustive }
+    ensures { result ≡ (decl_in image.now at).marks.non_exhaustive }
 {
     marks(image, at) / 2 == 1
 }
@@ -69,7 +69,7 @@ fn is_measured(kind: u8) -> bool
 // Whether the width of a declaration is stored.
 pub fn stores_width(image: &[u8], at: usize) -> bool
     requires { DeclHere image.now at }
-    ensures { result ≡ storesWidth (format image.now) (declIn image.now at).kind }
+    ensures { result ≡ stores_width (format image.now) (decl_in image.now at).kind }
 {
     if !is_measured(image[at]) {
         return false;
@@ -80,8 +80,8 @@ pub fn stores_width(image: &[u8], at: usize) -> bool
 
 // The place after the name and the marks, where the width stands if it is stored.
 pub fn width_place(image: &[u8], at: usize) -> usize
-    requires { DeclHere image.now at × ((declIn image.now at).kind < number implKind) }
-    ensures { result ≡ widthPlace image.now at }
+    requires { DeclHere image.now at × ((decl_in image.now at).kind < number impl_kind) }
+    ensures { result ≡ width_place image.now at }
 {
     let end = name_end(image, at + 1);
     if image[at] <= ENUM {
@@ -93,7 +93,7 @@ pub fn width_place(image: &[u8], at: usize) -> usize
 // The width of a declaration.
 pub fn width(image: &[u8], at: usize) -> Width
     requires { DeclHere image.now at }
-    ensures { widthOf result ≡ (declIn image.now at).width }
+    ensures { width_of result ≡ (decl_in image.now at).width }
 {
     if !stores_width(image, at) {
         return Width::Absent;
@@ -104,8 +104,8 @@ pub fn width(image: &[u8], at: usize) -> Width
 
 // Where a newtype's type stands.
 pub fn inner_type(image: &[u8], at: usize) -> usize
-    requires { DeclHere image.now at × ((declIn image.now at).kind ≡ number newtypeKind) }
-    ensures { result ≡ innerPlace image.now at }
+    requires { DeclHere image.now at × ((decl_in image.now at).kind ≡ number newtype_kind) }
+    ensures { result ≡ inner_place image.now at }
 {
     name_end(image, at + 1)
 }

@@ -1,6 +1,6 @@
 // The tables of an accepted image: entries, ids, namespace.
 ghost use Rattle.std.specs.Prelude.{◌≡◌, ◌<◌, length, get_or};
-ghost use Rattle.parts.specs.Promise.{Accepted, schemaOf, Resolved, BodyOf, segmentsIn};
+ghost use Rattle.parts.specs.Promise.{Accepted, schema_of, Resolved, BodyOf, segments_in};
 
 use crate::{Entry, Run};
 use image::numbers::u32_at;
@@ -8,7 +8,7 @@ use image::numbers::u32_at;
 // The format, as the head has it.
 pub fn format(image: &[u8]) -> usize
     requires { Accepted image.now }
-    ensures { result ≡ (schemaOf image.now).format }
+    ensures { result ≡ (schema_of image.now).format }
 {
     reader::contents::format(image)
 }
@@ -16,7 +16,7 @@ pub fn format(image: &[u8]) -> usize
 // How many registry entries there are.
 pub fn entry_count(image: &[u8]) -> usize
     requires { Accepted image.now }
-    ensures { result ≡ length (schemaOf image.now).registry }
+    ensures { result ≡ length (schema_of image.now).registry }
 {
     reader::contents::entry_count(image)
 }
@@ -24,15 +24,15 @@ pub fn entry_count(image: &[u8]) -> usize
 // How many declaration ids are listed.
 pub fn id_count(image: &[u8]) -> usize
     requires { Accepted image.now }
-    ensures { result ≡ length (schemaOf image.now).ids }
+    ensures { result ≡ length (schema_of image.now).ids }
 {
     reader::contents::id_count(image)
 }
 
 // The k-th declaration id.
 pub fn id_at(image: &[u8], k: usize) -> u32
-    requires { Accepted image.now × (k < length (schemaOf image.now).ids) }
-    ensures { result ≡ get_or (schemaOf image.now).ids k 0 }
+    requires { Accepted image.now × (k < length (schema_of image.now).ids) }
+    ensures { result ≡ get_or (schema_of image.now).ids k 0 }
 {
     let ids = 8 + 4 * reader::contents::entry_count(image);
     u32_at(image, ids + 4 * k)
@@ -55,7 +55,7 @@ pub fn entry(image: &[u8], id: u32) -> Entry
 
 // Where the body of an entry lies; no bytes, if the entry is empty.
 pub fn body(image: &[u8], id: usize) -> Run
-    requires { Accepted image.now × (id < length (schemaOf image.now).registry) }
+    requires { Accepted image.now × (id < length (schema_of image.now).registry) }
     ensures { BodyOf image.now id result }
 {
     Run {
@@ -67,7 +67,7 @@ pub fn body(image: &[u8], id: usize) -> Run
 // The namespace's names.
 pub fn segments(image: &[u8]) -> Run
     requires { Accepted image.now }
-    ensures { result ≡ segmentsIn image.now }
+    ensures { result ≡ segments_in image.now }
 {
     let n = reader::contents::entry_count(image);
     let m = reader::contents::id_count(image);

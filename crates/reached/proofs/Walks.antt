@@ -5,39 +5,39 @@ use mathlib.Core.Option.{Option, none, some}
 use mathlib.Core.List.{List, [], ◌∷◌, flat_map, append-nil}
 use Prim.Native.Nat.{ℕ, ◌<◌}
 use Rattle.maps.specs.Compare.{between}
-use Rattle.maps.proofs.Lists.{all, flatMap-same, flatMap-flatMap}
+use Rattle.maps.proofs.Lists.{all, flat_map_same, flat_map_flat_map}
 use Rattle.image.specs.Schema.{Field, Variant}
-use Rattle.parts.specs.Promise.{ItemOf, ItemHere, ItemsHere, typePlace, TypeHere, treeIn, variantItems}
+use Rattle.parts.specs.Promise.{ItemOf, ItemHere, ItemsHere, type_place, TypeHere, tree_in, variant_items}
 use Rattle.parts.specs.declared.Run.{Run}
 use Rattle.parts.specs.declared.Shape.{Shape}
-use Rattle.parts.proofs.Promise.{field-type, field-type-here, variant-listed}
-use Rattle.rules.specs.Survivors.{fieldMap, variantMap}
-use Rattle.rules.specs.Clauses.{fieldTypes, variantTypes}
-use Rattle.rules.specs.Reached.{namedIn, IdSet}
+use Rattle.parts.proofs.Promise.{field_type, field_type_here, variant_listed}
+use Rattle.rules.specs.Survivors.{field_map, variant_map}
+use Rattle.rules.specs.Clauses.{field_types, variant_types}
+use Rattle.rules.specs.Reached.{named_in, IdSet}
 use Rattle.survivors.specs.Answers.{ItemFollows}
-use Rattle.survivors.specs.Runs.{itemIn, itemMap, itemsOf, Holds}
+use Rattle.survivors.specs.Runs.{item_in, item_map, items_of, Holds}
 use Rattle.survivors.specs.declared.Next.{Next}
 use Rattle.survivors.specs.declared.Ordinal.{Ordinal}
 use Rattle.survivors.proofs.Runs.{run_holds, next_here}
-use Rattle.survivors.proofs.Walks.{restItems, itemsLeft, items-start, items-done, items-turn, items-less}
+use Rattle.survivors.proofs.Walks.{rest_items, items_left, items_start, items_done, items_turn, items_less}
 use Rattle.reached.specs.Marks.{Marked}
-use Rattle.reached.specs.Named.{itemNames, namedItems}
-use Rattle.reached.proofs.Marking.{marked-as, Owing, owing-start, owing-turn, owing-done}
+use Rattle.reached.specs.Named.{item_names, named_items}
+use Rattle.reached.proofs.Marking.{marked_as, Owing, owing_start, owing_turn, owing_done}
 
 -- ---- what fields and variants name, item by item
 
-pub fields-named : (fs : List Field) → flat_map namedIn (fieldTypes fs) ≡ flat_map (itemNames Shape.Field) (fieldMap fs)
-unfolding fieldTypes itemNames flat_map
-fields-named fs =
-    flatMap-flatMap (λ f. f.type ∷ []) namedIn (fieldMap fs)
-    ∙ flatMap-same (λ f. flat_map namedIn (f.type ∷ [])) (itemNames Shape.Field) (fieldMap fs) (all (λ f. append-nil (namedIn f.type)) (fieldMap fs))
+pub fields_named : (fs : List Field) → flat_map named_in (field_types fs) ≡ flat_map (item_names Shape.Field) (field_map fs)
+unfolding field_types item_names flat_map
+fields_named fs =
+    flat_map_flat_map (λ f. f.type ∷ []) named_in (field_map fs)
+    ∙ flat_map_same (λ f. flat_map named_in (f.type ∷ [])) (item_names Shape.Field) (field_map fs) (all (λ f. append-nil (named_in f.type)) (field_map fs))
 
-pub variants-named : (vs : List Variant) → flat_map namedIn (variantTypes vs) ≡ flat_map (itemNames Shape.Variant) (variantMap vs)
-unfolding variantTypes itemNames
-variants-named vs =
-    flatMap-flatMap (λ v. fieldTypes v.fields) namedIn (variantMap vs)
-    ∙ flatMap-same (λ v. flat_map namedIn (fieldTypes v.fields)) (itemNames Shape.Variant) (variantMap vs)
-    (all (λ v. fields-named v.fields) (variantMap vs))
+pub variants_named : (vs : List Variant) → flat_map named_in (variant_types vs) ≡ flat_map (item_names Shape.Variant) (variant_map vs)
+unfolding variant_types item_names
+variants_named vs =
+    flat_map_flat_map (λ v. field_types v.fields) named_in (variant_map vs)
+    ∙ flat_map_same (λ v. flat_map named_in (field_types v.fields)) (item_names Shape.Variant) (variant_map vs)
+    (all (λ v. fields_named v.fields) (variant_map vs))
 
 -- ---- a walk
 
@@ -48,33 +48,33 @@ each f (some a) o = f a
 
 module _ (h : Shape) (s : List ℕ) (n : Run) where
   -- what is yet to be marked after an ordinal, and how many items are
-  unfoldable pub toMark : Ordinal → List ℕ
-  toMark after = restItems h (each (itemNames h)) (itemsOf h s n) [] after
+  unfoldable pub to_mark : Ordinal → List ℕ
+  to_mark after = rest_items h (each (item_names h)) (items_of h s n) [] after
 
-  unfoldable pub leftIn : Ordinal → ℕ
-  leftIn after = itemsLeft h (itemsOf h s n) after
+  unfoldable pub left_in : Ordinal → ℕ
+  left_in after = items_left h (items_of h s n) after
 
-  pub items-first : {m : IdSet} → Owing s m (namedItems h s n) m (toMark Ordinal.Nothing)
-  unfolding namedItems toMark between each
-  items-first = owing-start (sym (items-start h (each (itemNames h)) (itemsOf h s n) []))
+  pub items_first : {m : IdSet} → Owing s m (named_items h s n) m (to_mark Ordinal.Nothing)
+  unfolding named_items to_mark between each
+  items_first = owing_start (sym (items_start h (each (item_names h)) (items_of h s n) []))
 
   module _ (g : ItemsHere h s n.count n.start) (after : Ordinal) {o : Next} (a : ItemFollows h s n after o) where
-    pub items-last : o ≡ Next.Nothing → {m₀ m : IdSet} {whole : List ℕ} → Owing s m₀ whole m (toMark after) → Marked s m₀ whole m
-    unfolding toMark
-    items-last e w = owing-done w (items-done h (each (itemNames h)) (itemsOf h s n) [] s n (run_holds h s n g) after a e)
+    pub items_last : o ≡ Next.Nothing → {m₀ m : IdSet} {whole : List ℕ} → Owing s m₀ whole m (to_mark after) → Marked s m₀ whole m
+    unfolding to_mark
+    items_last e w = owing_done w (items_done h (each (item_names h)) (items_of h s n) [] s n (run_holds h s n g) after a e)
 
     module _ {k p : ℕ} (e : o ≡ Next.Is k p) where
-      pub item-here : ItemHere h s p
-      item-here = next_here h s n (run_holds h s n g) after a e
+      pub item_here : ItemHere h s p
+      item_here = next_here h s n (run_holds h s n g) after a e
 
-      pub items-go : {m₀ m m' : IdSet} {whole : List ℕ} → Owing s m₀ whole m (toMark after) → Marked s m (itemNames h (itemIn h s p)) m'
-          → Owing s m₀ whole m' (toMark (Ordinal.Is k))
-      unfolding toMark each
-      items-go w d = owing-turn w (items-turn h (each (itemNames h)) (itemsOf h s n) [] s n (run_holds h s n g) after a e) d
+      pub items_go : {m₀ m m' : IdSet} {whole : List ℕ} → Owing s m₀ whole m (to_mark after) → Marked s m (item_names h (item_in h s p)) m'
+          → Owing s m₀ whole m' (to_mark (Ordinal.Is k))
+      unfolding to_mark each
+      items_go w d = owing_turn w (items_turn h (each (item_names h)) (items_of h s n) [] s n (run_holds h s n g) after a e) d
 
-      pub items-fewer : leftIn (Ordinal.Is k) < leftIn after
-      unfolding leftIn
-      items-fewer = items-less h (itemsOf h s n) s n (run_holds h s n g) after a e
+      pub items_fewer : left_in (Ordinal.Is k) < left_in after
+      unfolding left_in
+      items_fewer = items_less h (items_of h s n) s n (run_holds h s n g) after a e
 
 -- ---- the items of a declaration or of a variant: r is their run
 
@@ -82,25 +82,25 @@ module _ (h : Shape) (s : List ℕ) {n r : Run} {xs : List (ItemOf h)} (l : Hold
   pub listed_here : ItemsHere h s r.count r.start
   listed_here = rw f l.here
 
-  pub listed-marked : {m m' : IdSet} → Marked s m (namedItems h s r) m' → Marked s m (flat_map (itemNames h) (itemMap h xs)) m'
-  unfolding namedItems itemsOf
-  listed-marked d = marked-as d (ap (namedItems h s) f ∙ ap (λ ys. flat_map (itemNames h) (itemMap h ys)) (sym l.are))
+  pub listed_marked : {m m' : IdSet} → Marked s m (named_items h s r) m' → Marked s m (flat_map (item_names h) (item_map h xs)) m'
+  unfolding named_items items_of
+  listed_marked d = marked_as d (ap (named_items h s) f ∙ ap (λ ys. flat_map (item_names h) (item_map h ys)) (sym l.are))
 
 -- ---- the item at a place
 
 module _ (s : List ℕ) (p : ℕ) where
-  module _ (g : ItemHere Shape.Field s p) {q : ℕ} (f : q ≡ typePlace s p) where
-    pub field-typed : TypeHere 32 s q
-    field-typed = rw f (field-type-here s p g)
+  module _ (g : ItemHere Shape.Field s p) {q : ℕ} (f : q ≡ type_place s p) where
+    pub field_typed : TypeHere 32 s q
+    field_typed = rw f (field_type_here s p g)
 
-    pub field-marked : {m m' : IdSet} → Marked s m (namedIn (treeIn s q)) m' → Marked s m (itemNames Shape.Field (itemIn Shape.Field s p)) m'
-    unfolding itemNames
-    field-marked d = marked-as d (ap namedIn (ap (treeIn s) f ∙ sym (field-type s p g)))
+    pub field_marked : {m m' : IdSet} → Marked s m (named_in (tree_in s q)) m' → Marked s m (item_names Shape.Field (item_in Shape.Field s p)) m'
+    unfolding item_names
+    field_marked d = marked_as d (ap named_in (ap (tree_in s) f ∙ sym (field_type s p g)))
 
-  module _ (g : ItemHere Shape.Variant s p) {q : Run} (f : q ≡ variantItems s p) where
+  module _ (g : ItemHere Shape.Variant s p) {q : Run} (f : q ≡ variant_items s p) where
     pub variant_fields : ItemsHere Shape.Field s q.count q.start
-    variant_fields = listed_here Shape.Field s (variant-listed s p g) f
+    variant_fields = listed_here Shape.Field s (variant_listed s p g) f
 
-    pub variant-marked : {m m' : IdSet} → Marked s m (namedItems Shape.Field s q) m' → Marked s m (itemNames Shape.Variant (itemIn Shape.Variant s p)) m'
-    unfolding itemNames
-    variant-marked d = listed-marked Shape.Field s (variant-listed s p g) f d
+    pub variant_marked : {m m' : IdSet} → Marked s m (named_items Shape.Field s q) m' → Marked s m (item_names Shape.Variant (item_in Shape.Variant s p)) m'
+    unfolding item_names
+    variant_marked d = listed_marked Shape.Field s (variant_listed s p g) f d

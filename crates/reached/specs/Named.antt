@@ -5,16 +5,16 @@ use Rattle.parts.specs.Promise.{ItemOf}
 use Rattle.parts.specs.declared.Run.{Run}
 use Rattle.parts.specs.declared.Shape.{Shape}
 use Rattle.parts.specs.declared.Shape.TheVariants as shape
-use Rattle.rules.specs.Survivors.{fieldMap}
-use Rattle.rules.specs.Reached.{namedIn}
-use Rattle.survivors.specs.Runs.{itemMap, itemsOf}
+use Rattle.rules.specs.Survivors.{field_map}
+use Rattle.rules.specs.Reached.{named_in}
+use Rattle.survivors.specs.Runs.{item_map, items_of}
 
 -- a field's type, and the fields of a union's variant
-unfoldable pub itemNames : (h : Shape) → ItemOf h → List ℕ
-itemNames shape.Field f = namedIn f.type
-itemNames shape.Bare v = []
-itemNames shape.Variant v = flat_map (λ f. namedIn f.type) (fieldMap v.fields)
+unfoldable pub item_names : (h : Shape) → ItemOf h → List ℕ
+item_names shape.Field f = named_in f.type
+item_names shape.Bare v = []
+item_names shape.Variant v = flat_map (λ f. named_in f.type) (field_map v.fields)
 
 -- the items that stand in a run
-unfoldable pub namedItems : (h : Shape) → List ℕ → Run → List ℕ
-namedItems h s n = flat_map (itemNames h) (itemMap h (itemsOf h s n))
+unfoldable pub named_items : (h : Shape) → List ℕ → Run → List ℕ
+named_items h s n = flat_map (item_names h) (item_map h (items_of h s n))

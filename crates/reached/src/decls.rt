@@ -1,7 +1,7 @@
 // The named nodes in the compared types of declarations, marked.
-ghost use Rattle.parts.specs.Promise.{schemaOf, DeclHere, declIn};
-ghost use Rattle.rules.specs.Survivors.{standsFor, viewOf};
-ghost use Rattle.rules.specs.Reached.{namedOf, namedBy, namedFrom};
+ghost use Rattle.parts.specs.Promise.{schema_of, DeclHere, decl_in};
+ghost use Rattle.rules.specs.Survivors.{stands_for, view_of};
+ghost use Rattle.rules.specs.Reached.{named_of, named_by, named_from};
 ghost use Rattle.reached.specs.Marks.{Ready, Started, Marked};
 
 use crate::fields::{mark_fields, mark_variants};
@@ -16,7 +16,7 @@ use parts::kinds::{MESSAGE, NEWTYPE, UNION};
 // A declaration: the fields of a message, the variants of a union, the type of a newtype. Others have no compared types.
 fn mark_decl(image: &[u8], at: usize, marks: &mut [bool])
     requires { Ready image.now marks.old × DeclHere image.now at }
-    ensures { Marked image.now marks.old (namedOf (declIn image.now at)) marks.new }
+    ensures { Marked image.now marks.old (named_of (decl_in image.now at)) marks.new }
 {
     let kind = decl_kind(image, at);
     match kind {
@@ -30,7 +30,7 @@ fn mark_decl(image: &[u8], at: usize, marks: &mut [bool])
 // The survivors, by rising name.
 pub(crate) fn mark_survivors(image: &[u8], marks: &mut [bool])
     requires { Ready image.now marks.old }
-    ensures { Marked image.now marks.old (namedFrom (viewOf (schemaOf image.now))) marks.new }
+    ensures { Marked image.now marks.old (named_from (view_of (schema_of image.now))) marks.new }
 {
     let mut after = Entry::Unresolvable;
     loop {
@@ -45,7 +45,7 @@ pub(crate) fn mark_survivors(image: &[u8], marks: &mut [bool])
 // The entry of an id. What a survivor names is marked already.
 pub(crate) fn mark_entry(image: &[u8], id: u32, marks: &mut [bool])
     requires { Started image.now marks.old }
-    ensures { Marked image.now marks.old (namedBy (standsFor (schemaOf image.now).registry id)) marks.new }
+    ensures { Marked image.now marks.old (named_by (stands_for (schema_of image.now).registry id)) marks.new }
 {
     let Entry::Body(at) = entry(image, id) else {
         return;

@@ -1,7 +1,7 @@
 // The named nodes in the compared types of fields and of union variants, marked: of one ordinal only what stands counts.
 ghost use Rattle.parts.specs.Promise.{ItemsHere};
 ghost use Rattle.reached.specs.Marks.{Ready, Marked};
-ghost use Rattle.reached.specs.Named.{namedItems};
+ghost use Rattle.reached.specs.Named.{named_items};
 
 use crate::nodes::mark_type;
 use members::fields::field_type;
@@ -13,7 +13,7 @@ use survivors::{Next, Ordinal};
 // The fields of a run, by rising ordinal.
 pub(crate) fn mark_fields(image: &[u8], run: Run, marks: &mut [bool])
     requires { Ready image.now marks.old × ItemsHere Shape.Field image.now run.count run.start }
-    ensures { Marked image.now marks.old (namedItems Shape.Field image.now run) marks.new }
+    ensures { Marked image.now marks.old (named_items Shape.Field image.now run) marks.new }
 {
     let mut after = Ordinal::Nothing;
     loop {
@@ -28,7 +28,7 @@ pub(crate) fn mark_fields(image: &[u8], run: Run, marks: &mut [bool])
 // The variants of a union, by rising ordinal.
 pub(crate) fn mark_variants(image: &[u8], run: Run, marks: &mut [bool])
     requires { Ready image.now marks.old × ItemsHere Shape.Variant image.now run.count run.start }
-    ensures { Marked image.now marks.old (namedItems Shape.Variant image.now run) marks.new }
+    ensures { Marked image.now marks.old (named_items Shape.Variant image.now run) marks.new }
 {
     let mut after = Ordinal::Nothing;
     loop {

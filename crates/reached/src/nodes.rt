@@ -1,7 +1,7 @@
 // The named nodes of a type, marked.
 ghost use Rattle.std.specs.Prelude.{[], ◌∷◌};
-ghost use Rattle.parts.specs.Promise.{LabelHere, labelIn, TypeHere, treeIn};
-ghost use Rattle.rules.specs.Reached.{namedLabel, namedIn};
+ghost use Rattle.parts.specs.Promise.{LabelHere, label_in, TypeHere, tree_in};
+ghost use Rattle.rules.specs.Reached.{named_label, named_in};
 ghost use Rattle.reached.specs.Marks.{Ready, Marked, TypeMarked};
 
 use parts::Entry;
@@ -25,7 +25,7 @@ fn mark_id(image: &[u8], id: u32, marks: &mut [bool])
 // The id of a node, if it is a named one.
 fn mark_label(image: &[u8], at: usize, marks: &mut [bool])
     requires { Ready image.now marks.old × LabelHere image.now at }
-    ensures { Marked image.now marks.old (namedLabel (labelIn image.now at)) marks.new }
+    ensures { Marked image.now marks.old (named_label (label_in image.now at)) marks.new }
 {
     if type_tag(image, at) == NAMED {
         mark_id(image, type_id(image, at), marks);
@@ -54,7 +54,7 @@ fn mark_nodes(image: &[u8], at: usize, left: usize, marks: &mut [bool]) -> usize
 // A whole type.
 pub(crate) fn mark_type(image: &[u8], at: usize, marks: &mut [bool])
     requires { Ready image.now marks.old × TypeHere 32 image.now at }
-    ensures { Marked image.now marks.old (namedIn (treeIn image.now at)) marks.new }
+    ensures { Marked image.now marks.old (named_in (tree_in image.now at)) marks.new }
 {
     mark_nodes(image, at, 32, marks);
 }

@@ -1,5 +1,5 @@
 // The survivors: all that this crate asks of the searches among the declarations, over the listed ids alone.
-ghost use Rattle.parts.specs.Promise.{Accepted, schemaOf, DeclHere, EntryHere};
+ghost use Rattle.parts.specs.Promise.{Accepted, schema_of, DeclHere, EntryHere};
 ghost use Rattle.rules.specs.Survivors.{declarations};
 ghost use Rattle.survivors.specs.Answers.{Follows};
 ghost use Rattle.reached.specs.Marks.{StandsAt};
@@ -11,7 +11,7 @@ use survivors::decls::{next_decl, survivor};
 // The survivor with the least name past that of `after`.
 pub(crate) fn next_survivor(image: &[u8], after: Entry) -> Entry
     requires { Accepted image.now × EntryHere image.now after }
-    ensures { Follows (declarations (schemaOf image.now)) image.now after result }
+    ensures { Follows (declarations (schema_of image.now)) image.now after result }
 {
     let none = [false; 0];
     next_decl(image, &none, after)

@@ -1,7 +1,7 @@
 // Bodies: a kind, and what it has in the image's format.
 ghost use Rattle.std.specs.Prelude.{◌≡◌};
-ghost use Rattle.image.specs.Kinds.{kindOf};
-ghost use Rattle.image.specs.Bodies.{messageAt, enumAt, flagsAt, unionAt, newtypeAt, declAt, bodyOf};
+ghost use Rattle.image.specs.Kinds.{kind_of};
+ghost use Rattle.image.specs.Bodies.{message_at, enum_at, flags_at, union_at, newtype_at, decl_at, body_of};
 ghost use Rattle.image.specs.Reads.{skip};
 
 use image::fields::{read_bares, read_fields, read_marks, read_variants};
@@ -14,7 +14,7 @@ use image::{Read, kinds};
 
 // Name, marks, fields.
 fn read_message(s: &[u8], at: usize) -> Read
-    ensures { result ≡ skip (messageAt s.now at) }
+    ensures { result ≡ skip (message_at s.now at) }
 {
     let name = read_name(s, at, BODY);
     let Read::At(marks_at) = name else {
@@ -29,7 +29,7 @@ fn read_message(s: &[u8], at: usize) -> Read
 
 // Name, marks, width, variants without fields.
 fn read_enum(format: usize, s: &[u8], at: usize) -> Read
-    ensures { result ≡ skip (enumAt format s.now at) }
+    ensures { result ≡ skip (enum_at format s.now at) }
 {
     let name = read_name(s, at, BODY);
     let Read::At(marks_at) = name else {
@@ -48,7 +48,7 @@ fn read_enum(format: usize, s: &[u8], at: usize) -> Read
 
 // Name, width, bits.
 fn read_flags(format: usize, s: &[u8], at: usize) -> Read
-    ensures { result ≡ skip (flagsAt format s.now at) }
+    ensures { result ≡ skip (flags_at format s.now at) }
 {
     let name = read_name(s, at, BODY);
     let Read::At(width_at) = name else {
@@ -63,7 +63,7 @@ fn read_flags(format: usize, s: &[u8], at: usize) -> Read
 
 // Name, variants with fields.
 fn read_union(s: &[u8], at: usize) -> Read
-    ensures { result ≡ skip (unionAt s.now at) }
+    ensures { result ≡ skip (union_at s.now at) }
 {
     let name = read_name(s, at, BODY);
     let Read::At(variants_at) = name else {
@@ -74,7 +74,7 @@ fn read_union(s: &[u8], at: usize) -> Read
 
 // Name, type.
 fn read_newtype(s: &[u8], at: usize) -> Read
-    ensures { result ≡ skip (newtypeAt s.now at) }
+    ensures { result ≡ skip (newtype_at s.now at) }
 {
     let name = read_name(s, at, BODY);
     let Read::At(type_at) = name else {
@@ -85,7 +85,7 @@ fn read_newtype(s: &[u8], at: usize) -> Read
 
 // What follows the kind: configs, generic aliases and traits have only a name, impls have nothing.
 fn read_decl(format: usize, kind: u8, s: &[u8], at: usize) -> Read
-    ensures { result ≡ skip (declAt format (kindOf kind) s.now at) }
+    ensures { result ≡ skip (decl_at format (kind_of kind) s.now at) }
 {
     match kind {
         kinds::MESSAGE => read_message(s, at),
@@ -101,7 +101,7 @@ fn read_decl(format: usize, kind: u8, s: &[u8], at: usize) -> Read
 
 // A whole body: nothing is left.
 pub(crate) fn read_body(format: usize, s: &[u8]) -> Read
-    ensures { result ≡ skip (bodyOf format s.now) }
+    ensures { result ≡ skip (body_of format s.now) }
 {
     let kind = read_byte(s, 0);
     let Read::At(start) = kind else {

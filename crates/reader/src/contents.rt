@@ -1,6 +1,6 @@
 // Head, contents, ids and namespace, and the bodies that the contents place.
 ghost use Rattle.std.specs.Prelude.{◌≡◌, true, ◌+◌, ◌*◌, ◌≤◌, ◌<◌, length};
-ghost use Rattle.image.specs.Image.{format, entryCount, idCount, segmentCount, entryOffset, entryLength, headOf, tablesOf, laid, entryOf, entriesOf, readImage};
+ghost use Rattle.image.specs.Image.{format, entry_count, id_count, segment_count, entry_offset, entry_length, head_of, tables_of, laid, entry_of, entries_of, read_image};
 ghost use Rattle.image.specs.Reads.{skip};
 
 use crate::bodies::read_body;
@@ -21,7 +21,7 @@ pub fn format(s: &[u8]) -> usize
 // The head's count of registry entries.
 pub fn entry_count(s: &[u8]) -> usize
     requires { 8 ≤ length s.now }
-    ensures { (result ≡ entryCount s.now) × (result < 65536) }
+    ensures { (result ≡ entry_count s.now) × (result < 65536) }
 {
     u16_at(s, 2)
 }
@@ -29,7 +29,7 @@ pub fn entry_count(s: &[u8]) -> usize
 // The head's count of declaration ids.
 pub fn id_count(s: &[u8]) -> usize
     requires { 8 ≤ length s.now }
-    ensures { (result ≡ idCount s.now) × (result < 65536) }
+    ensures { (result ≡ id_count s.now) × (result < 65536) }
 {
     u16_at(s, 4)
 }
@@ -37,7 +37,7 @@ pub fn id_count(s: &[u8]) -> usize
 // The head's count of namespace segments.
 pub fn segment_count(s: &[u8]) -> usize
     requires { 8 ≤ length s.now }
-    ensures { (result ≡ segmentCount s.now) × (result < 65536) }
+    ensures { (result ≡ segment_count s.now) × (result < 65536) }
 {
     u16_at(s, 6)
 }
@@ -45,7 +45,7 @@ pub fn segment_count(s: &[u8]) -> usize
 // Where the body of the i-th entry starts.
 pub fn entry_offset(s: &[u8], i: usize) -> usize
     requires { 8 + 4 * i + 4 ≤ length s.now }
-    ensures { (result ≡ entryOffset s.now i) × (result < 65536) }
+    ensures { (result ≡ entry_offset s.now i) × (result < 65536) }
 {
     u16_at(s, 8 + 4 * i)
 }
@@ -53,14 +53,14 @@ pub fn entry_offset(s: &[u8], i: usize) -> usize
 // And how long it is.
 pub fn entry_length(s: &[u8], i: usize) -> usize
     requires { 8 + 4 * i + 4 ≤ length s.now }
-    ensures { (result ≡ entryLength s.now i) × (result < 65536) }
+    ensures { (result ≡ entry_length s.now i) × (result < 65536) }
 {
     u16_at(s, 10 + 4 * i)
 }
 
 // The head: its length, its format and its counts.
 fn read_head(s: &[u8]) -> Read
-    ensures { result ≡ skip (headOf s.now) }
+    ensures { result ≡ skip (head_of s.now) }
 {
     if 32768 < s.len() {
         return Read::Refused(LONG);
@@ -86,7 +86,7 @@ fn read_head(s: &[u8]) -> Read
 // The contents and the ids are there.
 fn read_tables(s: &[u8]) -> Read
     requires { 8 ≤ length s.now }
-    ensures { result ≡ skip (tablesOf s.now) }
+    ensures { result ≡ skip (tables_of s.now) }
 {
     let end = 8 + 4 * entry_count(s) + 4 * id_count(s);
     if s.len() < end {
@@ -125,8 +125,8 @@ fn is_laid(s: &[u8], n: usize, from: usize) -> bool
 
 // The body of an entry, if it has one, in a format.
 fn read_entry(format: usize, s: &[u8], i: usize) -> Read
-    requires { (8 + 4 * i + 4 ≤ length s.now) × (entryOffset s.now i + entryLength s.now i ≤ length s.now) }
-    ensures { result ≡ skip (entryOf format s.now i) }
+    requires { (8 + 4 * i + 4 ≤ length s.now) × (entry_offset s.now i + entry_length s.now i ≤ length s.now) }
+    ensures { result ≡ skip (entry_of format s.now i) }
 {
     let len = entry_length(s, i);
     if len == 0 {
@@ -140,7 +140,7 @@ fn read_entry(format: usize, s: &[u8], i: usize) -> Read
 // The bodies of the n entries, which lie without gaps from a position on.
 fn read_entries(format: usize, s: &[u8], n: usize, from: usize) -> Read
     requires { (8 + 4 * n ≤ length s.now) × (laid n s.now 0 from ≡ true) }
-    ensures { result ≡ skip (entriesOf format n s.now 0) }
+    ensures { result ≡ skip (entries_of format n s.now 0) }
 {
     let mut i: usize = 0;
     while i < n {
@@ -155,7 +155,7 @@ fn read_entries(format: usize, s: &[u8], n: usize, from: usize) -> Read
 
 // A whole image.
 pub(crate) fn read_whole(s: &[u8]) -> Read
-    ensures { result ≡ skip (readImage s.now) }
+    ensures { result ≡ skip (read_image s.now) }
 {
     let head = read_head(s);
     let Read::At(_) = head else {

@@ -5,7 +5,7 @@
 mod bodies;
 pub mod contents;
 
-ghost use Rattle.image.specs.Image.{readImage};
+ghost use Rattle.image.specs.Image.{read_image};
 ghost use Rattle.reader.specs.Answer.{Answers};
 
 use image::Read;
@@ -20,7 +20,7 @@ pub enum Acceptance {
 
 // Whether an image is accepted, or the number of the first refusal that document 01's order meets.
 pub fn read_image(image: &[u8]) -> Acceptance
-    ensures { Answers (readImage image.now) result }
+    ensures { Answers (read_image image.now) result }
 {
     let step = contents::read_whole(image);
     match step {

@@ -9,56 +9,56 @@ use lib.ListN.{get_or}
 use Rattle.maps.specs.Lists.{All}
 use Rattle.maps.specs.Reordered.{here, later, nothing, each, EachTwo, Once}
 use Rattle.maps.proofs.Tests.{no_both}
-use Rattle.image.specs.Schema.{Name, unmarked, label, Ty, leaf, two, noType, Field, Variant, Decl, decl, Schema}
+use Rattle.image.specs.Schema.{Name, unmarked, label, Ty, leaf, two, no_type, Field, Variant, Decl, decl, Schema}
 use Rattle.image.specs.Parse.{ok}
-use Rattle.image.specs.Image.{readImage}
-use Rattle.rules.specs.Equal.{sameName}
-use Rattle.rules.specs.Survivors.{Registry, standsFor}
+use Rattle.image.specs.Image.{read_image}
+use Rattle.rules.specs.Equal.{same_name}
+use Rattle.rules.specs.Survivors.{Registry, stands_for}
 use Rattle.rules.specs.Outcome.{written}
-use Rattle.rules.specs.Edges.{named as namedType, around, u8, impl}
+use Rattle.rules.specs.Edges.{named as named_type, around, u8, impl}
 use Rattle.rules.specs.Pinned.{told}
 use Rattle.rules.proofs.Equal.{names}
 use Rattle.rules.proofs.Computed.{reads, reports}
-use Rattle.refiling.specs.Refiling.{entries, Impls, NamesOnce, NumbersOnce, NoRepeats, Unresolvable, RefiledId, unresolvable, aLeaf, aOne, aTwo, RefiledDecl, Renumbered, Refiled, RefiledImage}
-use Rattle.refiling.specs.Example.{first, firstAnew, second, secondAnew, Example}
-use Rattle.refiling.proofs.Tables.{Rows, renumbered-by, moved-id, plainField, item, stays, primitive-anew, named-anew, field-anew, item-anew, decl-anew}
-use Rattle.refiling.proofs.FilingOrder.{refiled-image, filing-order}
+use Rattle.refiling.specs.Refiling.{entries, Impls, NamesOnce, NumbersOnce, NoRepeats, Unresolvable, RefiledId, unresolvable, a_leaf, a_one, a_two, RefiledDecl, Renumbered, Refiled, RefiledImage}
+use Rattle.refiling.specs.Example.{first, first_anew, second, second_anew, Example}
+use Rattle.refiling.proofs.Tables.{Rows, renumbered_by, moved_id, plain_field, item, stays, primitive_anew, named_anew, field_anew, item_anew, decl_anew}
+use Rattle.refiling.proofs.FilingOrder.{refiled_image, filing_order}
 use Rattle.refiling.proofs.Relation.{refilings}
 
 -- ---- what the images hold; the bytes of the names are their numbers: M 77, U 85, F 70, E 69, N 78, K 75, and a 97
 
 abbrev message : List Field → Decl
-message fs = decl 0 (77 ∷ []) unmarked none fs [] noType
+message fs = decl 0 (77 ∷ []) unmarked none fs [] no_type
 
 abbrev union : List Variant → Decl
-union vs = decl 3 (85 ∷ []) unmarked none [] vs noType
+union vs = decl 3 (85 ∷ []) unmarked none [] vs no_type
 
 abbrev flags : Option ℕ → List Variant → Decl
-flags width vs = decl 2 (70 ∷ []) unmarked width [] vs noType
+flags width vs = decl 2 (70 ∷ []) unmarked width [] vs no_type
 
 abbrev enum : Option ℕ → List Variant → Decl
-enum width vs = decl 1 (69 ∷ []) unmarked width [] vs noType
+enum width vs = decl 1 (69 ∷ []) unmarked width [] vs no_type
 
 abbrev newtype : Ty → Decl
 newtype t = decl 4 (78 ∷ []) unmarked none [] [] t
 
 abbrev config : Decl
-config = decl 5 (75 ∷ []) unmarked none [] [] noType
+config = decl 5 (75 ∷ []) unmarked none [] [] no_type
 
 abbrev a : Ty → Field
-a t = plainField 0 (97 ∷ []) t
+a t = plain_field 0 (97 ∷ []) t
 
 abbrev b : ℕ → Field
-b id = plainField 1 (98 ∷ []) (namedType id)
+b id = plain_field 1 (98 ∷ []) (named_type id)
 
 abbrev f : Field
-f = plainField 0 (102 ∷ []) u8
+f = plain_field 0 (102 ∷ []) u8
 
 abbrev g : ℕ → Field
-g id = plainField 1 (103 ∷ []) (namedType id)
+g id = plain_field 1 (103 ∷ []) (named_type id)
 
 abbrev h : ℕ → Field
-h id = plainField 1 (104 ∷ []) (namedType id)
+h id = plain_field 1 (104 ∷ []) (named_type id)
 
 abbrev x : Variant
 x = item 0 (120 ∷ []) []
@@ -79,63 +79,63 @@ abbrev s : Variant
 s = item 1 (115 ∷ []) []
 
 -- map<E, bits { i, j }>
-abbrev mapOf : ℕ → Ty
-mapOf id = two (label 8 0 0 []) (namedType id) (leaf (label 16 0 0 ((105 ∷ []) ∷ (106 ∷ []) ∷ [])))
+abbrev map_of : ℕ → Ty
+map_of id = two (label 8 0 0 []) (named_type id) (leaf (label 16 0 0 ((105 ∷ []) ∷ (106 ∷ []) ∷ [])))
 
 abbrev ride : List Name
 ride = (114 ∷ 105 ∷ 100 ∷ 101 ∷ []) ∷ []
 
 abbrev R : Registry
 R =
-    some (message (a (around 5 (namedType 1)) ∷ b 9 ∷ [])) ∷ some (union (x ∷ y (f ∷ g 0 ∷ []) ∷ [])) ∷ some (flags none (p ∷ q ∷ []))
+    some (message (a (around 5 (named_type 1)) ∷ b 9 ∷ [])) ∷ some (union (x ∷ y (f ∷ g 0 ∷ []) ∷ [])) ∷ some (flags none (p ∷ q ∷ []))
     ∷ some impl ∷ some impl ∷ []
 
 abbrev R' : Registry
 R' =
     none ∷ some (flags (some 1) (q ∷ p ∷ [])) ∷ some impl ∷ some (union (y (g 5 ∷ f ∷ []) ∷ x ∷ [])) ∷ some impl
-    ∷ some (message (b 0 ∷ a (around 5 (namedType 3)) ∷ [])) ∷ []
+    ∷ some (message (b 0 ∷ a (around 5 (named_type 3)) ∷ [])) ∷ []
 
 abbrev S : Registry
 S =
     some (message (a u8 ∷ b 5 ∷ [])) ∷ some (union (y (f ∷ h 1 ∷ []) ∷ [])) ∷ some (flags none (p ∷ [])) ∷ some (enum none (r ∷ s ∷ []))
-    ∷ some (newtype (mapOf 3)) ∷ some config ∷ []
+    ∷ some (newtype (map_of 3)) ∷ some config ∷ []
 
 abbrev S' : Registry
 S' =
-    some (newtype (mapOf 2)) ∷ some config ∷ some (enum (some 8) (s ∷ r ∷ [])) ∷ some (flags (some 4) (p ∷ [])) ∷ some (union (y (h 4 ∷ f ∷ []) ∷ []))
+    some (newtype (map_of 2)) ∷ some config ∷ some (enum (some 8) (s ∷ r ∷ [])) ∷ some (flags (some 4) (p ∷ [])) ∷ some (union (y (h 4 ∷ f ∷ []) ∷ []))
     ∷ some (message (b 1 ∷ a u8 ∷ [])) ∷ []
 
-abbrev rideOf : ℕ → Registry → List ℕ → Schema
-rideOf format registry ids = record { format = format; registry = registry; ids = ids; namespace = ride }
+abbrev ride_of : ℕ → Registry → List ℕ → Schema
+ride_of format registry ids = record { format = format; registry = registry; ids = ids; namespace = ride }
 
-first_read : readImage first ≡ ok (rideOf 1 R (0 ∷ 1 ∷ 2 ∷ 3 ∷ 9 ∷ 4 ∷ [])) 157
+first_read : read_image first ≡ ok (ride_of 1 R (0 ∷ 1 ∷ 2 ∷ 3 ∷ 9 ∷ 4 ∷ [])) 157
 unfolding reads
 first_read = refl
 
-firstAnew-read : readImage firstAnew ≡ ok (rideOf 2 R' (4 ∷ 5 ∷ 0 ∷ 3 ∷ 1 ∷ 2 ∷ [])) 162
+first_anew_read : read_image first_anew ≡ ok (ride_of 2 R' (4 ∷ 5 ∷ 0 ∷ 3 ∷ 1 ∷ 2 ∷ [])) 162
 unfolding reads
-firstAnew-read = refl
+first_anew_read = refl
 
-second-read : readImage second ≡ ok (rideOf 1 S (0 ∷ 1 ∷ 2 ∷ 3 ∷ 4 ∷ [])) 173
+second_read : read_image second ≡ ok (ride_of 1 S (0 ∷ 1 ∷ 2 ∷ 3 ∷ 4 ∷ [])) 173
 unfolding reads
-second-read = refl
+second_read = refl
 
-secondAnew-read : readImage secondAnew ≡ ok (rideOf 2 S' (0 ∷ 3 ∷ 5 ∷ 2 ∷ 4 ∷ [])) 175
+second_anew_read : read_image second_anew ≡ ok (ride_of 2 S' (0 ∷ 3 ∷ 5 ∷ 2 ∷ 4 ∷ [])) 175
 unfolding reads
-secondAnew-read = refl
+second_anew_read = refl
 
 -- ---- no repeats
 
-differ : {A : Type 0} (m n : Name) → sameName m n ≡ false → m ≡ n → A
+differ : {A : Type 0} (m n : Name) → same_name m n ≡ false → m ≡ n → A
 differ m n e k = no_both (rw k (names.self n)) e
 
-none-twice : (d : Decl) → d.fields ≡ [] → d.variants ≡ [] → NumbersOnce d
+none_twice : (d : Decl) → d.fields ≡ [] → d.variants ≡ [] → NumbersOnce d
 unfolding Once EachTwo All
-none-twice d e k = record { fields = rw e tt; variants = rw k tt; variantFields = rw k tt }
+none_twice d e k = record { fields = rw e tt; variants = rw k tt; variant_fields = rw k tt }
 
-first-once : NoRepeats (rideOf 1 R (0 ∷ 1 ∷ 2 ∷ 3 ∷ 9 ∷ 4 ∷ []))
+first_once : NoRepeats (ride_of 1 R (0 ∷ 1 ∷ 2 ∷ 3 ∷ 9 ∷ 4 ∷ []))
 unfolding reports entries NamesOnce EachTwo All Once Impls
-first-once = record {
+first_once = record {
   names = (
     (differ _ _ refl, (differ _ _ refl, (differ _ _ refl, (differ _ _ refl, tt)))),
     (
@@ -144,20 +144,20 @@ first-once = record {
     ),
   );
   numbers = (
-    record { fields = (((λ e. omega arith), tt), (tt, tt)); variants = tt; variantFields = tt },
+    record { fields = (((λ e. omega arith), tt), (tt, tt)); variants = tt; variant_fields = tt },
     (
-      record { fields = tt; variants = (((λ e. omega arith), tt), (tt, tt)); variantFields = (tt, ((((λ e. omega arith), tt), (tt, tt)), tt)) },
+      record { fields = tt; variants = (((λ e. omega arith), tt), (tt, tt)); variant_fields = (tt, ((((λ e. omega arith), tt), (tt, tt)), tt)) },
       (
-        record { fields = tt; variants = (((λ e. omega arith), tt), (tt, tt)); variantFields = (tt, (tt, tt)) },
-        (none-twice _ refl refl, (none-twice _ refl refl, tt)),
+        record { fields = tt; variants = (((λ e. omega arith), tt), (tt, tt)); variant_fields = (tt, (tt, tt)) },
+        (none_twice _ refl refl, (none_twice _ refl refl, tt)),
       ),
     ),
   );
 }
 
-second-once : NoRepeats (rideOf 1 S (0 ∷ 1 ∷ 2 ∷ 3 ∷ 4 ∷ []))
+second_once : NoRepeats (ride_of 1 S (0 ∷ 1 ∷ 2 ∷ 3 ∷ 4 ∷ []))
 unfolding reports entries NamesOnce EachTwo All Once Impls
-second-once = record {
+second_once = record {
   names = (
     (differ _ _ refl, (differ _ _ refl, (differ _ _ refl, (differ _ _ refl, tt)))),
     (
@@ -166,14 +166,14 @@ second-once = record {
     ),
   );
   numbers = (
-    record { fields = (((λ e. omega arith), tt), (tt, tt)); variants = tt; variantFields = tt },
+    record { fields = (((λ e. omega arith), tt), (tt, tt)); variants = tt; variant_fields = tt },
     (
-      record { fields = tt; variants = (tt, tt); variantFields = ((((λ e. omega arith), tt), (tt, tt)), tt) },
+      record { fields = tt; variants = (tt, tt); variant_fields = ((((λ e. omega arith), tt), (tt, tt)), tt) },
       (
-        record { fields = tt; variants = (tt, tt); variantFields = (tt, tt) },
+        record { fields = tt; variants = (tt, tt); variant_fields = (tt, tt) },
         (
-          record { fields = tt; variants = (((λ e. omega arith), tt), (tt, tt)); variantFields = (tt, (tt, tt)) },
-          (none-twice _ refl refl, (none-twice _ refl refl, tt)),
+          record { fields = tt; variants = (((λ e. omega arith), tt), (tt, tt)); variant_fields = (tt, (tt, tt)) },
+          (none_twice _ refl refl, (none_twice _ refl refl, tt)),
         ),
       ),
     ),
@@ -190,55 +190,55 @@ from j = get_or (0 ∷ 2 ∷ 4 ∷ 1 ∷ 3 ∷ 0 ∷ []) j 0
 
 -- the unresolvable id
 lost : RefiledId R R' to 9 0
-unfolding Unresolvable standsFor
+unfolding Unresolvable stands_for
 lost = unresolvable refl refl
 
-message-anew : RefiledDecl R R' to (message (a (around 5 (namedType 1)) ∷ b 9 ∷ [])) (message (b 0 ∷ a (around 5 (namedType 3)) ∷ []))
-unfolding standsFor
-message-anew =
-    decl-anew 0 _
-    (each (field-anew 0 _ (aOne (stays 5 0 [] (λ e. omega arith)) (named-anew (moved-id 1 refl))))
-    (each (field-anew 1 _ (named-anew lost)) nothing here) (later here))
-    nothing (primitive-anew 0)
+message_anew : RefiledDecl R R' to (message (a (around 5 (named_type 1)) ∷ b 9 ∷ [])) (message (b 0 ∷ a (around 5 (named_type 3)) ∷ []))
+unfolding stands_for
+message_anew =
+    decl_anew 0 _
+    (each (field_anew 0 _ (a_one (stays 5 0 [] (λ e. omega arith)) (named_anew (moved_id 1 refl))))
+    (each (field_anew 1 _ (named_anew lost)) nothing here) (later here))
+    nothing (primitive_anew 0)
 
-union-anew : RefiledDecl R R' to (union (x ∷ y (f ∷ g 0 ∷ []) ∷ [])) (union (y (g 5 ∷ f ∷ []) ∷ x ∷ []))
-unfolding standsFor
-union-anew =
-    decl-anew 3 _ nothing
-    (each (item-anew 0 _ nothing)
+union_anew : RefiledDecl R R' to (union (x ∷ y (f ∷ g 0 ∷ []) ∷ [])) (union (y (g 5 ∷ f ∷ []) ∷ x ∷ []))
+unfolding stands_for
+union_anew =
+    decl_anew 3 _ nothing
+    (each (item_anew 0 _ nothing)
     (each
-    (item-anew 1 _
-    (each (field-anew 0 _ (primitive-anew 1)) (each (field-anew 1 _ (named-anew (moved-id 0 refl))) nothing here) (later here)))
+    (item_anew 1 _
+    (each (field_anew 0 _ (primitive_anew 1)) (each (field_anew 1 _ (named_anew (moved_id 0 refl))) nothing here) (later here)))
     nothing here) (later here))
-    (primitive-anew 0)
+    (primitive_anew 0)
 
-flags-anew : RefiledDecl R R' to (flags none (p ∷ q ∷ [])) (flags (some 1) (q ∷ p ∷ []))
-flags-anew = decl-anew 2 _ nothing (each (item-anew 0 _ nothing) (each (item-anew 1 _ nothing) nothing here) (later here)) (primitive-anew 0)
+flags_anew : RefiledDecl R R' to (flags none (p ∷ q ∷ [])) (flags (some 1) (q ∷ p ∷ []))
+flags_anew = decl_anew 2 _ nothing (each (item_anew 0 _ nothing) (each (item_anew 1 _ nothing) nothing here) (later here)) (primitive_anew 0)
 
-impl-anew : RefiledDecl R R' to impl impl
-impl-anew = decl-anew 8 _ nothing nothing (primitive-anew 0)
+impl_anew : RefiledDecl R R' to impl impl
+impl_anew = decl_anew 8 _ nothing nothing (primitive_anew 0)
 
-first-renumbered : Renumbered R R' to from
-unfolding Rows standsFor
-first-renumbered =
-    renumbered-by R R' to from (
-      (_, refl, refl, message-anew),
-      ((_, refl, refl, union-anew), ((_, refl, refl, flags-anew), ((_, refl, refl, impl-anew), ((_, refl, refl, impl-anew), tt)))),
+first_renumbered : Renumbered R R' to from
+unfolding Rows stands_for
+first_renumbered =
+    renumbered_by R R' to from (
+      (_, refl, refl, message_anew),
+      ((_, refl, refl, union_anew), ((_, refl, refl, flags_anew), ((_, refl, refl, impl_anew), ((_, refl, refl, impl_anew), tt)))),
     )
     ((_, refl, refl), ((_, refl, refl), ((_, refl, refl), ((_, refl, refl), ((_, refl, refl), tt)))))
 
-first-anew : Refiled (rideOf 1 R (0 ∷ 1 ∷ 2 ∷ 3 ∷ 9 ∷ 4 ∷ [])) (rideOf 2 R' (4 ∷ 5 ∷ 0 ∷ 3 ∷ 1 ∷ 2 ∷ []))
-unfolding standsFor
-first-anew = record {
+first_anew_lem : Refiled (ride_of 1 R (0 ∷ 1 ∷ 2 ∷ 3 ∷ 9 ∷ 4 ∷ [])) (ride_of 2 R' (4 ∷ 5 ∷ 0 ∷ 3 ∷ 1 ∷ 2 ∷ []))
+unfolding stands_for
+first_anew_lem = record {
   to = to;
   from = from;
-  registry = first-renumbered;
+  registry = first_renumbered;
   ids =
-      each (moved-id 0 refl)
-      (each (moved-id 1 refl)
-      (each (moved-id 2 refl)
-      (each (moved-id 3 refl)
-      (each lost (each (moved-id 4 refl) nothing here) here) here) (later (later here))) (later (later here))) (later here);
+      each (moved_id 0 refl)
+      (each (moved_id 1 refl)
+      (each (moved_id 2 refl)
+      (each (moved_id 3 refl)
+      (each lost (each (moved_id 4 refl) nothing here) here) here) (later (later here))) (later (later here))) (later here);
   namespace = refl;
 }
 
@@ -250,93 +250,93 @@ on i = get_or (5 ∷ 4 ∷ 3 ∷ 2 ∷ 0 ∷ 1 ∷ []) i 9
 abbrev off : ℕ → ℕ
 off j = get_or (4 ∷ 5 ∷ 3 ∷ 2 ∷ 1 ∷ 0 ∷ []) j 9
 
-later-message : RefiledDecl S S' on (message (a u8 ∷ b 5 ∷ [])) (message (b 1 ∷ a u8 ∷ []))
-unfolding standsFor
-later-message =
-    decl-anew 0 _ (each (field-anew 0 _ (primitive-anew 1)) (each (field-anew 1 _ (named-anew (moved-id 5 refl))) nothing here) (later here))
-    nothing (primitive-anew 0)
+later_message : RefiledDecl S S' on (message (a u8 ∷ b 5 ∷ [])) (message (b 1 ∷ a u8 ∷ []))
+unfolding stands_for
+later_message =
+    decl_anew 0 _ (each (field_anew 0 _ (primitive_anew 1)) (each (field_anew 1 _ (named_anew (moved_id 5 refl))) nothing here) (later here))
+    nothing (primitive_anew 0)
 
-later-union : RefiledDecl S S' on (union (y (f ∷ h 1 ∷ []) ∷ [])) (union (y (h 4 ∷ f ∷ []) ∷ []))
-unfolding standsFor
-later-union =
-    decl-anew 3 _ nothing
+later_union : RefiledDecl S S' on (union (y (f ∷ h 1 ∷ []) ∷ [])) (union (y (h 4 ∷ f ∷ []) ∷ []))
+unfolding stands_for
+later_union =
+    decl_anew 3 _ nothing
     (each
-    (item-anew 1 _
-    (each (field-anew 0 _ (primitive-anew 1)) (each (field-anew 1 _ (named-anew (moved-id 1 refl))) nothing here) (later here)))
+    (item_anew 1 _
+    (each (field_anew 0 _ (primitive_anew 1)) (each (field_anew 1 _ (named_anew (moved_id 1 refl))) nothing here) (later here)))
     nothing here)
-    (primitive-anew 0)
+    (primitive_anew 0)
 
-later-flags : RefiledDecl S S' on (flags none (p ∷ [])) (flags (some 4) (p ∷ []))
-later-flags = decl-anew 2 _ nothing (each (item-anew 0 _ nothing) nothing here) (primitive-anew 0)
+later_flags : RefiledDecl S S' on (flags none (p ∷ [])) (flags (some 4) (p ∷ []))
+later_flags = decl_anew 2 _ nothing (each (item_anew 0 _ nothing) nothing here) (primitive_anew 0)
 
-enum-anew : RefiledDecl S S' on (enum none (r ∷ s ∷ [])) (enum (some 8) (s ∷ r ∷ []))
-enum-anew = decl-anew 1 _ nothing (each (item-anew 0 _ nothing) (each (item-anew 1 _ nothing) nothing here) (later here)) (primitive-anew 0)
+enum_anew : RefiledDecl S S' on (enum none (r ∷ s ∷ [])) (enum (some 8) (s ∷ r ∷ []))
+enum_anew = decl_anew 1 _ nothing (each (item_anew 0 _ nothing) (each (item_anew 1 _ nothing) nothing here) (later here)) (primitive_anew 0)
 
-newtype-anew : RefiledDecl S S' on (newtype (mapOf 3)) (newtype (mapOf 2))
-unfolding standsFor
-newtype-anew =
-    decl-anew 4 _ nothing nothing
-    (aTwo (stays 8 0 [] (λ e. omega arith)) (named-anew (moved-id 3 refl)) (aLeaf (stays 16 0 _ (λ e. omega arith))))
+newtype_anew : RefiledDecl S S' on (newtype (map_of 3)) (newtype (map_of 2))
+unfolding stands_for
+newtype_anew =
+    decl_anew 4 _ nothing nothing
+    (a_two (stays 8 0 [] (λ e. omega arith)) (named_anew (moved_id 3 refl)) (a_leaf (stays 16 0 _ (λ e. omega arith))))
 
-config-anew : RefiledDecl S S' on config config
-config-anew = decl-anew 5 _ nothing nothing (primitive-anew 0)
+config_anew : RefiledDecl S S' on config config
+config_anew = decl_anew 5 _ nothing nothing (primitive_anew 0)
 
-second-renumbered : Renumbered S S' on off
-unfolding Rows standsFor
-second-renumbered =
-    renumbered-by S S' on off (
-      (_, refl, refl, later-message),
+second_renumbered : Renumbered S S' on off
+unfolding Rows stands_for
+second_renumbered =
+    renumbered_by S S' on off (
+      (_, refl, refl, later_message),
       (
-        (_, refl, refl, later-union),
+        (_, refl, refl, later_union),
         (
-          (_, refl, refl, later-flags),
-          ((_, refl, refl, enum-anew), ((_, refl, refl, newtype-anew), ((_, refl, refl, config-anew), tt))),
+          (_, refl, refl, later_flags),
+          ((_, refl, refl, enum_anew), ((_, refl, refl, newtype_anew), ((_, refl, refl, config_anew), tt))),
         ),
       ),
     )
     ((_, refl, refl), ((_, refl, refl), ((_, refl, refl), ((_, refl, refl), ((_, refl, refl), ((_, refl, refl), tt))))))
 
-second-anew : Refiled (rideOf 1 S (0 ∷ 1 ∷ 2 ∷ 3 ∷ 4 ∷ [])) (rideOf 2 S' (0 ∷ 3 ∷ 5 ∷ 2 ∷ 4 ∷ []))
-unfolding standsFor
-second-anew = record {
+second_anew_lem : Refiled (ride_of 1 S (0 ∷ 1 ∷ 2 ∷ 3 ∷ 4 ∷ [])) (ride_of 2 S' (0 ∷ 3 ∷ 5 ∷ 2 ∷ 4 ∷ []))
+unfolding stands_for
+second_anew_lem = record {
   to = on;
   from = off;
-  registry = second-renumbered;
+  registry = second_renumbered;
   ids =
-      each (moved-id 0 refl)
-      (each (moved-id 1 refl)
-      (each (moved-id 2 refl)
-      (each (moved-id 3 refl) (each (moved-id 4 refl) nothing here) (later here)) (later here)) (later (later (later here))))
+      each (moved_id 0 refl)
+      (each (moved_id 1 refl)
+      (each (moved_id 2 refl)
+      (each (moved_id 3 refl) (each (moved_id 4 refl) nothing here) (later here)) (later here)) (later (later (later here))))
       (later (later here));
   namespace = refl;
 }
 
 -- ---- the reports
 
-old-anew : RefiledImage NoRepeats first firstAnew
-old-anew = refiled-image first_read firstAnew-read first-once first-anew
+old_anew_lem : RefiledImage NoRepeats first first_anew
+old_anew_lem = refiled_image first_read first_anew_read first_once first_anew_lem
 
-new-anew : RefiledImage NoRepeats second secondAnew
-new-anew = refiled-image second-read secondAnew-read second-once second-anew
+new_anew_lem : RefiledImage NoRepeats second second_anew
+new_anew_lem = refiled_image second_read second_anew_read second_once second_anew_lem
 
-old-same : RefiledImage NoRepeats first first
-old-same = refiled-image first_read first_read first-once (refilings.itself _)
+old_same : RefiledImage NoRepeats first first
+old_same = refiled_image first_read first_read first_once (refilings.itself _)
 
-new-same : RefiledImage NoRepeats second second
-new-same = refiled-image second-read second-read second-once (refilings.itself _)
+new_same : RefiledImage NoRepeats second second
+new_same = refiled_image second_read second_read second_once (refilings.itself _)
 
 -- the same report in place of another
-same-told : (old new : List ℕ) → RefiledImage NoRepeats first old → RefiledImage NoRepeats second new → told old new ≡ told first second
+same_told : (old new : List ℕ) → RefiledImage NoRepeats first old → RefiledImage NoRepeats second new → told old new ≡ told first second
 unfolding told
-same-told old new o n = ap (λ c. written c []) (sym (filing-order.noRepeats first second old new o n).outcome)
+same_told old new o n = ap (λ c. written c []) (sym (filing_order.no_repeats first second old new o n).outcome)
 
 pub example : Example
 unfolding reports
 example = record {
-  old = old-anew;
-  new = new-anew;
+  old = old_anew_lem;
+  new = new_anew_lem;
   report = refl;
-  oldAnew = same-told firstAnew second old-anew new-same;
-  newAnew = same-told first secondAnew old-same new-anew;
-  bothAnew = same-told firstAnew secondAnew old-anew new-anew;
+  old_anew = same_told first_anew second old_anew_lem new_same;
+  new_anew = same_told first second_anew old_same new_anew_lem;
+  both_anew = same_told first_anew second_anew old_anew_lem new_anew_lem;
 }

@@ -8,23 +8,23 @@ use Prim.Native.Nat.{ℕ, zero, suc}
 use Rattle.maps.specs.Lists.{All}
 use Rattle.maps.specs.Reordered.{Once}
 use Rattle.maps.proofs.Lists.{all_map}
-use Rattle.maps.proofs.Reorderings.{In, all_in, each_two, each-two-map, each-two-of, all-reordered, each-two-reordered, once-reordered}
+use Rattle.maps.proofs.Reorderings.{In, all_in, each_two, each_two_map, each_two_of, all_reordered, each_two_reordered, once_reordered}
 use Rattle.image.specs.Schema.{Decl, Schema}
-use Rattle.rules.specs.Survivors.{Registry, standsFor, resolved, listed, ordinalOf, variantOrdinal}
+use Rattle.rules.specs.Survivors.{Registry, stands_for, resolved, listed, ordinal_of, variant_ordinal}
 use Rattle.refiling.specs.Refiling.{Impls, NamesOnce, NumbersOnce, entries, NoRepeats, EntriesOnce, ListedOnce, Unresolvable, Resolvable, RefiledDecl, Renumbered, Refiled}
-use Rattle.refiling.proofs.Clauses.{moved, impls-turn}
-use Rattle.refiling.proofs.Standing.{listed-refiled}
+use Rattle.refiling.proofs.Clauses.{moved, impls_turn}
+use Rattle.refiling.proofs.Standing.{listed_refiled}
 
 -- ---- ids and entries
 
 -- an entry is not empty
-pub entry-resolvable : (R : Registry) (i : ℕ) (d : Decl) → standsFor R i ≡ some d → Resolvable R i
+pub entry_resolvable : (R : Registry) (i : ℕ) (d : Decl) → stands_for R i ≡ some d → Resolvable R i
 unfolding Resolvable Unresolvable
-entry-resolvable R i d p q = some-ne-none d (sym p ∙ q)
+entry_resolvable R i d p q = some-ne-none d (sym p ∙ q)
 
 -- what an id stands for is an entry
-entry_in : (R : Registry) (i : ℕ) (d : Decl) → standsFor R i ≡ some d → In d (entries R)
-unfolding standsFor entries resolved
+entry_in : (R : Registry) (i : ℕ) (d : Decl) → stands_for R i ≡ some d → In d (entries R)
+unfolding stands_for entries resolved
 entry_in [] i d p = absurd (none-ne-some d p)
 entry_in (none ∷ R) zero d p = absurd (none-ne-some d p)
 entry_in (none ∷ R) (suc i) d p = entry_in R i d p
@@ -32,43 +32,43 @@ entry_in (some e ∷ R) zero d p = Memᴰ.head (sym (some-injective e d p))
 entry_in (some e ∷ R) (suc i) d p = Memᴰ.tail (entry_in R i d p)
 
 -- what holds of all that ids stand for holds of all entries
-all-entries : (P : Decl → Type 0) (R : Registry) → ((i : ℕ) (d : Decl) → standsFor R i ≡ some d → P d) → All P (entries R)
-unfolding standsFor entries resolved All
-all-entries P [] h = tt
-all-entries P (none ∷ R) h = all-entries P R (λ i. h (suc i))
-all-entries P (some d ∷ R) h = (h 0 d refl, all-entries P R (λ i. h (suc i)))
+all_entries : (P : Decl → Type 0) (R : Registry) → ((i : ℕ) (d : Decl) → stands_for R i ≡ some d → P d) → All P (entries R)
+unfolding stands_for entries resolved All
+all_entries P [] h = tt
+all_entries P (none ∷ R) h = all_entries P R (λ i. h (suc i))
+all_entries P (some d ∷ R) h = (h 0 d refl, all_entries P R (λ i. h (suc i)))
 
-listed-entries : (R : Registry) (ids : List ℕ) → All (λ d. In d (entries R)) (listed R ids)
+listed_entries : (R : Registry) (ids : List ℕ) → All (λ d. In d (entries R)) (listed R ids)
 unfolding listed resolved All
-listed-entries R [] = tt
-listed-entries R (i ∷ ids) = go (standsFor R i) refl (listed-entries R ids)
+listed_entries R [] = tt
+listed_entries R (i ∷ ids) = go (stands_for R i) refl (listed_entries R ids)
   where
-    go : (o : Option Decl) → standsFor R i ≡ o → All (λ d. In d (entries R)) (listed R ids) → All (λ d. In d (entries R)) (resolved o (listed R ids))
+    go : (o : Option Decl) → stands_for R i ≡ o → All (λ d. In d (entries R)) (listed R ids) → All (λ d. In d (entries R)) (resolved o (listed R ids))
     go none p h = h
     go (some d) p h = (entry_in R i d p, h)
 
 -- ---- what is needed
 
 module _ (s : Schema) where
-  numbers-listed : All NumbersOnce (entries s.registry) → All NumbersOnce (listed s.registry s.ids)
-  numbers-listed h = all_map (λ d i. all_in NumbersOnce h i) (listed s.registry s.ids) (listed-entries s.registry s.ids)
+  numbers_listed : All NumbersOnce (entries s.registry) → All NumbersOnce (listed s.registry s.ids)
+  numbers_listed h = all_map (λ d i. all_in NumbersOnce h i) (listed s.registry s.ids) (listed_entries s.registry s.ids)
 
-  pub no-repeats-listed : NoRepeats s → ListedOnce s
+  pub no_repeats_listed : NoRepeats s → ListedOnce s
   unfolding NamesOnce
-  no-repeats-listed n = record {
-    names = each-two-map (λ d e h k. inr (h k)) (listed s.registry s.ids) n.names;
-    numbers = numbers-listed n.numbers;
+  no_repeats_listed n = record {
+    names = each_two_map (λ d e h k. inr (h k)) (listed s.registry s.ids) n.names;
+    numbers = numbers_listed n.numbers;
   }
 
-  pub entries-once-listed : EntriesOnce s → ListedOnce s
+  pub entries_once_listed : EntriesOnce s → ListedOnce s
   unfolding NamesOnce Impls
-  entries-once-listed n = record {
-    names = each-two-of (λ d. In d (entries s.registry)) _ pair (listed s.registry s.ids) (listed-entries s.registry s.ids);
-    numbers = numbers-listed n.numbers;
+  entries_once_listed n = record {
+    names = each_two_of (λ d. In d (entries s.registry)) _ pair (listed s.registry s.ids) (listed_entries s.registry s.ids);
+    numbers = numbers_listed n.numbers;
   }
     where
       pair : (d e : Decl) → In d (entries s.registry) → In e (entries s.registry) → d.name ≡ e.name → (d ≡ e) ⊎ Impls d e
-      pair d e i j k = go (each_two (λ x y. x.name ≡ y.name → Impls x y) (λ x y h q. impls-turn x y (h (sym q))) n.names i j)
+      pair d e i j k = go (each_two (λ x y. x.name ≡ y.name → Impls x y) (λ x y h q. impls_turn x y (h (sym q))) n.names i j)
         where
           go : (d ≡ e) ⊎ (d.name ≡ e.name → Impls d e) → (d ≡ e) ⊎ Impls d e
           go (inl p) = inl p
@@ -76,32 +76,32 @@ module _ (s : Schema) where
 
 -- ---- filed anew
 
-numbers-refiled : {R S : Registry} {to : ℕ → ℕ} {d e : Decl} → RefiledDecl R S to d e → NumbersOnce d → NumbersOnce e
-numbers-refiled r n = record {
-  fields = once-reordered ordinalOf ordinalOf (λ f g q. q.ordinal) r.fields n.fields;
-  variants = once-reordered variantOrdinal variantOrdinal (λ v w q. q.ordinal) r.variants n.variants;
-  variantFields =
-      all-reordered (λ v. Once ordinalOf v.fields) (λ v. Once ordinalOf v.fields)
-      (λ v w q. once-reordered ordinalOf ordinalOf (λ f g x. x.ordinal) q.fields) r.variants n.variantFields;
+numbers_refiled : {R S : Registry} {to : ℕ → ℕ} {d e : Decl} → RefiledDecl R S to d e → NumbersOnce d → NumbersOnce e
+numbers_refiled r n = record {
+  fields = once_reordered ordinal_of ordinal_of (λ f g q. q.ordinal) r.fields n.fields;
+  variants = once_reordered variant_ordinal variant_ordinal (λ v w q. q.ordinal) r.variants n.variants;
+  variant_fields =
+      all_reordered (λ v. Once ordinal_of v.fields) (λ v. Once ordinal_of v.fields)
+      (λ v w q. once_reordered ordinal_of ordinal_of (λ f g x. x.ordinal) q.fields) r.variants n.variant_fields;
 }
 
-entries-refiled : {R S : Registry} {to from : ℕ → ℕ} → Renumbered R S to from → All NumbersOnce (entries R) → All NumbersOnce (entries S)
-entries-refiled {R} {S} {to} {from} N h = all-entries NumbersOnce S once
+entries_refiled : {R S : Registry} {to from : ℕ → ℕ} → Renumbered R S to from → All NumbersOnce (entries R) → All NumbersOnce (entries S)
+entries_refiled {R} {S} {to} {from} N h = all_entries NumbersOnce S once
   where
-    once : (j : ℕ) (e : Decl) → standsFor S j ≡ some e → NumbersOnce e
+    once : (j : ℕ) (e : Decl) → stands_for S j ≡ some e → NumbersOnce e
     once j e p =
-        let b = N.back j (entry-resolvable S j e p) in
+        let b = N.back j (entry_resolvable S j e p) in
         let m = moved N (from j) b.0 in
-        let q : m.after ≡ e = some-injective m.after e (sym m.stands ∙ (ap (standsFor S) b.1 ∙ p)) in
-        subst NumbersOnce q (numbers-refiled m.anew (all_in NumbersOnce h (entry_in R (from j) m.before m.stood)))
+        let q : m.after ≡ e = some-injective m.after e (sym m.stands ∙ (ap (stands_for S) b.1 ∙ p)) in
+        subst NumbersOnce q (numbers_refiled m.anew (all_in NumbersOnce h (entry_in R (from j) m.before m.stood)))
 
-pub no-repeats-refiled : (s t : Schema) → Refiled s t → NoRepeats s → NoRepeats t
+pub no_repeats_refiled : (s t : Schema) → Refiled s t → NoRepeats s → NoRepeats t
 unfolding NamesOnce Impls
-no-repeats-refiled s t r n = record {
+no_repeats_refiled s t r n = record {
   names =
-      each-two-reordered (λ a d. a.name ≡ d.name → Impls a d) (λ b c. b.name ≡ c.name → Impls b c)
-      (λ b c h k. impls-turn b c (h (sym k))) pair (listed-refiled r.registry r.ids) n.names;
-  numbers = entries-refiled r.registry n.numbers;
+      each_two_reordered (λ a d. a.name ≡ d.name → Impls a d) (λ b c. b.name ≡ c.name → Impls b c)
+      (λ b c h k. impls_turn b c (h (sym k))) pair (listed_refiled r.registry r.ids) n.names;
+  numbers = entries_refiled r.registry n.numbers;
 }
   where
     pair : (a d b c : Decl) → RefiledDecl s.registry t.registry r.to a b → RefiledDecl s.registry t.registry r.to d c

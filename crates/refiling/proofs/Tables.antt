@@ -6,11 +6,11 @@ use Prim.Native.Nat.{ℕ, zero, suc}
 use native.Mathlib.Omega.{arith}
 use Rattle.maps.specs.Reordered.{Reordered}
 use Rattle.image.specs.Schema.{Name, unmarked, label, Ty, Field, Variant, Decl, decl}
-use Rattle.rules.specs.Survivors.{Registry, standsFor}
-use Rattle.rules.specs.Edges.{named as namedType, primitive}
-use Rattle.refiling.specs.Refiling.{RefiledId, renumbered, RefiledLabel, named, other, RefiledType, aLeaf, RefiledField, RefiledVariant, RefiledDecl, Renumbered}
-use Rattle.refiling.proofs.Clauses.{by-entry}
-use Rattle.refiling.proofs.Repeats.{entry-resolvable}
+use Rattle.rules.specs.Survivors.{Registry, stands_for}
+use Rattle.rules.specs.Edges.{named as named_type, primitive}
+use Rattle.refiling.specs.Refiling.{RefiledId, renumbered, RefiledLabel, named, other, RefiledType, a_leaf, RefiledField, RefiledVariant, RefiledDecl, Renumbered}
+use Rattle.refiling.proofs.Clauses.{by_entry}
+use Rattle.refiling.proofs.Repeats.{entry_resolvable}
 
 -- ---- entry by entry
 
@@ -20,8 +20,8 @@ Rows P [] n = Unit {0}
 Rows P (none ∷ R) n = Rows P R (λ k. n (suc k))
 Rows P (some d ∷ R) n = P (n 0) d × Rows P R (λ k. n (suc k))
 
-row : (P : ℕ → Decl → Type 0) (R : Registry) (n : ℕ → ℕ) → Rows P R n → (i : ℕ) (d : Decl) → standsFor R i ≡ some d → P (n i) d
-unfolding Rows standsFor
+row : (P : ℕ → Decl → Type 0) (R : Registry) (n : ℕ → ℕ) → Rows P R n → (i : ℕ) (d : Decl) → stands_for R i ≡ some d → P (n i) d
+unfolding Rows stands_for
 row P [] n h i d p = absurd (none-ne-some d p)
 row P (none ∷ R) n h zero d p = absurd (none-ne-some d p)
 row P (none ∷ R) n h (suc i) d p = row P R (λ k. n (suc k)) h i d p
@@ -31,15 +31,15 @@ row P (some e ∷ R) n h (suc i) d p = row P R (λ k. n (suc k)) h.1 i d p
 module _ (R S : Registry) (to from : ℕ → ℕ) where
   -- what is shown of an entry of R, and of one of S
   abbrev pub There : ℕ → Decl → Type 0
-  There i d = (e : Decl) × (standsFor S (to i) ≡ some e) × (from (to i) ≡ i) × RefiledDecl R S to d e
+  There i d = (e : Decl) × (stands_for S (to i) ≡ some e) × (from (to i) ≡ i) × RefiledDecl R S to d e
 
   abbrev pub Back : ℕ → Decl → Type 0
-  Back j e = (d : Decl) × (standsFor R (from j) ≡ some d) × (to (from j) ≡ j)
+  Back j e = (d : Decl) × (stands_for R (from j) ≡ some d) × (to (from j) ≡ j)
 
-  pub renumbered-by : Rows There R (λ i. i) → Rows Back S (λ j. j) → Renumbered R S to from
-  renumbered-by there back = record {
-    there = λ i r. by-entry R i r (λ d p. let w = row There R (λ k. k) there i d p in (entry-resolvable S (to i) w.0 w.1, w.2));
-    back = λ j r. by-entry S j r (λ e p. let w = row Back S (λ k. k) back j e p in (entry-resolvable R (from j) w.0 w.1, w.2));
+  pub renumbered_by : Rows There R (λ i. i) → Rows Back S (λ j. j) → Renumbered R S to from
+  renumbered_by there back = record {
+    there = λ i r. by_entry R i r (λ d p. let w = row There R (λ k. k) there i d p in (entry_resolvable S (to i) w.0 w.1, w.2));
+    back = λ j r. by_entry S j r (λ e p. let w = row Back S (λ k. k) back j e p in (entry_resolvable R (from j) w.0 w.1, w.2));
     entry = λ i d e p q.
         let w = row There R (λ k. k) there i d p in
         subst (RefiledDecl R S to d) (some-injective w.0 e (sym w.1 ∙ q)) w.3;
@@ -47,8 +47,8 @@ module _ (R S : Registry) (to from : ℕ → ℕ) where
 
 -- ---- piece by piece
 
-abbrev pub plainField : ℕ → Name → Ty → Field
-plainField ordinal name t =
+abbrev pub plain_field : ℕ → Name → Ty → Field
+plain_field ordinal name t =
     record { ordinal = ordinal; name = name; marks = unmarked; encoding = record { deltas = 0; base = 0 }; limit = none; type = t }
 
 abbrev pub item : ℕ → Name → List Field → Variant
@@ -56,26 +56,26 @@ item ordinal name fs = record { ordinal = ordinal; name = name; fields = fs }
 
 module _ {R S : Registry} {to : ℕ → ℕ} where
   -- an id that has an entry, by its new number
-  pub moved-id : (i : ℕ) {d : Decl} → standsFor R i ≡ some d → RefiledId R S to i (to i)
-  moved-id i {d} p = renumbered (entry-resolvable R i d p) refl
+  pub moved_id : (i : ℕ) {d : Decl} → stands_for R i ≡ some d → RefiledId R S to i (to i)
+  moved_id i {d} p = renumbered (entry_resolvable R i d p) refl
 
   -- a node of another tag than 3
   pub stays : (tag code : ℕ) (names : List Name) → (tag ≡ 3 → ⊥) → RefiledLabel R S to (label tag code 0 names) (label tag code 0 names)
   stays tag code names n = other n refl
 
-  pub primitive-anew : (code : ℕ) → RefiledType R S to (primitive code) (primitive code)
-  primitive-anew code = aLeaf (stays 0 code [] (λ e. omega arith))
+  pub primitive_anew : (code : ℕ) → RefiledType R S to (primitive code) (primitive code)
+  primitive_anew code = a_leaf (stays 0 code [] (λ e. omega arith))
 
-  pub named-anew : {i j : ℕ} → RefiledId R S to i j → RefiledType R S to (namedType i) (namedType j)
-  named-anew r = aLeaf (named r)
+  pub named_anew : {i j : ℕ} → RefiledId R S to i j → RefiledType R S to (named_type i) (named_type j)
+  named_anew r = a_leaf (named r)
 
-  pub field-anew : (ordinal : ℕ) (name : Name) {t u : Ty} → RefiledType R S to t u → RefiledField R S to (plainField ordinal name t) (plainField ordinal name u)
-  field-anew ordinal name r = record { ordinal = refl; name = refl; marks = refl; encoding = refl; limit = refl; type = r }
+  pub field_anew : (ordinal : ℕ) (name : Name) {t u : Ty} → RefiledType R S to t u → RefiledField R S to (plain_field ordinal name t) (plain_field ordinal name u)
+  field_anew ordinal name r = record { ordinal = refl; name = refl; marks = refl; encoding = refl; limit = refl; type = r }
 
-  pub item-anew : (ordinal : ℕ) (name : Name) {fs gs : List Field} → Reordered (RefiledField R S to) fs gs
+  pub item_anew : (ordinal : ℕ) (name : Name) {fs gs : List Field} → Reordered (RefiledField R S to) fs gs
       → RefiledVariant R S to (item ordinal name fs) (item ordinal name gs)
-  item-anew ordinal name r = record { ordinal = refl; name = refl; fields = r }
+  item_anew ordinal name r = record { ordinal = refl; name = refl; fields = r }
 
-  pub decl-anew : (k : ℕ) (n : Name) {w x : Option ℕ} {fs gs : List Field} {vs ws : List Variant} {t u : Ty} → Reordered (RefiledField R S to) fs gs
+  pub decl_anew : (k : ℕ) (n : Name) {w x : Option ℕ} {fs gs : List Field} {vs ws : List Variant} {t u : Ty} → Reordered (RefiledField R S to) fs gs
       → Reordered (RefiledVariant R S to) vs ws → RefiledType R S to t u → RefiledDecl R S to (decl k n unmarked w fs vs t) (decl k n unmarked x gs ws u)
-  decl-anew k n r s q = record { kind = refl; name = refl; marks = refl; fields = r; variants = s; inner = q }
+  decl_anew k n r s q = record { kind = refl; name = refl; marks = refl; fields = r; variants = s; inner = q }

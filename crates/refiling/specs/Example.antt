@@ -3,10 +3,10 @@
 use Rattle.std.specs.Prelude.{◌≡◌, List, [], ◌∷◌, map, ℕ}
 use Rattle.std.proofs.Math.Option.{none, some}
 use Prim.Native.String.{String}
-use Rattle.image.specs.Schema.{unmarked, label, leaf, noType, decl, Schema}
-use Rattle.image.specs.Codes.{number, messageKind, configKind, bitsTag}
+use Rattle.image.specs.Schema.{unmarked, label, leaf, no_type, decl, Schema}
+use Rattle.image.specs.Codes.{number, message_kind, config_kind, bits_tag}
 use Rattle.image.specs.Words.{bytes}
-use Rattle.rules.specs.Edges.{told as toldOf, field, message, newtype, named, u8, f32, impl}
+use Rattle.rules.specs.Edges.{told as told_of, field, message, newtype, named, u8, f32, impl}
 use Rattle.rules.specs.Pinned.{image, lines, told}
 use Rattle.refiling.specs.Refiling.{NoRepeats, EntriesOnce, Refiled, RefiledImage}
 
@@ -30,8 +30,8 @@ first =
 
 -- The same filed anew, in format 2 with a wire byte for F: 0 is empty, F is 1, the impls are 2 and 4, U is 3, M is 5; the unresolvable id is 0;
 -- every body is the other way round. Listed: 4 5 0 3 1 2.
-abbrev pub firstAnew : List ℕ
-firstAnew =
+abbrev pub first_anew : List ℕ
+first_anew =
     image
     ("02 00 06 00 06 00 01 00"
     ∷ "00 00 00 00 3d 00 12 00 4f 00 01 00 50 00 2e 00 7e 00 01 00 7f 00 23 00"
@@ -63,8 +63,8 @@ second =
 
 -- The same filed anew, in format 2 with 8 wire bits for E and 4 wire bytes for F: N is 0, K is 1, E is 2, F is 3, U is 4, M is 5; every body is
 -- the other way round. Listed: 0 3 5 2 4.
-abbrev pub secondAnew : List ℕ
-secondAnew =
+abbrev pub second_anew : List ℕ
+second_anew =
     image
     ("02 00 06 00 05 00 01 00"
     ∷ "39 00 0f 00 48 00 03 00 4b 00 13 00 5e 00 0c 00 6a 00 26 00 90 00 1f 00"
@@ -79,8 +79,8 @@ secondAnew =
     ∷ [])
 
 pub record Example : Type 0 where
-  pub old : RefiledImage NoRepeats first firstAnew
-  pub new : RefiledImage NoRepeats second secondAnew
+  pub old : RefiledImage NoRepeats first first_anew
+  pub new : RefiledImage NoRepeats second second_anew
   pub report : told first second ≡ lines
       ("DeclarationRemoved;Major;;-;impl '' was removed"
       ∷ "DeclarationAdded;Minor;E;-;enum 'E' was added"
@@ -93,9 +93,9 @@ pub record Example : Type 0 where
       ∷ "FieldTypeChanged;Major;U::y;+h;field 'h' @1 type changed from M to U"
       ∷ "Breaking;Major;9"
       ∷ [])
-  pub oldAnew : told firstAnew second ≡ told first second
-  pub newAnew : told first secondAnew ≡ told first second
-  pub bothAnew : told firstAnew secondAnew ≡ told first second
+  pub old_anew : told first_anew second ≡ told first second
+  pub new_anew : told first second_anew ≡ told first second
+  pub both_anew : told first_anew second_anew ≡ told first second
 
 -- ---- the readings of the premise
 
@@ -104,27 +104,27 @@ abbrev pub listing : Schema → List ℕ → Schema
 listing s ids = record { format = s.format; registry = s.registry; ids = ids; namespace = s.namespace }
 
 -- two messages of one name
-abbrev pub twoMessages : Schema
-twoMessages = record {
+abbrev pub two_messages : Schema
+two_messages = record {
   format = 1;
   registry =
-      some (decl (number messageKind) (bytes "A") unmarked none (field 0 "x" unmarked none u8 ∷ []) [] noType)
-      ∷ some (decl (number messageKind) (bytes "A") unmarked none [] [] noType)
+      some (decl (number message_kind) (bytes "A") unmarked none (field 0 "x" unmarked none u8 ∷ []) [] no_type)
+      ∷ some (decl (number message_kind) (bytes "A") unmarked none [] [] no_type)
       ∷ [];
   ids = 0 ∷ 1 ∷ [];
   namespace = [];
 }
 
 -- an id listed twice
-abbrev pub idTwice : Schema
-idTwice = listing (message (field 0 "x" unmarked none u8 ∷ [])) (0 ∷ 0 ∷ [])
+abbrev pub id_twice : Schema
+id_twice = listing (message (field 0 "x" unmarked none u8 ∷ [])) (0 ∷ 0 ∷ [])
 
 -- neither is more than the other
 pub record Readings : Type 0 where
-  pub oneListed : NoRepeats (listing twoMessages (0 ∷ []))
-  pub oneListedOnly : EntriesOnce (listing twoMessages (0 ∷ [])) → ⊥
-  pub idOnce : EntriesOnce idTwice
-  pub idOnceOnly : NoRepeats idTwice → ⊥
+  pub one_listed : NoRepeats (listing two_messages (0 ∷ []))
+  pub one_listed_only : EntriesOnce (listing two_messages (0 ∷ [])) → ⊥
+  pub id_once : EntriesOnce id_twice
+  pub id_once_only : NoRepeats id_twice → ⊥
 
 -- ---- what can't be left out
 
@@ -132,7 +132,7 @@ pub record Readings : Type 0 where
 abbrev pub unnamed : Schema
 unnamed = record {
   format = 1;
-  registry = some impl ∷ some (decl (number messageKind) [] unmarked none [] [] noType) ∷ [];
+  registry = some impl ∷ some (decl (number message_kind) [] unmarked none [] [] no_type) ∷ [];
   ids = 0 ∷ 1 ∷ [];
   namespace = [];
 }
@@ -148,22 +148,22 @@ abbrev pub single : Schema
 single = message (field 3 "y" unmarked none u8 ∷ [])
 
 -- newtype A of inline bits
-abbrev pub ofBits : List String → Schema
-ofBits names = newtype (leaf (label (number bitsTag) 0 0 (map bytes names))) []
+abbrev pub of_bits : List String → Schema
+of_bits names = newtype (leaf (label (number bits_tag) 0 0 (map bytes names))) []
 
 -- newtype A of the named type with id 1, a config of that name
-abbrev pub ofNamed : String → Schema
-ofNamed name = newtype (named 1) (some (decl (number configKind) (bytes name) unmarked none [] [] noType) ∷ [])
+abbrev pub of_named : String → Schema
+of_named name = newtype (named 1) (some (decl (number config_kind) (bytes name) unmarked none [] [] no_type) ∷ [])
 
 pub record Needed : Type 0 where
   -- Without the premise the claim would be false: which of two messages of one name stands depends on the order, and so it is with an impl
   -- and a message without a name, and with two fields of one number.
-  pub messages : Refiled twoMessages (listing twoMessages (1 ∷ 0 ∷ []))
-  pub messagesMatter : toldOf twoMessages (message []) ≡ toldOf (listing twoMessages (1 ∷ 0 ∷ [])) (message []) → ⊥
+  pub messages : Refiled two_messages (listing two_messages (1 ∷ 0 ∷ []))
+  pub messages_matter : told_of two_messages (message []) ≡ told_of (listing two_messages (1 ∷ 0 ∷ [])) (message []) → ⊥
   pub impls : Refiled unnamed (listing unnamed (1 ∷ 0 ∷ []))
-  pub implsMatter : toldOf unnamed unnamed ≡ toldOf (listing unnamed (1 ∷ 0 ∷ [])) unnamed → ⊥
+  pub impls_matter : told_of unnamed unnamed ≡ told_of (listing unnamed (1 ∷ 0 ∷ [])) unnamed → ⊥
   pub ordinals : Refiled twice turned
-  pub ordinalsMatter : toldOf twice single ≡ toldOf turned single → ⊥
+  pub ordinals_matter : told_of twice single ≡ told_of turned single → ⊥
   -- inline bits in another order, and an id that does not follow (it now has the number of another entry), are changes
-  pub bitsMatter : toldOf (ofBits ("a" ∷ "b" ∷ [])) (ofBits ("a" ∷ "b" ∷ [])) ≡ toldOf (ofBits ("a" ∷ "b" ∷ [])) (ofBits ("b" ∷ "a" ∷ [])) → ⊥
-  pub idsMatter : toldOf (ofNamed "B") (ofNamed "B") ≡ toldOf (ofNamed "B") (ofNamed "C") → ⊥
+  pub bits_matter : told_of (of_bits ("a" ∷ "b" ∷ [])) (of_bits ("a" ∷ "b" ∷ [])) ≡ told_of (of_bits ("a" ∷ "b" ∷ [])) (of_bits ("b" ∷ "a" ∷ [])) → ⊥
+  pub ids_matter : told_of (of_named "B") (of_named "B") ≡ told_of (of_named "B") (of_named "C") → ⊥

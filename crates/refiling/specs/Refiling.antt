@@ -5,19 +5,19 @@ use Rattle.std.proofs.Math.Option.{none, some}
 use Rattle.maps.specs.Lists.{All}
 use Rattle.maps.specs.Reordered.{Reordered, EachTwo, Once}
 use Rattle.image.specs.Schema.{Name, Label, label, Ty, leaf, one, two, Field, Variant, Decl, Schema}
-use Rattle.image.specs.Codes.{number, implKind, namedTag}
+use Rattle.image.specs.Codes.{number, impl_kind, named_tag}
 use Rattle.image.specs.Parse.{ok}
-use Rattle.image.specs.Image.{readImage}
-use Rattle.rules.specs.Survivors.{Registry, standsFor, resolved, listed, ordinalOf, variantOrdinal, viewOf}
-use Rattle.rules.specs.Clauses.{clausesBy, changes}
-use Rattle.rules.specs.Answer.{checked, verdictOf, returned, leaves}
+use Rattle.image.specs.Image.{read_image}
+use Rattle.rules.specs.Survivors.{Registry, stands_for, resolved, listed, ordinal_of, variant_ordinal, view_of}
+use Rattle.rules.specs.Clauses.{clauses_by, changes}
+use Rattle.rules.specs.Answer.{checked, verdict_of, returned, leaves}
 
 -- ---- "Take images in which no two resolvable declarations share a name, impls among themselves excepted, and no two numbers repeat within
 -- a body or variant."
 
 -- both are impls, kind 8
 unfoldable pub Impls : Decl → Decl → Type 0
-Impls d e = (d.kind ≡ number implKind) × (e.kind ≡ number implKind)
+Impls d e = (d.kind ≡ number impl_kind) × (e.kind ≡ number impl_kind)
 
 -- two declarations that share a name are impls
 unfoldable pub NamesOnce : List Decl → Type 0
@@ -25,9 +25,9 @@ NamesOnce ds = EachTwo (λ d e. d.name ≡ e.name → Impls d e) ds
 
 -- no number stands twice among the fields, among the variants or bits, or among the fields of one variant
 pub record NumbersOnce (d : Decl) : Type 0 where
-  pub fields : Once ordinalOf d.fields
-  pub variants : Once variantOrdinal d.variants
-  pub variantFields : All (λ v. Once ordinalOf v.fields) d.variants
+  pub fields : Once ordinal_of d.fields
+  pub variants : Once variant_ordinal d.variants
+  pub variant_fields : All (λ v. Once ordinal_of v.fields) d.variants
 
 -- what the entries hold that are not empty, listed or not
 unfoldable pub entries : Registry → List Decl
@@ -53,7 +53,7 @@ pub record ListedOnce (s : Schema) : Type 0 where
 
 -- "An id that is N or more, or whose entry is empty, is unresolvable"
 unfoldable pub Unresolvable : Registry → ℕ → Type 0
-Unresolvable R i = standsFor R i ≡ none
+Unresolvable R i = stands_for R i ≡ none
 
 unfoldable pub Resolvable : Registry → ℕ → Type 0
 Resolvable R i = Unresolvable R i → ⊥
@@ -67,13 +67,13 @@ module _ (R S : Registry) (to : ℕ → ℕ) where
 
   -- in a type every id follows, and nothing else changes: the names of inline `bits` keep their order
   pub data RefiledLabel : Label → Label → Type 0 where
-    named : {i j second : ℕ} {names : List Name} → RefiledId i j → RefiledLabel (label (number namedTag) i second names) (label (number namedTag) j second names)
-    other : {tag first second : ℕ} {m n : List Name} → (tag ≡ number namedTag → ⊥) → m ≡ n → RefiledLabel (label tag first second m) (label tag first second n)
+    named : {i j second : ℕ} {names : List Name} → RefiledId i j → RefiledLabel (label (number named_tag) i second names) (label (number named_tag) j second names)
+    other : {tag first second : ℕ} {m n : List Name} → (tag ≡ number named_tag → ⊥) → m ≡ n → RefiledLabel (label tag first second m) (label tag first second n)
 
   pub data RefiledType : Ty → Ty → Type 0 where
-    aLeaf : {l m : Label} → RefiledLabel l m → RefiledType (leaf l) (leaf m)
-    aOne : {l m : Label} {t u : Ty} → RefiledLabel l m → RefiledType t u → RefiledType (one l t) (one m u)
-    aTwo : {l m : Label} {t u v w : Ty} → RefiledLabel l m → RefiledType t u → RefiledType v w → RefiledType (two l t v) (two m u w)
+    a_leaf : {l m : Label} → RefiledLabel l m → RefiledType (leaf l) (leaf m)
+    a_one : {l m : Label} {t u : Ty} → RefiledLabel l m → RefiledType t u → RefiledType (one l t) (one m u)
+    a_two : {l m : Label} {t u v w : Ty} → RefiledLabel l m → RefiledType t u → RefiledType v w → RefiledType (two l t v) (two m u w)
 
   pub record RefiledField (f g : Field) : Type 0 where
     pub ordinal : f.ordinal ≡ g.ordinal
@@ -103,7 +103,7 @@ module _ (R S : Registry) (to : ℕ → ℕ) where
 pub record Renumbered (R S : Registry) (to from : ℕ → ℕ) : Type 0 where
   pub there : (i : ℕ) → Resolvable R i → Resolvable S (to i) × (from (to i) ≡ i)
   pub back : (j : ℕ) → Resolvable S j → Resolvable R (from j) × (to (from j) ≡ j)
-  pub entry : (i : ℕ) (d e : Decl) → standsFor R i ≡ some d → standsFor S (to i) ≡ some e → RefiledDecl R S to d e
+  pub entry : (i : ℕ) (d e : Decl) → stands_for R i ≡ some d → stands_for S (to i) ≡ some e → RefiledDecl R S to d e
 
 -- t is s filed anew, in the same format or in another
 pub record Refiled (s t : Schema) : Type 0 where
@@ -118,23 +118,23 @@ pub record Refilings : Type 0 where
   pub itself : (s : Schema) → Refiled s s
   pub back : (s t : Schema) → Refiled s t → Refiled t s
   pub further : (s t u : Schema) → Refiled s t → Refiled t u → Refiled s u
-  pub noRepeats : (s t : Schema) → Refiled s t → NoRepeats s → NoRepeats t
+  pub no_repeats : (s t : Schema) → Refiled s t → NoRepeats s → NoRepeats t
 
 -- ---- "must leave the report of 01 the same byte for byte. .. Accepted images on both sides are the premise, and a buffer that holds the
 -- report."
 
 -- a buffer that holds the report
 abbrev pub Holds : List ℕ → List ℕ → List ℕ → Type 0
-Holds old new out = verdictOf old new 4 ≤ length out
+Holds old new out = verdict_of old new 4 ≤ length out
 
 -- both images are accepted: P holds of the schema of a, and b holds that schema filed anew
 pub record RefiledImage (P : Schema → Type 0) (a b : List ℕ) : Type 0 where
   pub before : Schema
   pub after : Schema
-  pub beforeEnd : ℕ
-  pub afterEnd : ℕ
-  pub beforeRead : readImage a ≡ ok before beforeEnd
-  pub afterRead : readImage b ≡ ok after afterEnd
+  pub before_end : ℕ
+  pub after_end : ℕ
+  pub before_read : read_image a ≡ ok before before_end
+  pub after_read : read_image b ≡ ok after after_end
   pub holds : P before
   pub refiled : Refiled before after
 
@@ -143,7 +143,7 @@ pub record SameAnswers (old new old' new' : List ℕ) : Type 0 where
   -- the refusal, by number and side, or the changes: all that the calls answer is made of it
   pub outcome : checked old new ≡ checked old' new'
   -- the verdict call, by selector
-  pub verdict : (selector : ℕ) → verdictOf old new selector ≡ verdictOf old' new' selector
+  pub verdict : (selector : ℕ) → verdict_of old new selector ≡ verdict_of old' new' selector
   -- the report call in one and the same buffer, large enough or not: what it returns, and the whole buffer after it
   pub returns : (out : List ℕ) → returned old new out ≡ returned old' new' out
   pub buffer : (out : List ℕ) → leaves old new out ≡ leaves old' new' out
@@ -158,8 +158,8 @@ Unaffected P = (old new old' new' : List ℕ) → RefiledImage P old old' → Re
 
 -- With either reading of "resolvable declarations", and with less; and over schemas, in whatever way a verdict reads types.
 pub record FilingOrder : Type 0 where
-  pub noRepeats : Unaffected NoRepeats
-  pub entriesOnce : Unaffected EntriesOnce
-  pub listedOnce : Unaffected ListedOnce
-  pub anyTypes : (same : Ty → Ty → Bool) (old new old' new' : Schema) → ListedOnce old → ListedOnce new → Refiled old old' → Refiled new new'
-      → changes (clausesBy same) (viewOf old) (viewOf new) ≡ changes (clausesBy same) (viewOf old') (viewOf new')
+  pub no_repeats : Unaffected NoRepeats
+  pub entries_once : Unaffected EntriesOnce
+  pub listed_once : Unaffected ListedOnce
+  pub any_types : (same : Ty → Ty → Bool) (old new old' new' : Schema) → ListedOnce old → ListedOnce new → Refiled old old' → Refiled new new'
+      → changes (clauses_by same) (view_of old) (view_of new) ≡ changes (clauses_by same) (view_of old') (view_of new')

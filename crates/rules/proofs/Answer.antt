@@ -8,55 +8,55 @@ use Prim.Native.Nat.{ℕ, zero, suc, ◌+◌, ◌<◌}
 use native.Mathlib.Omega.{arith}
 use lib.ListN.{length, get_or}
 use lib.Seq.{get_or-append-add}
-use Rattle.image.specs.Schema.{Schema, noSchema}
+use Rattle.image.specs.Schema.{Schema, no_schema}
 use Rattle.image.specs.Parse.{Parsed, ok, no}
-use Rattle.image.specs.Image.{readImage}
-use Rattle.refusals.proofs.Refusals.{only-ten}
-use Rattle.rules.specs.Survivors.{View, viewOf}
-use Rattle.rules.specs.Changes.{Change, kindCount}
+use Rattle.image.specs.Image.{read_image}
+use Rattle.refusals.proofs.Refusals.{only_ten}
+use Rattle.rules.specs.Survivors.{View, view_of}
+use Rattle.rules.specs.Changes.{Change, kind_count}
 use Rattle.rules.specs.Clauses.{Reading, changes}
-use Rattle.rules.specs.Verdict.{bumpOf, resultOf, countOf, aliasPair}
+use Rattle.rules.specs.Verdict.{bump_of, result_of, count_of, alias_pair}
 use Rattle.rules.specs.Report.{report}
 use Rattle.rules.specs.Outcome.{Outcome, refused, selected, select}
-use Rattle.image.specs.Codes.{number, oldSide, newSide, bothSides}
-use Rattle.rules.specs.Answer.{Fault, fault, Check, Policy, compared, counts, firstFault, judged, onSide, imageFault, faultIn, comparePair, acceptNew, acceptOld, outcome, aliasCheck, usual, plainReading, plain}
-use Rattle.rules.specs.Refusals.{Passes, Decided, oldRefused, oldAlone, newRefused, newAlone, pairRefused, verdict, Numbered}
+use Rattle.image.specs.Codes.{number, old_side, new_side, both_sides}
+use Rattle.rules.specs.Answer.{Fault, fault, Check, Policy, compared, counts, first_fault, judged, on_side, image_fault, fault_in, compare_pair, accept_new, accept_old, outcome, alias_check, usual, plain_reading, plain}
+use Rattle.rules.specs.Refusals.{Passes, Decided, old_refused, old_alone, new_refused, new_alone, pair_refused, verdict, Numbered}
 
 -- ---- where they are decided
 
 module _ (p : Policy) (old new : List ℕ) where
   pub decided : Decided p old new (outcome p old new)
-  unfolding outcome acceptOld acceptNew comparePair onSide judged
-  decided = go (readImage old) (readImage new) refl refl
+  unfolding outcome accept_old accept_new compare_pair on_side judged
+  decided = go (read_image old) (read_image new) refl refl
     where
-      pair : (x y : Schema) → Passes p old x → Passes p new y → (f : Option Fault) → firstFault p.pair x y ≡ f
+      pair : (x y : Schema) → Passes p old x → Passes p new y → (f : Option Fault) → first_fault p.pair x y ≡ f
           → Decided p old new (judged f (compared (changes p.reading (p.view x) (p.view y))))
       pair x y a b none e = verdict a b e
-      pair x y a b (some f) e = pairRefused a b e
+      pair x y a b (some f) e = pair_refused a b e
 
-      second : (x : Schema) → Passes p old x → (y : Schema) (n : ℕ) → readImage new ≡ ok y n → (k : Option ℕ) → p.alone y ≡ k
-          → Decided p old new (judged (onSide (number newSide) k) (comparePair p x y))
-      second x a y n q none e = pair x y a (record { end = n; read = q; alone = e }) (firstFault p.pair x y) refl
-      second x a y n q (some k) e = newAlone a q e
+      second : (x : Schema) → Passes p old x → (y : Schema) (n : ℕ) → read_image new ≡ ok y n → (k : Option ℕ) → p.alone y ≡ k
+          → Decided p old new (judged (on_side (number new_side) k) (compare_pair p x y))
+      second x a y n q none e = pair x y a (record { end = n; read = q; alone = e }) (first_fault p.pair x y) refl
+      second x a y n q (some k) e = new_alone a q e
 
-      first : (x : Schema) (m : ℕ) → readImage old ≡ ok x m → (s : Parsed Schema) → readImage new ≡ s → (k : Option ℕ) → p.alone x ≡ k
-          → Decided p old new (judged (onSide (number oldSide) k) (acceptNew p x s))
+      first : (x : Schema) (m : ℕ) → read_image old ≡ ok x m → (s : Parsed Schema) → read_image new ≡ s → (k : Option ℕ) → p.alone x ≡ k
+          → Decided p old new (judged (on_side (number old_side) k) (accept_new p x s))
       first x m q (ok y n) r none e = second x (record { end = m; read = q; alone = e }) y n r (p.alone y) refl
-      first x m q (no k) r none e = newRefused (record { end = m; read = q; alone = e }) (only-ten new k r) r
-      first x m q s r (some k) e = oldAlone q e
+      first x m q (no k) r none e = new_refused (record { end = m; read = q; alone = e }) (only_ten new k r) r
+      first x m q s r (some k) e = old_alone q e
 
-      go : (r s : Parsed Schema) → readImage old ≡ r → readImage new ≡ s → Decided p old new (acceptOld p r s)
+      go : (r s : Parsed Schema) → read_image old ≡ r → read_image new ≡ s → Decided p old new (accept_old p r s)
       go (ok x m) s q t = first x m q s t (p.alone x) refl
-      go (no k) s q t = oldRefused (only-ten old k q) q
+      go (no k) s q t = old_refused (only_ten old k q) q
 
   -- and in no other way
   pub decides : {o : Outcome} → Decided p old new o → outcome p old new ≡ o
-  unfolding outcome acceptOld acceptNew comparePair onSide judged
-  decides (oldRefused l q) = rw q
-  decides (oldAlone q e) = rw (q, e)
-  decides (newRefused a l q) = rw (a.read, a.alone, q)
-  decides (newAlone a q e) = rw (a.read, a.alone, q, e)
-  decides (pairRefused a b e) = rw (a.read, a.alone, b.read, b.alone, e)
+  unfolding outcome accept_old accept_new compare_pair on_side judged
+  decides (old_refused l q) = rw q
+  decides (old_alone q e) = rw (q, e)
+  decides (new_refused a l q) = rw (a.read, a.alone, q)
+  decides (new_alone a q e) = rw (a.read, a.alone, q, e)
+  decides (pair_refused a b e) = rw (a.read, a.alone, b.read, b.alone, e)
   decides (verdict a b e) = rw (a.read, a.alone, b.read, b.alone, e)
 
   pub exactly : (o : Outcome) → (outcome p old new ≡ o) ↔ Decided p old new o
@@ -66,72 +66,72 @@ module _ (p : Policy) (old new : List ℕ) where
 
 module _ (p : Policy) where
   module _ (side : ℕ) (s : List ℕ) where
-    pub accepted-fault : {x : Schema} {n : ℕ} → readImage s ≡ ok x n → onSide side (p.alone x) ≡ faultIn p side s
-    unfolding faultIn imageFault
-    accepted-fault e = rw e
+    pub accepted_fault : {x : Schema} {n : ℕ} → read_image s ≡ ok x n → on_side side (p.alone x) ≡ fault_in p side s
+    unfolding fault_in image_fault
+    accepted_fault e = rw e
 
-    pub rejected-fault : {k : ℕ} → readImage s ≡ no k → some (fault k side) ≡ faultIn p side s
-    unfolding faultIn imageFault
-    rejected-fault e = rw e
+    pub rejected_fault : {k : ℕ} → read_image s ≡ no k → some (fault k side) ≡ fault_in p side s
+    unfolding fault_in image_fault
+    rejected_fault e = rw e
 
     -- an image without a fault is accepted, and passes alone
-    pub no-fault : faultIn p side s ≡ none → (x : Schema) × Passes p s x
-    unfolding faultIn imageFault onSide
-    no-fault = go (readImage s) refl
+    pub no_fault : fault_in p side s ≡ none → (x : Schema) × Passes p s x
+    unfolding fault_in image_fault on_side
+    no_fault = go (read_image s) refl
       where
-        passes : (x : Schema) (n : ℕ) → readImage s ≡ ok x n → (k : Option ℕ) → p.alone x ≡ k → onSide side k ≡ none → (x : Schema) × Passes p s x
+        passes : (x : Schema) (n : ℕ) → read_image s ≡ ok x n → (k : Option ℕ) → p.alone x ≡ k → on_side side k ≡ none → (x : Schema) × Passes p s x
         passes x n q none e z = (x, record { end = n; read = q; alone = e })
         passes x n q (some k) e z = absurd (none-ne-some (fault k side) (sym z))
 
-        go : (r : Parsed Schema) → readImage s ≡ r → imageFault p side r ≡ none → (x : Schema) × Passes p s x
+        go : (r : Parsed Schema) → read_image s ≡ r → image_fault p side r ≡ none → (x : Schema) × Passes p s x
         go (ok x n) q e = passes x n q (p.alone x) refl e
         go (no k) q e = absurd (none-ne-some (fault k side) (sym e))
 
   -- what a fault comes to, in each image
-  old-stage : (f : Fault) (s r : Parsed Schema) → imageFault p (number oldSide) r ≡ some f → acceptOld p r s ≡ refused f.number f.side
-  unfolding acceptOld imageFault judged
-  old-stage f s (ok x n) e = rw e
-  old-stage f s (no k) e = rw (← some-injective (fault k (number oldSide)) f e)
+  old_stage : (f : Fault) (s r : Parsed Schema) → image_fault p (number old_side) r ≡ some f → accept_old p r s ≡ refused f.number f.side
+  unfolding accept_old image_fault judged
+  old_stage f s (ok x n) e = rw e
+  old_stage f s (no k) e = rw (← some-injective (fault k (number old_side)) f e)
 
-  new-stage : (f : Fault) (x : Schema) (s : Parsed Schema) → imageFault p (number newSide) s ≡ some f → acceptNew p x s ≡ refused f.number f.side
-  unfolding acceptNew imageFault judged
-  new-stage f x (ok y n) e = rw e
-  new-stage f x (no k) e = rw (← some-injective (fault k (number newSide)) f e)
+  new_stage : (f : Fault) (x : Schema) (s : Parsed Schema) → image_fault p (number new_side) s ≡ some f → accept_new p x s ≡ refused f.number f.side
+  unfolding accept_new image_fault judged
+  new_stage f x (ok y n) e = rw e
+  new_stage f x (no k) e = rw (← some-injective (fault k (number new_side)) f e)
 
   module _ (old new : List ℕ) where
     -- the old image has a fault, or the new one after it
-    pub old-fault : {f : Fault} → faultIn p (number oldSide) old ≡ some f → outcome p old new ≡ refused f.number f.side
-    unfolding faultIn outcome
-    old-fault {f} e = old-stage f (readImage new) (readImage old) e
+    pub old_fault : {f : Fault} → fault_in p (number old_side) old ≡ some f → outcome p old new ≡ refused f.number f.side
+    unfolding fault_in outcome
+    old_fault {f} e = old_stage f (read_image new) (read_image old) e
 
-    pub new-fault : {x : Schema} → Passes p old x → {f : Fault} → faultIn p (number newSide) new ≡ some f → outcome p old new ≡ refused f.number f.side
-    unfolding faultIn outcome acceptOld onSide judged
-    new-fault {x} a {f} e = rw (a.read, a.alone) (new-stage f x (readImage new) e)
+    pub new_fault : {x : Schema} → Passes p old x → {f : Fault} → fault_in p (number new_side) new ≡ some f → outcome p old new ≡ refused f.number f.side
+    unfolding fault_in outcome accept_old on_side judged
+    new_fault {x} a {f} e = rw (a.read, a.alone) (new_stage f x (read_image new) e)
 
     -- neither has one
-    pub both-pass : {x y : Schema} → Passes p old x → Passes p new y → outcome p old new ≡ comparePair p x y
-    unfolding outcome acceptOld acceptNew onSide judged
-    both-pass a b = rw (a.read, a.alone, b.read, b.alone)
+    pub both_pass : {x y : Schema} → Passes p old x → Passes p new y → outcome p old new ≡ compare_pair p x y
+    unfolding outcome accept_old accept_new on_side judged
+    both_pass a b = rw (a.read, a.alone, b.read, b.alone)
 
 -- ---- a pair with number 0 has the changes of what the two images hold
 
 -- the schema that an image holds; of one that is refused, one that holds nothing
-unfoldable pub schemaOf : Parsed Schema → Schema
-schemaOf (ok s n) = s
-schemaOf (no k) = noSchema
+unfoldable pub schema_of : Parsed Schema → Schema
+schema_of (ok s n) = s
+schema_of (no k) = no_schema
 
 -- two images of which none of the numbers is given
 pub record Settled (p : Policy) (a b : List ℕ) : Type 0 where
-  pub oldSchema : Schema
-  pub newSchema : Schema
-  pub old : Passes p a oldSchema
-  pub new : Passes p b newSchema
-  pub faultless : firstFault p.pair oldSchema newSchema ≡ none
+  pub old_schema : Schema
+  pub new_schema : Schema
+  pub old : Passes p a old_schema
+  pub new : Passes p b new_schema
+  pub faultless : first_fault p.pair old_schema new_schema ≡ none
 
 module _ (p : Policy) where
   -- what the clauses report, whether or not the images are refused
-  unfoldable pub changesOf : List ℕ → List ℕ → List Change
-  changesOf a b = changes p.reading (p.view (schemaOf (readImage a))) (p.view (schemaOf (readImage b)))
+  unfoldable pub changes_of : List ℕ → List ℕ → List Change
+  changes_of a b = changes p.reading (p.view (schema_of (read_image a))) (p.view (schema_of (read_image b)))
 
   -- both are accepted, each passes alone, and the pair passes its checks
   pub settled : Numbered p → (a b : List ℕ) → select (outcome p a b) 0 ≡ 0 → Settled p a b
@@ -139,57 +139,57 @@ module _ (p : Policy) where
   settled n a b = go (decided p a b)
     where
       go : {o : Outcome} → Decided p a b o → select o 0 ≡ 0 → Settled p a b
-      go (oldRefused l q) z = absurd (omega arith)
-      go (oldAlone q e) z = absurd ((n.alone _ _ e).0 z)
-      go (newRefused c l q) z = absurd (omega arith)
-      go (newAlone c q e) z = absurd ((n.alone _ _ e).0 z)
-      go (pairRefused c d e) z = absurd ((n.pair _ _ _ e).0 z)
-      go (verdict {x = x} {y = y} c d e) z = record { oldSchema = x; newSchema = y; old = c; new = d; faultless = e }
+      go (old_refused l q) z = absurd (omega arith)
+      go (old_alone q e) z = absurd ((n.alone _ _ e).0 z)
+      go (new_refused c l q) z = absurd (omega arith)
+      go (new_alone c q e) z = absurd ((n.alone _ _ e).0 z)
+      go (pair_refused c d e) z = absurd ((n.pair _ _ _ e).0 z)
+      go (verdict {x = x} {y = y} c d e) z = record { old_schema = x; new_schema = y; old = c; new = d; faultless = e }
 
-  pub compared-of : Numbered p → (a b : List ℕ) → select (outcome p a b) 0 ≡ 0 → outcome p a b ≡ compared (changesOf a b)
-  unfolding changesOf schemaOf
-  compared-of n a b z =
+  pub compared_of : Numbered p → (a b : List ℕ) → select (outcome p a b) 0 ≡ 0 → outcome p a b ≡ compared (changes_of a b)
+  unfolding changes_of schema_of
+  compared_of n a b z =
       let t = settled n a b z in
       rw (t.old.read, t.new.read) (decides p a b (verdict t.old t.new t.faultless))
 
 -- ---- the selectors from 5 on
 
-pub counts-at : (n from k : ℕ) (cs : List Change) → k < n → get_or (counts n from cs) k 0 ≡ countOf (from + k) cs
+pub counts_at : (n from k : ℕ) (cs : List Change) → k < n → get_or (counts n from cs) k 0 ≡ count_of (from + k) cs
 unfolding counts
-counts-at zero from k cs h = absurd (omega arith)
-counts-at (suc n) from zero cs h = ap (λ i. countOf i cs) (omega arith)
-counts-at (suc n) from (suc k) cs h = counts-at n (suc from) k cs (omega arith) ∙ ap (λ i. countOf i cs) (omega arith)
+counts_at zero from k cs h = absurd (omega arith)
+counts_at (suc n) from zero cs h = ap (λ i. count_of i cs) (omega arith)
+counts_at (suc n) from (suc k) cs h = counts_at n (suc from) k cs (omega arith) ∙ ap (λ i. count_of i cs) (omega arith)
 
-pub count-selected : (kind : ℕ) → kind < kindCount → (cs : List Change) → select (compared cs) (5 + kind) ≡ countOf kind cs
+pub count_selected : (kind : ℕ) → kind < kind_count → (cs : List Change) → select (compared cs) (5 + kind) ≡ count_of kind cs
 unfolding select selected
-count-selected kind h cs =
-    get_or-append-add (0 ∷ 0 ∷ bumpOf cs ∷ resultOf cs ∷ length (report cs) ∷ []) (counts kindCount 0 cs) kind 0
-    ∙ (counts-at kindCount 0 kind cs h ∙ ap (λ i. countOf i cs) (omega arith))
+count_selected kind h cs =
+    get_or-append-add (0 ∷ 0 ∷ bump_of cs ∷ result_of cs ∷ length (report cs) ∷ []) (counts kind_count 0 cs) kind 0
+    ∙ (counts_at kind_count 0 kind cs h ∙ ap (λ i. count_of i cs) (omega arith))
 
 -- ---- the checks of a pair, one after the other
 
 module _ (c : Check) (cs : List Check) (x y : Schema) where
   -- a fault is the first check's, or a later one's where that finds none
-  pub here_or_later : (f : Fault) → firstFault (c ∷ cs) x y ≡ some f → (c x y ≡ some f) ⊎ ((c x y ≡ none) × (firstFault cs x y ≡ some f))
-  unfolding firstFault or_else
+  pub here_or_later : (f : Fault) → first_fault (c ∷ cs) x y ≡ some f → (c x y ≡ some f) ⊎ ((c x y ≡ none) × (first_fault cs x y ≡ some f))
+  unfolding first_fault or_else
   here_or_later f = go (c x y) refl
     where
-      go : (o : Option Fault) → c x y ≡ o → or_else o (firstFault cs x y) ≡ some f
-          → (c x y ≡ some f) ⊎ ((c x y ≡ none) × (firstFault cs x y ≡ some f))
+      go : (o : Option Fault) → c x y ≡ o → or_else o (first_fault cs x y) ≡ some f
+          → (c x y ≡ some f) ⊎ ((c x y ≡ none) × (first_fault cs x y ≡ some f))
       go none p e = inr (p, e)
       go (some g) p e = inl (p ∙ e)
 
-  pub here-found : {f : Fault} → c x y ≡ some f → firstFault (c ∷ cs) x y ≡ some f
-  unfolding firstFault or_else
-  here-found e = rw e
+  pub here_found : {f : Fault} → c x y ≡ some f → first_fault (c ∷ cs) x y ≡ some f
+  unfolding first_fault or_else
+  here_found e = rw e
 
-  pub here_passed : c x y ≡ none → firstFault (c ∷ cs) x y ≡ firstFault cs x y
-  unfolding firstFault or_else
+  pub here_passed : c x y ≡ none → first_fault (c ∷ cs) x y ≡ first_fault cs x y
+  unfolding first_fault or_else
   here_passed e = rw e
 
-pub no-checks : {A : Type 0} (x y : Schema) (f : Fault) → firstFault [] x y ≡ some f → A
-unfolding firstFault
-no-checks x y f e = absurd (none-ne-some f e)
+pub no_checks : {A : Type 0} (x y : Schema) (f : Fault) → first_fault [] x y ≡ some f → A
+unfolding first_fault
+no_checks x y f e = absurd (none-ne-some f e)
 
 -- a check that is a test with one fault
 pub tested : (g : Fault) (u : Bool) (f : Fault) → cond u (some g) none ≡ some f → (u ≡ true) × (f ≡ g)
@@ -204,21 +204,21 @@ untested g false e = refl
 
 module _ (view : Schema → View) where
   -- of the pair only 11 is given, to a pair of aliases
-  pub usual-fault : (x y : Schema) (f : Fault) → firstFault (aliasCheck view ∷ []) x y ≡ some f
-      → (aliasPair (view x) (view y) ≡ true) × (f ≡ fault 11 (number bothSides))
-  unfolding aliasCheck
-  usual-fault x y f e =
-      ⊎_elim (tested (fault 11 (number bothSides)) (aliasPair (view x) (view y)) f) (λ q. no-checks x y f q.1) (here_or_later (aliasCheck view) [] x y f e)
+  pub usual_fault : (x y : Schema) (f : Fault) → first_fault (alias_check view ∷ []) x y ≡ some f
+      → (alias_pair (view x) (view y) ≡ true) × (f ≡ fault 11 (number both_sides))
+  unfolding alias_check
+  usual_fault x y f e =
+      ⊎_elim (tested (fault 11 (number both_sides)) (alias_pair (view x) (view y)) f) (λ q. no_checks x y f q.1) (here_or_later (alias_check view) [] x y f e)
 
-  pub alias-fault : (x y : Schema) → aliasPair (view x) (view y) ≡ true → firstFault (aliasCheck view ∷ []) x y ≡ some (fault 11 (number bothSides))
-  unfolding aliasCheck
-  alias-fault x y e = here-found (aliasCheck view) [] x y (rw e)
+  pub alias_fault_lem : (x y : Schema) → alias_pair (view x) (view y) ≡ true → first_fault (alias_check view ∷ []) x y ≡ some (fault 11 (number both_sides))
+  unfolding alias_check
+  alias_fault_lem x y e = here_found (alias_check view) [] x y (rw e)
 
-pub usual-numbered : (view : Schema → View) (reading : Reading) → Numbered (usual view reading)
-usual-numbered view reading = record {
+pub usual_numbered : (view : Schema → View) (reading : Reading) → Numbered (usual view reading)
+usual_numbered view reading = record {
   alone = λ x k e. absurd (none-ne-some k e);
-  pair = λ x y f e. let n = ap (λ (g : Fault). g.number) (usual-fault view x y f e).1 in (λ z. omega arith, λ z. omega arith);
+  pair = λ x y f e. let n = ap (λ (g : Fault). g.number) (usual_fault view x y f e).1 in (λ z. omega arith, λ z. omega arith);
 }
 
-pub plain-numbered : Numbered plain
-plain-numbered = usual-numbered viewOf plainReading
+pub plain_numbered : Numbered plain
+plain_numbered = usual_numbered view_of plain_reading

@@ -6,7 +6,7 @@ use mathlib.Core.List.{List, [], ◌∷◌}
 use lib.Dec.{eqb}
 use borrow.Author.Tests.{eqb-true, eq-eqb}
 use Rattle.maps.proofs.Tests.{both}
-use Rattle.rules.specs.Equal.{sameList, sameOption, sameName, sameNames, Sound, never}
+use Rattle.rules.specs.Equal.{same_list, same_option, same_name, same_names, Sound, never}
 
 -- ---- two tests that hold
 
@@ -16,11 +16,11 @@ join p q = rw (p, q)
 -- ---- what holds of every sound test
 
 module _ {A : Type 0} {same : A → A → Bool} {odd : A → Bool} (S : Sound same odd) where
-  pub same-trans : (a b c : A) → same a b ≡ true → same b c ≡ true → same a c ≡ true
-  same-trans a b c p q = rw (S.equal a b p) q
+  pub same_trans : (a b c : A) → same a b ≡ true → same b c ≡ true → same a c ≡ true
+  same_trans a b c p q = rw (S.equal a b p) q
 
-  pub same-sym : (a b : A) → same a b ≡ same b a
-  same-sym a b = go (same a b) (same b a) refl refl
+  pub same_sym : (a b : A) → same a b ≡ same b a
+  same_sym a b = go (same a b) (same b a) refl refl
     where
       go : (x y : Bool) → same a b ≡ x → same b a ≡ y → x ≡ y
       go true true p q = refl
@@ -59,42 +59,42 @@ marks = record { equal = equal; self = self }
     self false = refl
 
 module _ {A : Type 0} {same : A → A → Bool} (S : Sound same never) where
-  list-equal : (a b : List A) → sameList same a b ≡ true → a ≡ b
-  unfolding sameList
-  list-equal [] [] e = refl
-  list-equal [] (y ∷ ys) e = absurd (false≢true e)
-  list-equal (x ∷ xs) [] e = absurd (false≢true e)
-  list-equal (x ∷ xs) (y ∷ ys) e =
-      let h = both (same x y) (sameList same xs ys) e in
-      cc (S.equal x y h.0, list-equal xs ys h.1)
+  list_equal : (a b : List A) → same_list same a b ≡ true → a ≡ b
+  unfolding same_list
+  list_equal [] [] e = refl
+  list_equal [] (y ∷ ys) e = absurd (false≢true e)
+  list_equal (x ∷ xs) [] e = absurd (false≢true e)
+  list_equal (x ∷ xs) (y ∷ ys) e =
+      let h = both (same x y) (same_list same xs ys) e in
+      cc (S.equal x y h.0, list_equal xs ys h.1)
 
-  list-self : (a : List A) → sameList same a a ≡ true
-  unfolding sameList
-  list-self [] = refl
-  list-self (x ∷ xs) = join (S.self x) (list-self xs)
+  list_self : (a : List A) → same_list same a a ≡ true
+  unfolding same_list
+  list_self [] = refl
+  list_self (x ∷ xs) = join (S.self x) (list_self xs)
 
-  pub lists : Sound (sameList same) never
-  lists = record { equal = list-equal; self = list-self }
+  pub lists : Sound (same_list same) never
+  lists = record { equal = list_equal; self = list_self }
 
-  option-equal : (a b : Option A) → sameOption same a b ≡ true → a ≡ b
-  unfolding sameOption
-  option-equal none none e = refl
-  option-equal none (some b) e = absurd (false≢true e)
-  option-equal (some a) none e = absurd (false≢true e)
-  option-equal (some a) (some b) e = cc (S.equal a b e)
+  option_equal : (a b : Option A) → same_option same a b ≡ true → a ≡ b
+  unfolding same_option
+  option_equal none none e = refl
+  option_equal none (some b) e = absurd (false≢true e)
+  option_equal (some a) none e = absurd (false≢true e)
+  option_equal (some a) (some b) e = cc (S.equal a b e)
 
-  option-self : (a : Option A) → sameOption same a a ≡ true
-  unfolding sameOption
-  option-self none = refl
-  option-self (some a) = S.self a
+  option_self : (a : Option A) → same_option same a a ≡ true
+  unfolding same_option
+  option_self none = refl
+  option_self (some a) = S.self a
 
-  pub options : Sound (sameOption same) never
-  options = record { equal = option-equal; self = option-self }
+  pub options : Sound (same_option same) never
+  options = record { equal = option_equal; self = option_self }
 
-pub names : Sound sameName never
-unfolding sameName
+pub names : Sound same_name never
+unfolding same_name
 names = record { equal = (lists numbers).equal; self = (lists numbers).self }
 
-pub nameLists : Sound sameNames never
-unfolding sameNames
-nameLists = record { equal = (lists names).equal; self = (lists names).self }
+pub name_lists : Sound same_names never
+unfolding same_names
+name_lists = record { equal = (lists names).equal; self = (lists names).self }

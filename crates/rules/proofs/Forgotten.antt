@@ -9,127 +9,127 @@ use lib.ListN.{length, get_or-map}
 use Rattle.std.proofs.lemmas.List.{length-map}
 use Rattle.maps.specs.Orders.{before}
 use Rattle.maps.specs.Keyed.{survivors, lookup}
-use Rattle.maps.specs.Walk.{isSome}
-use Rattle.maps.proofs.Mapped.{pass-same, survivors-map, lookup-map}
+use Rattle.maps.specs.Walk.{is_some}
+use Rattle.maps.proofs.Mapped.{pass_same, survivors_map, lookup_map}
 use Rattle.image.specs.Schema.{Label, Ty, leaf, one, two, Decl}
-use Rattle.rules.specs.Survivors.{Registry, standsFor, resolved, listed, nameOf, View}
-use Rattle.rules.specs.Types.{nameOrNone, resolveLabel, resolve}
-use Rattle.rules.specs.Verdict.{alias, isAlias, any, aliasPair}
-use Rattle.rules.specs.Reached.{namedOf, namedFrom, resolvable, IdSet, mark, markAll, namedBy, follow, upFrom, round, rounds}
-use Rattle.rules.proofs.Reached.{named-from}
+use Rattle.rules.specs.Survivors.{Registry, stands_for, resolved, listed, name_of, View}
+use Rattle.rules.specs.Types.{name_or_none, resolve_label, resolve}
+use Rattle.rules.specs.Verdict.{alias, is_alias, any, alias_pair}
+use Rattle.rules.specs.Reached.{named_of, named_from, resolvable, IdSet, mark, mark_all, named_by, follow, up_from, round, rounds}
+use Rattle.rules.proofs.Reached.{named_from_lem}
 
 -- what stays of a declaration
 pub record Keeps (g : Decl → Decl) : Type 0 where
   pub kind : (d : Decl) → (g d).kind ≡ d.kind
   pub name : (d : Decl) → (g d).name ≡ d.name
-  pub named : (d : Decl) → namedOf (g d) ≡ namedOf d
+  pub named : (d : Decl) → named_of (g d) ≡ named_of d
 
 -- what is left of a registry, and of a view
 module _ (g : Decl → Decl) where
-  abbrev pub registryLeft : Registry → Registry
-  registryLeft R = map (map_option g) R
+  abbrev pub registry_left : Registry → Registry
+  registry_left R = map (map_option g) R
 
-  abbrev pub viewLeft : View → View
-  viewLeft v = record { namespace = v.namespace; standing = map g v.standing; registry = registryLeft v.registry }
+  abbrev pub view_left : View → View
+  view_left v = record { namespace = v.namespace; standing = map g v.standing; registry = registry_left v.registry }
 
 module _ {g : Decl → Decl} (k : Keeps g) where
-  stands-forgotten : (R : Registry) (id : ℕ) → standsFor (registryLeft g R) id ≡ map_option g (standsFor R id)
-  unfolding standsFor
-  stands-forgotten R id = get_or-map (map_option g) R id none
+  stands_forgotten : (R : Registry) (id : ℕ) → stands_for (registry_left g R) id ≡ map_option g (stands_for R id)
+  unfolding stands_for
+  stands_forgotten R id = get_or-map (map_option g) R id none
 
   -- ---- what is listed, and stands
 
-  pub listed-forgotten : (R : Registry) (ids : List ℕ) → listed (registryLeft g R) ids ≡ map g (listed R ids)
+  pub listed_forgotten : (R : Registry) (ids : List ℕ) → listed (registry_left g R) ids ≡ map g (listed R ids)
   unfolding listed resolved
-  listed-forgotten R [] = refl
-  listed-forgotten R (id ∷ ids) = rw (stands-forgotten R id, listed-forgotten R ids) (go (standsFor R id))
+  listed_forgotten R [] = refl
+  listed_forgotten R (id ∷ ids) = rw (stands_forgotten R id, listed_forgotten R ids) (go (stands_for R id))
     where
       go : (o : Option Decl) → resolved (map_option g o) (map g (listed R ids)) ≡ map g (resolved o (listed R ids))
       go none = refl
       go (some d) = refl
 
-  pub standing-forgotten : (R : Registry) (ids : List ℕ)
-      → survivors nameOf before (listed (registryLeft g R) ids) ≡ map g (survivors nameOf before (listed R ids))
-  standing-forgotten R ids = ap (survivors nameOf before) (listed-forgotten R ids) ∙ survivors-map nameOf before g k.name (listed R ids)
+  pub standing_forgotten : (R : Registry) (ids : List ℕ)
+      → survivors name_of before (listed (registry_left g R) ids) ≡ map g (survivors name_of before (listed R ids))
+  standing_forgotten R ids = ap (survivors name_of before) (listed_forgotten R ids) ∙ survivors_map name_of before g k.name (listed R ids)
 
   -- ---- types
 
-  name-forgotten : (o : Option Decl) → nameOrNone (map_option g o) ≡ nameOrNone o
-  unfolding nameOrNone
-  name-forgotten none = refl
-  name-forgotten (some d) = rw (k.name d)
+  name_forgotten : (o : Option Decl) → name_or_none (map_option g o) ≡ name_or_none o
+  unfolding name_or_none
+  name_forgotten none = refl
+  name_forgotten (some d) = rw (k.name d)
 
-  label-forgotten : (R : Registry) (l : Label) → resolveLabel (registryLeft g R) l ≡ resolveLabel R l
-  unfolding resolveLabel
-  label-forgotten R l = rw (stands-forgotten R l.first, name-forgotten (standsFor R l.first))
+  label_forgotten : (R : Registry) (l : Label) → resolve_label (registry_left g R) l ≡ resolve_label R l
+  unfolding resolve_label
+  label_forgotten R l = rw (stands_forgotten R l.first, name_forgotten (stands_for R l.first))
 
-  pub resolve-forgotten : (R : Registry) (t : Ty) → resolve (registryLeft g R) t ≡ resolve R t
+  pub resolve_forgotten : (R : Registry) (t : Ty) → resolve (registry_left g R) t ≡ resolve R t
   unfolding resolve
-  resolve-forgotten R (leaf l) = rw (label-forgotten R l)
-  resolve-forgotten R (one l t) = rw (label-forgotten R l, resolve-forgotten R t)
-  resolve-forgotten R (two l t u) = rw (label-forgotten R l, resolve-forgotten R t, resolve-forgotten R u)
+  resolve_forgotten R (leaf l) = rw (label_forgotten R l)
+  resolve_forgotten R (one l t) = rw (label_forgotten R l, resolve_forgotten R t)
+  resolve_forgotten R (two l t u) = rw (label_forgotten R l, resolve_forgotten R t, resolve_forgotten R u)
 
   -- ---- refusal 11
 
-  isAlias-forgotten : (o : Option Decl) → isAlias (map_option g o) ≡ isAlias o
-  unfolding isAlias alias
-  isAlias-forgotten none = refl
-  isAlias-forgotten (some d) = rw (k.kind d)
+  is_alias_forgotten : (o : Option Decl) → is_alias (map_option g o) ≡ is_alias o
+  unfolding is_alias alias
+  is_alias_forgotten none = refl
+  is_alias_forgotten (some d) = rw (k.kind d)
 
-  any-forgotten : (p q : Decl → Bool) → ((d : Decl) → p (g d) ≡ q d) → (m : List Decl) → any p (map g m) ≡ any q m
+  any_forgotten : (p q : Decl → Bool) → ((d : Decl) → p (g d) ≡ q d) → (m : List Decl) → any p (map g m) ≡ any q m
   unfolding any
-  any-forgotten p q h [] = refl
-  any-forgotten p q h (d ∷ m) = rw (h d, any-forgotten p q h m)
+  any_forgotten p q h [] = refl
+  any_forgotten p q h (d ∷ m) = rw (h d, any_forgotten p q h m)
 
-  pub alias-forgotten : (v w : View) → aliasPair (viewLeft g v) (viewLeft g w) ≡ aliasPair v w
-  unfolding aliasPair alias
-  alias-forgotten v w = any-forgotten _ _ same v.standing
+  pub alias_forgotten : (v w : View) → alias_pair (view_left g v) (view_left g w) ≡ alias_pair v w
+  unfolding alias_pair alias
+  alias_forgotten v w = any_forgotten _ _ same v.standing
     where
-      same : (d : Decl) → alias (g d) && isAlias (lookup nameOf before (g d).name (map g w.standing))
-          ≡ alias d && isAlias (lookup nameOf before d.name w.standing)
+      same : (d : Decl) → alias (g d) && is_alias (lookup name_of before (g d).name (map g w.standing))
+          ≡ alias d && is_alias (lookup name_of before d.name w.standing)
       same d =
-          rw (k.kind d, k.name d, lookup-map nameOf before g k.name d.name w.standing, isAlias-forgotten (lookup nameOf before d.name w.standing))
+          rw (k.kind d, k.name d, lookup_map name_of before g k.name d.name w.standing, is_alias_forgotten (lookup name_of before d.name w.standing))
 
   -- ---- what is reached
 
-  named_forgotten : (m : List Decl) → flat_map namedOf (map g m) ≡ flat_map namedOf m
+  named_forgotten : (m : List Decl) → flat_map named_of (map g m) ≡ flat_map named_of m
   unfolding flat_map
   named_forgotten [] = refl
   named_forgotten (d ∷ m) = rw (k.named d, named_forgotten m)
 
-  pub namedFrom-forgotten : (v : View) → namedFrom (viewLeft g v) ≡ namedFrom v
-  namedFrom-forgotten v = named-from (viewLeft g v) ∙ named_forgotten v.standing ∙ sym (named-from v)
+  pub named_from_forgotten : (v : View) → named_from (view_left g v) ≡ named_from v
+  named_from_forgotten v = named_from_lem (view_left g v) ∙ named_forgotten v.standing ∙ sym (named_from_lem v)
 
-  namedBy-forgotten : (o : Option Decl) → namedBy (map_option g o) ≡ namedBy o
-  unfolding namedBy
-  namedBy-forgotten none = refl
-  namedBy-forgotten (some d) = k.named d
+  named_by_forgotten : (o : Option Decl) → named_by (map_option g o) ≡ named_by o
+  unfolding named_by
+  named_by_forgotten none = refl
+  named_by_forgotten (some d) = k.named d
 
-  isSome-forgotten : (o : Option Decl) → isSome (map_option g o) ≡ isSome o
-  unfolding isSome
-  isSome-forgotten none = refl
-  isSome-forgotten (some d) = refl
+  is_some_forgotten : (o : Option Decl) → is_some (map_option g o) ≡ is_some o
+  unfolding is_some
+  is_some_forgotten none = refl
+  is_some_forgotten (some d) = refl
 
   module _ (R : Registry) where
-    mark-forgotten : (m : IdSet) (id : ℕ) → mark (registryLeft g R) m id ≡ mark R m id
+    mark_forgotten : (m : IdSet) (id : ℕ) → mark (registry_left g R) m id ≡ mark R m id
     unfolding mark resolvable
-    mark-forgotten m id = rw (stands-forgotten R id, isSome-forgotten (standsFor R id))
+    mark_forgotten m id = rw (stands_forgotten R id, is_some_forgotten (stands_for R id))
 
-    pub marks-forgotten : (m : IdSet) (ids : List ℕ) → markAll (registryLeft g R) m ids ≡ markAll R m ids
-    unfolding markAll
-    marks-forgotten m ids = pass-same (mark (registryLeft g R)) (mark R) mark-forgotten m ids
+    pub marks_forgotten : (m : IdSet) (ids : List ℕ) → mark_all (registry_left g R) m ids ≡ mark_all R m ids
+    unfolding mark_all
+    marks_forgotten m ids = pass_same (mark (registry_left g R)) (mark R) mark_forgotten m ids
 
-    follow-forgotten : (m : IdSet) (id : ℕ) → follow (registryLeft g R) m id ≡ follow R m id
+    follow_forgotten : (m : IdSet) (id : ℕ) → follow (registry_left g R) m id ≡ follow R m id
     unfolding follow
-    follow-forgotten m id =
-        rw (stands-forgotten R id, namedBy-forgotten (standsFor R id), marks-forgotten m (namedBy (standsFor R id)))
+    follow_forgotten m id =
+        rw (stands_forgotten R id, named_by_forgotten (stands_for R id), marks_forgotten m (named_by (stands_for R id)))
 
-    round-forgotten : (m : IdSet) → round (registryLeft g R) m ≡ round R m
+    round_forgotten : (m : IdSet) → round (registry_left g R) m ≡ round R m
     unfolding round
-    round-forgotten m =
-        rw (length-map R (map_option g)) (pass-same (follow (registryLeft g R)) (follow R) follow-forgotten m (upFrom 0 (length R)))
+    round_forgotten m =
+        rw (length-map R (map_option g)) (pass_same (follow (registry_left g R)) (follow R) follow_forgotten m (up_from 0 (length R)))
 
-    pub rounds-forgotten : (n : ℕ) (m : IdSet) → rounds (registryLeft g R) n m ≡ rounds R n m
+    pub rounds_forgotten : (n : ℕ) (m : IdSet) → rounds (registry_left g R) n m ≡ rounds R n m
     unfolding rounds
-    rounds-forgotten zero m = refl
-    rounds-forgotten (suc n) m = rw (round-forgotten m) (rounds-forgotten n (round R m))
+    rounds_forgotten zero m = refl
+    rounds_forgotten (suc n) m = rw (round_forgotten m) (rounds_forgotten n (round R m))

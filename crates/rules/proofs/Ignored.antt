@@ -8,41 +8,41 @@ use lib.ListN.{length}
 use Rattle.std.proofs.lemmas.List.{length-map}
 use Rattle.maps.specs.Compare.{compare}
 use Rattle.maps.specs.Orders.{before}
-use Rattle.maps.proofs.Mapped.{compare-map, compare-rules}
+use Rattle.maps.proofs.Mapped.{compare_map, compare_rules}
 use Rattle.image.specs.Schema.{Name, Ty, Field, Variant, Decl, Schema}
-use Rattle.image.specs.Kinds.{Kind, kindOf, message, enum, flags, union, newtype, config, alias, trait, impl, other}
+use Rattle.image.specs.Kinds.{Kind, kind_of, message, enum, flags, union, newtype, config, alias, trait, impl, other}
 use Rattle.image.specs.Parse.{Parsed, ok, no}
-use Rattle.image.specs.Image.{readImage}
-use Rattle.rules.specs.Survivors.{Registry, nameOf, ordinalOf, fieldMap, variantOrdinal, variantMap, declarations, View, viewOf}
-use Rattle.rules.specs.Clauses.{Reading, Context, context, compareTypes, compareFields, fieldRules, compareFieldSets, compareMessages, compareEnums, compareFlags, unionRules, compareUnions, compareNewtypes, compareKind, kindChanged, compareAlike, compareDecls, declText, declRules, changes, typesOf}
-use Rattle.rules.specs.Answer.{Policy, judged, onSide, firstFault, aliasCheck, usual, plainReading, comparePair, acceptNew, acceptOld, outcome}
-use Rattle.rules.specs.Reached.{namedOf, namedFrom, firstSet, reachedSet}
-use Rattle.rules.specs.Imports.{standingWith, viewWith, importsView}
-use Rattle.rules.specs.Ignored.{unsized, unsizedSchema, SameUnsized, Ignores, EarlierIgnore}
-use Rattle.rules.proofs.Forgotten.{Keeps, registryLeft, viewLeft, standing-forgotten, resolve-forgotten, alias-forgotten, namedFrom-forgotten, marks-forgotten, rounds-forgotten}
+use Rattle.image.specs.Image.{read_image}
+use Rattle.rules.specs.Survivors.{Registry, name_of, ordinal_of, field_map, variant_ordinal, variant_map, declarations, View, view_of}
+use Rattle.rules.specs.Clauses.{Reading, Context, context, compare_types, compare_fields, field_rules, compare_field_sets, compare_messages, compare_enums, compare_flags, union_rules, compare_unions, compare_newtypes, compare_kind, kind_changed, compare_alike, compare_decls, decl_text, decl_rules, changes, types_of}
+use Rattle.rules.specs.Answer.{Policy, judged, on_side, first_fault, alias_check, usual, plain_reading, compare_pair, accept_new, accept_old, outcome}
+use Rattle.rules.specs.Reached.{named_of, named_from, first_set, reached_set}
+use Rattle.rules.specs.Imports.{standing_with, view_with, imports_view}
+use Rattle.rules.specs.Ignored.{unsized, unsized_schema, SameUnsized, Ignores, EarlierIgnore}
+use Rattle.rules.proofs.Forgotten.{Keeps, registry_left, view_left, standing_forgotten, resolve_forgotten, alias_forgotten, named_from_forgotten, marks_forgotten, rounds_forgotten}
 
 -- ---- what is left of a declaration
 
-types-kept : (k : Kind) (d : Decl) → typesOf k (unsized d) ≡ typesOf k d
-unfolding typesOf unsized
-types-kept message d = refl
-types-kept enum d = refl
-types-kept flags d = refl
-types-kept union d = refl
-types-kept newtype d = refl
-types-kept config d = refl
-types-kept alias d = refl
-types-kept trait d = refl
-types-kept impl d = refl
-types-kept other d = refl
+types_kept : (k : Kind) (d : Decl) → types_of k (unsized d) ≡ types_of k d
+unfolding types_of unsized
+types_kept message d = refl
+types_kept enum d = refl
+types_kept flags d = refl
+types_kept union d = refl
+types_kept newtype d = refl
+types_kept config d = refl
+types_kept alias d = refl
+types_kept trait d = refl
+types_kept impl d = refl
+types_kept other d = refl
 
-named-kept : (d : Decl) → namedOf (unsized d) ≡ namedOf d
-unfolding namedOf unsized
-named-kept d = rw (types-kept (kindOf d.kind) d)
+named_kept : (d : Decl) → named_of (unsized d) ≡ named_of d
+unfolding named_of unsized
+named_kept d = rw (types_kept (kind_of d.kind) d)
 
 pub kept : Keeps unsized
 unfolding unsized
-kept = record { kind = λ d. refl; name = λ d. refl; named = named-kept }
+kept = record { kind = λ d. refl; name = λ d. refl; named = named_kept }
 
 -- ---- the clauses
 
@@ -54,117 +54,117 @@ pub record Unsized (reading : Reading) : Type 0 where
 module _ (reading : Reading) (R S : Registry) where
   -- without widths, and with them
   abbrev without : Context
-  without = context reading (registryLeft unsized R) (registryLeft unsized S)
+  without = context reading (registry_left unsized R) (registry_left unsized S)
 
   abbrev with : Context
   with = context reading R S
 
-  types-ignore : (n : Name) (field : Option Name) (what : List ℕ) (t u : Ty)
-      → compareTypes without n field what t u ≡ compareTypes with n field what t u
-  unfolding compareTypes
-  types-ignore n field what t u = rw (resolve-forgotten kept R t, resolve-forgotten kept S u)
+  types_ignore : (n : Name) (field : Option Name) (what : List ℕ) (t u : Ty)
+      → compare_types without n field what t u ≡ compare_types with n field what t u
+  unfolding compare_types
+  types_ignore n field what t u = rw (resolve_forgotten kept R t, resolve_forgotten kept S u)
 
-  fields-ignore : (n : Name) (f g : Field) → compareFields without n f g ≡ compareFields with n f g
-  unfolding compareFields
-  fields-ignore n f g = rw (types-ignore n _ _ f.type g.type)
+  fields_ignore : (n : Name) (f g : Field) → compare_fields without n f g ≡ compare_fields with n f g
+  unfolding compare_fields
+  fields_ignore n f g = rw (types_ignore n _ _ f.type g.type)
 
-  sets-ignore : (n : Name) (l m : List Field) → compareFieldSets without n l m ≡ compareFieldSets with n l m
-  unfolding compareFieldSets fieldRules
-  sets-ignore n l m =
-      compare-rules ordinalOf ltb (fieldRules without n) (fieldRules with n) (λ f. refl) (λ f. refl) (fields-ignore n) (fieldMap l) (fieldMap m)
+  sets_ignore : (n : Name) (l m : List Field) → compare_field_sets without n l m ≡ compare_field_sets with n l m
+  unfolding compare_field_sets field_rules
+  sets_ignore n l m =
+      compare_rules ordinal_of ltb (field_rules without n) (field_rules with n) (λ f. refl) (λ f. refl) (fields_ignore n) (field_map l) (field_map m)
 
-  unions-ignore : (n : Name) (l m : List Variant)
-      → compare variantOrdinal ltb (unionRules without n) (variantMap l) (variantMap m)
-      ≡ compare variantOrdinal ltb (unionRules with n) (variantMap l) (variantMap m)
-  unfolding unionRules
-  unions-ignore n l m =
-      compare-rules variantOrdinal ltb (unionRules without n) (unionRules with n) (λ v. refl) (λ v. refl)
-      (λ v w. rw (sets-ignore _ v.fields w.fields)) (variantMap l) (variantMap m)
+  unions_ignore : (n : Name) (l m : List Variant)
+      → compare variant_ordinal ltb (union_rules without n) (variant_map l) (variant_map m)
+      ≡ compare variant_ordinal ltb (union_rules with n) (variant_map l) (variant_map m)
+  unfolding union_rules
+  unions_ignore n l m =
+      compare_rules variant_ordinal ltb (union_rules without n) (union_rules with n) (λ v. refl) (λ v. refl)
+      (λ v w. rw (sets_ignore _ v.fields w.fields)) (variant_map l) (variant_map m)
 
-  kinds-ignore : (k : Kind) (d e : Decl) → compareKind k without (unsized d) (unsized e) ≡ compareKind k with d e
-  unfolding compareKind compareMessages compareEnums compareFlags compareUnions compareNewtypes unsized
-  kinds-ignore message d e = rw (sets-ignore d.name d.fields e.fields)
-  kinds-ignore enum d e = refl
-  kinds-ignore flags d e = refl
-  kinds-ignore union d e = unions-ignore d.name d.variants e.variants
-  kinds-ignore newtype d e = types-ignore d.name _ _ d.inner e.inner
-  kinds-ignore config d e = refl
-  kinds-ignore alias d e = refl
-  kinds-ignore trait d e = refl
-  kinds-ignore impl d e = refl
-  kinds-ignore other d e = refl
+  kinds_ignore : (k : Kind) (d e : Decl) → compare_kind k without (unsized d) (unsized e) ≡ compare_kind k with d e
+  unfolding compare_kind compare_messages compare_enums compare_flags compare_unions compare_newtypes unsized
+  kinds_ignore message d e = rw (sets_ignore d.name d.fields e.fields)
+  kinds_ignore enum d e = refl
+  kinds_ignore flags d e = refl
+  kinds_ignore union d e = unions_ignore d.name d.variants e.variants
+  kinds_ignore newtype d e = types_ignore d.name _ _ d.inner e.inner
+  kinds_ignore config d e = refl
+  kinds_ignore alias d e = refl
+  kinds_ignore trait d e = refl
+  kinds_ignore impl d e = refl
+  kinds_ignore other d e = refl
 
   module _ (h : Unsized reading) where
-    decls-ignore : (d e : Decl) → compareDecls without (unsized d) (unsized e) ≡ compareDecls with d e
-    unfolding compareDecls compareAlike kindChanged unsized
-    decls-ignore d e = rw (h.first d e, h.last d e, kinds-ignore (kindOf d.kind) d e)
+    decls_ignore : (d e : Decl) → compare_decls without (unsized d) (unsized e) ≡ compare_decls with d e
+    unfolding compare_decls compare_alike kind_changed unsized
+    decls_ignore d e = rw (h.first d e, h.last d e, kinds_ignore (kind_of d.kind) d e)
 
-    all-ignore : (m n : List Decl)
-        → compare nameOf before (declRules without) (map unsized m) (map unsized n) ≡ compare nameOf before (declRules with) m n
-    unfolding declRules declText unsized
-    all-ignore m n = compare-map nameOf before unsized kept.name (declRules without) (declRules with) (λ d. refl) (λ d. refl) decls-ignore m n
+    all_ignore : (m n : List Decl)
+        → compare name_of before (decl_rules without) (map unsized m) (map unsized n) ≡ compare name_of before (decl_rules with) m n
+    unfolding decl_rules decl_text unsized
+    all_ignore m n = compare_map name_of before unsized kept.name (decl_rules without) (decl_rules with) (λ d. refl) (λ d. refl) decls_ignore m n
 
-pub changes-ignore : (reading : Reading) → Unsized reading → (v w : View)
-    → changes reading (viewLeft unsized v) (viewLeft unsized w) ≡ changes reading v w
+pub changes_ignore : (reading : Reading) → Unsized reading → (v w : View)
+    → changes reading (view_left unsized v) (view_left unsized w) ≡ changes reading v w
 unfolding changes
-changes-ignore reading h v w = rw (all-ignore reading v.registry w.registry h v.standing w.standing)
+changes_ignore reading h v w = rw (all_ignore reading v.registry w.registry h v.standing w.standing)
 
 -- ---- a verdict whose one check is 11
 
-module _ (view : Schema → View) (views : (s : Schema) → view (unsizedSchema s) ≡ viewLeft unsized (view s)) (reading : Reading) (h : Unsized reading) where
+module _ (view : Schema → View) (views : (s : Schema) → view (unsized_schema s) ≡ view_left unsized (view s)) (reading : Reading) (h : Unsized reading) where
   abbrev policy : Policy
   policy = usual view reading
 
-  pair-ignores : (x y : Schema) → comparePair policy (unsizedSchema x) (unsizedSchema y) ≡ comparePair policy x y
-  unfolding comparePair firstFault aliasCheck
-  pair-ignores x y =
-      rw (views x, views y, alias-forgotten kept (view x) (view y), changes-ignore reading h (view x) (view y))
+  pair_ignores : (x y : Schema) → compare_pair policy (unsized_schema x) (unsized_schema y) ≡ compare_pair policy x y
+  unfolding compare_pair first_fault alias_check
+  pair_ignores x y =
+      rw (views x, views y, alias_forgotten kept (view x) (view y), changes_ignore reading h (view x) (view y))
 
   -- of schemas that are the same without widths, on the old side and on the new
-  pair-same : (x x′ y y′ : Schema) → unsizedSchema x ≡ unsizedSchema x′ → unsizedSchema y ≡ unsizedSchema y′
-      → comparePair policy x y ≡ comparePair policy x′ y′
-  pair-same x x′ y y′ p q = sym (pair-ignores x y) ∙ (cc (p, q) ∙ pair-ignores x′ y′)
+  pair_same : (x x′ y y′ : Schema) → unsized_schema x ≡ unsized_schema x′ → unsized_schema y ≡ unsized_schema y′
+      → compare_pair policy x y ≡ compare_pair policy x′ y′
+  pair_same x x′ y y′ p q = sym (pair_ignores x y) ∙ (cc (p, q) ∙ pair_ignores x′ y′)
 
-  ignores-old : (a b : List ℕ) → SameUnsized a b → (c : List ℕ) → outcome policy a c ≡ outcome policy b c
-  unfolding outcome acceptOld acceptNew judged onSide
-  ignores-old a b s c = rw (s.oldRead, s.newRead) (go (readImage c))
+  ignores_old : (a b : List ℕ) → SameUnsized a b → (c : List ℕ) → outcome policy a c ≡ outcome policy b c
+  unfolding outcome accept_old accept_new judged on_side
+  ignores_old a b s c = rw (s.old_read, s.new_read) (go (read_image c))
     where
-      go : (r : Parsed Schema) → acceptNew policy s.oldSchema r ≡ acceptNew policy s.newSchema r
-      go (ok z n) = pair-same s.oldSchema s.newSchema z z s.holds refl
+      go : (r : Parsed Schema) → accept_new policy s.old_schema r ≡ accept_new policy s.new_schema r
+      go (ok z n) = pair_same s.old_schema s.new_schema z z s.holds refl
       go (no k) = refl
 
-  ignores-new : (a b : List ℕ) → SameUnsized a b → (c : List ℕ) → outcome policy c a ≡ outcome policy c b
-  unfolding outcome acceptOld acceptNew judged onSide
-  ignores-new a b s c = rw (s.oldRead, s.newRead) (go (readImage c))
+  ignores_new : (a b : List ℕ) → SameUnsized a b → (c : List ℕ) → outcome policy c a ≡ outcome policy c b
+  unfolding outcome accept_old accept_new judged on_side
+  ignores_new a b s c = rw (s.old_read, s.new_read) (go (read_image c))
     where
-      go : (r : Parsed Schema) → acceptOld policy r (ok s.oldSchema s.oldEnd) ≡ acceptOld policy r (ok s.newSchema s.newEnd)
-      go (ok z n) = pair-same z z s.oldSchema s.newSchema refl s.holds
+      go : (r : Parsed Schema) → accept_old policy r (ok s.old_schema s.old_end) ≡ accept_old policy r (ok s.new_schema s.new_end)
+      go (ok z n) = pair_same z z s.old_schema s.new_schema refl s.holds
       go (no k) = refl
 
   pub ignores : Ignores (outcome policy)
-  ignores = record { old = ignores-old; new = ignores-new }
+  ignores = record { old = ignores_old; new = ignores_new }
 
 -- ---- the verdict of document 01, and that with imports
 
-plain-unsized : Unsized plainReading
-plain-unsized = record { first = λ d e. refl; last = λ d e. refl }
+plain_unsized : Unsized plain_reading
+plain_unsized = record { first = λ d e. refl; last = λ d e. refl }
 
-standing-view : (s : Schema) → viewOf (unsizedSchema s) ≡ viewLeft unsized (viewOf s)
-unfolding viewOf declarations unsizedSchema
-standing-view s = rw (standing-forgotten kept s.registry s.ids)
+standing_view : (s : Schema) → view_of (unsized_schema s) ≡ view_left unsized (view_of s)
+unfolding view_of declarations unsized_schema
+standing_view s = rw (standing_forgotten kept s.registry s.ids)
 
-reached-same : (s : Schema) → reachedSet (unsizedSchema s) ≡ reachedSet s
-unfolding reachedSet firstSet unsizedSchema
-reached-same s =
-    rw (length-map s.registry, ap namedFrom (standing-view s), namedFrom-forgotten kept (viewOf s), marks-forgotten kept s.registry _ (namedFrom (viewOf s)))
-    (rounds-forgotten kept s.registry (length s.registry) _)
+reached_same : (s : Schema) → reached_set (unsized_schema s) ≡ reached_set s
+unfolding reached_set first_set unsized_schema
+reached_same s =
+    rw (length-map s.registry, ap named_from (standing_view s), named_from_forgotten kept (view_of s), marks_forgotten kept s.registry _ (named_from (view_of s)))
+    (rounds_forgotten kept s.registry (length s.registry) _)
 
-imports-view : (s : Schema) → importsView (unsizedSchema s) ≡ viewLeft unsized (importsView s)
-unfolding importsView viewWith standingWith unsizedSchema
-imports-view s = rw (reached-same s, standing-forgotten kept s.registry _)
+imports_view_lem : (s : Schema) → imports_view (unsized_schema s) ≡ view_left unsized (imports_view s)
+unfolding imports_view view_with standing_with unsized_schema
+imports_view_lem s = rw (reached_same s, standing_forgotten kept s.registry _)
 
-pub earlier-ignore : EarlierIgnore
-earlier-ignore = record {
-  plain = ignores viewOf standing-view plainReading plain-unsized;
-  imports = ignores importsView imports-view plainReading plain-unsized;
+pub earlier_ignore : EarlierIgnore
+earlier_ignore = record {
+  plain = ignores view_of standing_view plain_reading plain_unsized;
+  imports = ignores imports_view imports_view_lem plain_reading plain_unsized;
 }

@@ -8,112 +8,112 @@ use Prim.Native.Nat.{ℕ, zero, suc, ◌+◌, ◌≤◌, ◌<◌}
 use native.Mathlib.Omega.{arith}
 use Rattle.maps.specs.Lists.{pass}
 use Rattle.maps.specs.Keyed.{insert, survivors}
-use Rattle.maps.specs.Walk.{isSome}
+use Rattle.maps.specs.Walk.{is_some}
 use Rattle.maps.proofs.Tests.{no_both}
 use Rattle.image.specs.Schema.{Schema}
-use Rattle.image.specs.Kinds.{kindOf}
-use Rattle.rules.specs.Survivors.{standsFor, resolved, listed, declarations, viewOf}
-use Rattle.rules.specs.Clauses.{typesOf, comparedTypes}
-use Rattle.rules.specs.Reached.{namedLabel, namedIn, namedOf, namedFrom, member, resolvable, Reached, by-survivor, by-reached, has, reachedSet}
+use Rattle.image.specs.Kinds.{kind_of}
+use Rattle.rules.specs.Survivors.{stands_for, resolved, listed, declarations, view_of}
+use Rattle.rules.specs.Clauses.{types_of, compared_types}
+use Rattle.rules.specs.Reached.{named_label, named_in, named_of, named_from, member, resolvable, Reached, by_survivor, by_reached, has, reached_set}
 use Rattle.rules.specs.Imports.{OnlyListed}
 use Rattle.rules.specs.Edges.{u8}
 use Rattle.rules.specs.ImportEdges.{told, entry, naming, listing, under, link, links, chain, ImportEdges}
-use Rattle.rules.proofs.Reached.{reached-is}
-use Rattle.rules.proofs.ReachedSets.{member-here}
+use Rattle.rules.proofs.Reached.{reached_is}
+use Rattle.rules.proofs.ReachedSets.{member_here}
 use Rattle.rules.proofs.Computed.{reports}
 
 -- ---- a chain of imports
 
 -- each entry of the chain is there
-link_at : (n from k : ℕ) → k < n → standsFor (links from n) k ≡ some (link (from + k))
-unfolding links standsFor
+link_at : (n from k : ℕ) → k < n → stands_for (links from n) k ≡ some (link (from + k))
+unfolding links stands_for
 link_at zero from k l = absurd (omega arith)
 link_at (suc n) from zero l = ap (λ i. some (link i)) (omega arith)
 link_at (suc n) from (suc k) l = link_at n (suc from) k (omega arith) ∙ ap (λ i. some (link i)) (omega arith)
 
 module _ (n : ℕ) where
-  entry_at : (id : ℕ) → id ≤ n → standsFor (chain n).registry id ≡ some (link id)
+  entry_at : (id : ℕ) → id ≤ n → stands_for (chain n).registry id ≡ some (link id)
   unfolding chain
   entry_at id l = link_at (suc n) 0 id (omega arith) ∙ ap (λ i. some (link i)) (omega arith)
 
   there : (id : ℕ) → id ≤ n → resolvable (chain n).registry id ≡ true
-  unfolding resolvable isSome
-  there id l = ap isSome (entry_at id l)
+  unfolding resolvable is_some
+  there id l = ap is_some (entry_at id l)
 
   -- each names the next
-  names-next : (id : ℕ) → member (suc id) (namedOf (link id)) ≡ true
-  unfolding namedOf typesOf kindOf flat_map namedIn namedLabel
-  names-next id = member-here (suc id) []
+  names_next : (id : ℕ) → member (suc id) (named_of (link id)) ≡ true
+  unfolding named_of types_of kind_of flat_map named_in named_label
+  names_next id = member_here (suc id) []
 
-  chain-reached : (id : ℕ) → suc id ≤ n → Reached (chain n) (suc id)
-  unfolding chain links namedFrom comparedTypes viewOf declarations listed standsFor resolved survivors pass insert typesOf kindOf flat_map namedIn namedLabel
-  chain-reached zero l = by-survivor (member-here 1 []) (there 1 l)
-  chain-reached (suc id) l = by-reached (chain-reached id (omega arith)) (entry_at (suc id) (omega arith)) (names-next (suc id)) (there (suc (suc id)) l)
+  chain_reached : (id : ℕ) → suc id ≤ n → Reached (chain n) (suc id)
+  unfolding chain links named_from compared_types view_of declarations listed stands_for resolved survivors pass insert types_of kind_of flat_map named_in named_label
+  chain_reached zero l = by_survivor (member_here 1 []) (there 1 l)
+  chain_reached (suc id) l = by_reached (chain_reached id (omega arith)) (entry_at (suc id) (omega arith)) (names_next (suc id)) (there (suc (suc id)) l)
 
 steps : (n id : ℕ) → 1 ≤ id → id ≤ n → Reached (chain n) id
 steps n zero l h = absurd (omega arith)
-steps n (suc id) l h = chain-reached n id h
+steps n (suc id) l h = chain_reached n id h
 
 -- ---- an entry that is reached and listed
 
-abbrev listedToo : Schema
-listedToo = listing (naming (entry "B" u8 ∷ [])) (1 ∷ [])
+abbrev listed_too : Schema
+listed_too = listing (naming (entry "B" u8 ∷ [])) (1 ∷ [])
 
-reached-listed : Reached listedToo 1
+reached_listed_lem : Reached listed_too 1
 unfolding reports
-reached-listed = by-survivor refl refl
+reached_listed_lem = by_survivor refl refl
 
-only-listed : OnlyListed listedToo
+only_listed_lem : OnlyListed listed_too
 unfolding reports
-only-listed id q = go id (((reached-is listedToo).exactly id).1 q)
+only_listed_lem id q = go id (((reached_is listed_too).exactly id).1 q)
   where
-    go : (id : ℕ) → has (reachedSet listedToo) id ≡ true → member id listedToo.ids ≡ true
+    go : (id : ℕ) → has (reached_set listed_too) id ≡ true → member id listed_too.ids ≡ true
     go zero e = no_both e refl
     go (suc zero) e = refl
     go (suc (suc id)) e = no_both e refl
 
 -- ---- the rest by computation
 
-pub import-edges : ImportEdges
+pub import_edges : ImportEdges
 unfolding told under reports
-import-edges = record {
+import_edges = record {
   inside = refl;
-  insidePlain = refl;
+  inside_plain = refl;
   itself = refl;
-  itselfInside = refl;
-  eachOther = refl;
-  keptField = refl;
-  lostField = refl;
-  keptVariant = refl;
-  lostVariant = refl;
+  itself_inside = refl;
+  each_other = refl;
+  kept_field = refl;
+  lost_field = refl;
+  kept_variant = refl;
+  lost_variant = refl;
   higher = refl;
   lower = refl;
-  lowerFollowed = refl;
+  lower_followed = refl;
   listed = refl;
-  notListed = refl;
-  notListedFollowed = refl;
-  notFollowed = refl;
-  reachedAliases = refl;
-  reachedAliasesPlain = refl;
-  aliasReached = refl;
-  aliasListed = refl;
-  aliasHidden = refl;
+  not_listed = refl;
+  not_listed_followed = refl;
+  not_followed = refl;
+  reached_aliases = refl;
+  reached_aliases_plain = refl;
+  alias_reached = refl;
+  alias_listed = refl;
+  alias_hidden = refl;
   unresolvable = refl;
   resolvable = refl;
-  inKey = refl;
-  inValue = refl;
-  inResult = refl;
-  inError = refl;
-  inVector = refl;
+  in_key = refl;
+  in_value = refl;
+  in_result = refl;
+  in_error = refl;
+  in_vector = refl;
   deep = refl;
   gone = refl;
   came = refl;
-  reachedImpl = refl;
+  reached_impl = refl;
   moved = refl;
-  movedPlain = refl;
-  reachedListed = reached-listed;
-  onlyListed = only-listed;
+  moved_plain = refl;
+  reached_listed = reached_listed_lem;
+  only_listed = only_listed_lem;
   falling = refl;
   steps = steps;
-  fiveHundred = steps 500 500 (omega arith) (omega arith);
+  five_hundred = steps 500 500 (omega arith) (omega arith);
 }

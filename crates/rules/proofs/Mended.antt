@@ -10,105 +10,105 @@ use Prim.Native.Nat.{◌+◌}
 use native.Mathlib.Omega.{arith}
 use Rattle.maps.specs.Lists.{All}
 use Rattle.image.specs.Schema.{Ty, Schema}
-use Rattle.image.specs.Codes.{number, mixedRefusal, bothSides}
+use Rattle.image.specs.Codes.{number, mixed_refusal, both_sides}
 use Rattle.image.specs.Parse.{Parsed, ok, no}
-use Rattle.image.specs.Image.{readImage}
+use Rattle.image.specs.Image.{read_image}
 use Rattle.std.proofs.lemmas.Bool.{false_from_ne_true}
 use Rattle.maps.proofs.Tests.{no_both}
 use Rattle.maps.proofs.Reorderings.{In}
 use Rattle.rules.specs.Equal.{Sound, never}
-use Rattle.rules.specs.Survivors.{View, viewOf}
-use Rattle.rules.specs.Types.{resolve, sameLabel, sameType, holdsVector}
-use Rattle.rules.specs.Changes.{kindAt, ordinalKinds, WidthChanged}
-use Rattle.rules.specs.Clauses.{clausesBy, changes, comparedTypes}
+use Rattle.rules.specs.Survivors.{View, view_of}
+use Rattle.rules.specs.Types.{resolve, same_label, same_type, holds_vector}
+use Rattle.rules.specs.Changes.{kind_at, ordinal_kinds, WidthChanged}
+use Rattle.rules.specs.Clauses.{clauses_by, changes, compared_types}
 use Rattle.rules.specs.Verdict.{any}
 use Rattle.rules.specs.Outcome.{selected, select}
-use Rattle.rules.specs.Answer.{Fault, fault, plainReading, plain, compared, firstFault, judged, onSide, aliasCheck, comparePair, acceptNew, acceptOld, outcome, verdictBy}
-use Rattle.rules.specs.Distance.{vectorCompared, holdsVectors, DistanceRule}
+use Rattle.rules.specs.Answer.{Fault, fault, plain_reading, plain, compared, first_fault, judged, on_side, alias_check, compare_pair, accept_new, accept_old, outcome, verdict_by}
+use Rattle.rules.specs.Distance.{vector_compared, holds_vectors, DistanceRule}
 use Rattle.rules.specs.Widths.{mixed}
-use Rattle.rules.specs.Mended.{equal, alike, different, equalTrees, likenessBy, likeness, readAs, ThreeAnswers, mendedType, mendedReading, mended, Otherwise}
-use Rattle.rules.proofs.Types.{labels, tree-equal, tree-self, types, holds-resolved}
-use Rattle.rules.proofs.Agreed.{changes-agree}
-use Rattle.rules.proofs.Answer.{count-selected}
-use Rattle.rules.proofs.Standing.{view-rises}
-use Rattle.rules.proofs.MendedRefusals.{mixed-fault, unmixed_checks, mended-numbers, mended-numbered}
-use Rattle.rules.proofs.Bound.{Bounded, survivors-sized}
-use Rattle.rules.proofs.Distance.{even-distance-rule}
+use Rattle.rules.specs.Mended.{equal, alike, different, equal_trees, likeness_by, likeness, read_as, ThreeAnswers, mended_type, mended_reading, mended, Otherwise}
+use Rattle.rules.proofs.Types.{labels, tree_equal, tree_self, types, holds_resolved}
+use Rattle.rules.proofs.Agreed.{changes_agree}
+use Rattle.rules.proofs.Answer.{count_selected}
+use Rattle.rules.proofs.Standing.{view_rises}
+use Rattle.rules.proofs.MendedRefusals.{mixed_fault, unmixed_checks, mended_numbers, mended_numbered}
+use Rattle.rules.proofs.Bound.{Bounded, survivors_sized}
+use Rattle.rules.proofs.Distance.{even_distance_rule}
 use Rattle.rules.proofs.Unreported.{Ordinary}
-use Rattle.rules.proofs.Widths.{widths-lawful, widths-ordinary, widths-light, without-widths}
+use Rattle.rules.proofs.Widths.{widths_lawful, widths_ordinary, widths_light, without_widths}
 
 -- ---- the answers
 
 -- trees that are equal so are the same
-trees-same : (t u : Ty) → equalTrees t u ≡ true → t ≡ u
-unfolding equalTrees
-trees-same t u e = tree-equal sameLabel labels.equal t u e
+trees_same : (t u : Ty) → equal_trees t u ≡ true → t ≡ u
+unfolding equal_trees
+trees_same t u e = tree_equal same_label labels.equal t u e
 
-trees-self : (t : Ty) → equalTrees t t ≡ true
-unfolding equalTrees
-trees-self t = tree-self sameLabel labels.self t
+trees_self : (t : Ty) → equal_trees t t ≡ true
+unfolding equal_trees
+trees_self t = tree_self same_label labels.self t
 
 -- equal by document 01: the trees are equal so, and no tag of 10 to 15 occurs
-split : (t u : Ty) → sameType t u ≡ (equalTrees t u && not (holdsVector t))
-split t u = go (equalTrees t u) (sameType t u) refl refl
+split : (t u : Ty) → same_type t u ≡ (equal_trees t u && not (holds_vector t))
+split t u = go (equal_trees t u) (same_type t u) refl refl
   where
-    go : (a b : Bool) → equalTrees t u ≡ a → sameType t u ≡ b → b ≡ (a && not (holdsVector t))
-    go true b p q = sym q ∙ ap (sameType t) (sym (trees-same t u p)) ∙ types.self t
-    go false true p q = no_both (subst (λ v. equalTrees t v ≡ true) (types.equal t u q) (trees-self t)) p
+    go : (a b : Bool) → equal_trees t u ≡ a → same_type t u ≡ b → b ≡ (a && not (holds_vector t))
+    go true b p q = sym q ∙ ap (same_type t) (sym (trees_same t u p)) ∙ types.self t
+    go false true p q = no_both (subst (λ v. equal_trees t v ≡ true) (types.equal t u q) (trees_self t)) p
     go false false p q = refl
 
 -- by whether the trees are equal so and whether one of the tags occurs
 module _ where
-  third-by : (a h : Bool) → (likenessBy a h ≡ alike) ↔ ((a ≡ true) × (h ≡ true))
-  unfolding likenessBy readAs
-  third-by true true = (λ e. (refl, refl), λ p. refl)
-  third-by true false = (λ e. absurd (false≢true (sym (ap (readAs false) e))), λ p. absurd (false≢true p.1))
-  third-by false h = (λ e. absurd (false≢true (ap (readAs true) e)), λ p. absurd (false≢true p.0))
+  third_by : (a h : Bool) → (likeness_by a h ≡ alike) ↔ ((a ≡ true) × (h ≡ true))
+  unfolding likeness_by read_as
+  third_by true true = (λ e. (refl, refl), λ p. refl)
+  third_by true false = (λ e. absurd (false≢true (sym (ap (read_as false) e))), λ p. absurd (false≢true p.1))
+  third_by false h = (λ e. absurd (false≢true (ap (read_as true) e)), λ p. absurd (false≢true p.0))
 
-  first_by : (a h : Bool) → (likenessBy a h ≡ equal) ↔ ((a && not h) ≡ true)
-  unfolding likenessBy readAs
-  first_by true true = (λ e. absurd (false≢true (ap (readAs false) e)), λ p. absurd (false≢true p))
+  first_by : (a h : Bool) → (likeness_by a h ≡ equal) ↔ ((a && not h) ≡ true)
+  unfolding likeness_by read_as
+  first_by true true = (λ e. absurd (false≢true (ap (read_as false) e)), λ p. absurd (false≢true p))
   first_by true false = (λ e. refl, λ p. refl)
-  first_by false h = (λ e. absurd (false≢true (ap (readAs true) e)), λ p. absurd (false≢true p))
+  first_by false h = (λ e. absurd (false≢true (ap (read_as true) e)), λ p. absurd (false≢true p))
 
-  second-by : (a h : Bool) → (likenessBy a h ≡ different) ↔ (a ≡ false)
-  unfolding likenessBy readAs
-  second-by true true = (λ e. ap (readAs true) e, λ p. absurd (false≢true (sym p)))
-  second-by true false = (λ e. ap (readAs true) e, λ p. absurd (false≢true (sym p)))
-  second-by false h = (λ e. refl, λ p. refl)
+  second_by : (a h : Bool) → (likeness_by a h ≡ different) ↔ (a ≡ false)
+  unfolding likeness_by read_as
+  second_by true true = (λ e. ap (read_as true) e, λ p. absurd (false≢true (sym p)))
+  second_by true false = (λ e. ap (read_as true) e, λ p. absurd (false≢true (sym p)))
+  second_by false h = (λ e. refl, λ p. refl)
 
-  plain_by : (a h : Bool) → (a && not h) ≡ readAs false (likenessBy a h)
-  unfolding likenessBy readAs
+  plain_by : (a h : Bool) → (a && not h) ≡ read_as false (likeness_by a h)
+  unfolding likeness_by read_as
   plain_by true true = refl
   plain_by true false = refl
   plain_by false h = refl
 
-  mended-by : (a h : Bool) → readAs true (likenessBy a h) ≡ a
-  unfolding likenessBy readAs
-  mended-by true true = refl
-  mended-by true false = refl
-  mended-by false h = refl
+  mended_by : (a h : Bool) → read_as true (likeness_by a h) ≡ a
+  unfolding likeness_by read_as
+  mended_by true true = refl
+  mended_by true false = refl
+  mended_by false h = refl
 
-pub three-answers : (t u : Ty) → ThreeAnswers t u
+pub three_answers : (t u : Ty) → ThreeAnswers t u
 unfolding likeness
-three-answers t u = record {
-  third = third-by (equalTrees t u) (holdsVector t);
-  occurs = λ e. ap holdsVector (trees-same t u e);
-  first = rw (split t u) (first_by (equalTrees t u) (holdsVector t));
-  second = second-by (equalTrees t u) (holdsVector t);
-  plainly = split t u ∙ plain_by (equalTrees t u) (holdsVector t);
+three_answers t u = record {
+  third = third_by (equal_trees t u) (holds_vector t);
+  occurs = λ e. ap holds_vector (trees_same t u e);
+  first = rw (split t u) (first_by (equal_trees t u) (holds_vector t));
+  second = second_by (equal_trees t u) (holds_vector t);
+  plainly = split t u ∙ plain_by (equal_trees t u) (holds_vector t);
 }
 
 -- ---- the mended reading: equal if the trees are
 
-mended-trees : (t u : Ty) → mendedType t u ≡ equalTrees t u
-unfolding mendedType likeness
-mended-trees t u = mended-by (equalTrees t u) (holdsVector t)
+mended_trees : (t u : Ty) → mended_type t u ≡ equal_trees t u
+unfolding mended_type likeness
+mended_trees t u = mended_by (equal_trees t u) (holds_vector t)
 
-pub mended-types : Sound mendedType never
-mended-types = record {
-  equal = λ t u e. trees-same t u (sym (mended-trees t u) ∙ e);
-  self = λ t. mended-trees t t ∙ trees-self t;
+pub mended_types : Sound mended_type never
+mended_types = record {
+  equal = λ t u e. trees_same t u (sym (mended_trees t u) ∙ e);
+  self = λ t. mended_trees t t ∙ trees_self t;
 }
 
 -- ---- where there are no vectors on one side, document 01 reads types so too
@@ -117,86 +117,86 @@ both_false : (b : Bool) → (b && b) ≡ false → b ≡ false
 both_false true q = q
 both_false false q = q
 
-either-false : (a : Bool) {b : Bool} → (a || b) ≡ false → (a ≡ false) × (b ≡ false)
-either-false true q = absurd (false≢true (sym q))
-either-false false q = (refl, q)
+either_false : (a : Bool) {b : Bool} → (a || b) ≡ false → (a ≡ false) × (b ≡ false)
+either_false true q = absurd (false≢true (sym q))
+either_false false q = (refl, q)
 
-without : (t u : Ty) → (holdsVector t && holdsVector u) ≡ false → mendedType t u ≡ sameType t u
-without t u e = mended-trees t u ∙ (go (equalTrees t u) refl ∙ sym (split t u))
+without : (t u : Ty) → (holds_vector t && holds_vector u) ≡ false → mended_type t u ≡ same_type t u
+without t u e = mended_trees t u ∙ (go (equal_trees t u) refl ∙ sym (split t u))
   where
-    go : (a : Bool) → equalTrees t u ≡ a → equalTrees t u ≡ (equalTrees t u && not (holdsVector t))
-    go true p = rw (p, both_false (holdsVector t) (subst (λ v. (holdsVector t && holdsVector v) ≡ false) (sym (trees-same t u p)) e))
+    go : (a : Bool) → equal_trees t u ≡ a → equal_trees t u ≡ (equal_trees t u && not (holds_vector t))
+    go true p = rw (p, both_false (holds_vector t) (subst (λ v. (holds_vector t && holds_vector v) ≡ false) (sym (trees_same t u p)) e))
     go false p = rw p
 
 none_in : {A : Type 0} (p : A → Bool) {a : A} {l : List A} → any p l ≡ false → In a l → p a ≡ false
 unfolding any
 none_in {A = A} p {a = a} {l = []} e x5 = elim x5 [ ]
-none_in p {l = b ∷ l} e (Memᴰ.head q) = rw q (either-false (p b) e).0
-none_in p {l = b ∷ l} e (Memᴰ.tail m) = none_in p (either-false (p b) e).1 m
+none_in p {l = b ∷ l} e (Memᴰ.head q) = rw q (either_false (p b) e).0
+none_in p {l = b ∷ l} e (Memᴰ.tail m) = none_in p (either_false (p b) e).1 m
 
-views-agree : (x y : View) → (any holdsVector (comparedTypes x) && any holdsVector (comparedTypes y)) ≡ false
-    → changes (clausesBy mendedType) x y ≡ changes plainReading x y
-views-agree x y e =
-    changes-agree mendedType sameType x y λ t u i j.
+views_agree : (x y : View) → (any holds_vector (compared_types x) && any holds_vector (compared_types y)) ≡ false
+    → changes (clauses_by mended_type) x y ≡ changes plain_reading x y
+views_agree x y e =
+    changes_agree mended_type same_type x y λ t u i j.
     without (resolve x.registry t) (resolve y.registry u)
-    (rw (holds-resolved x.registry t, holds-resolved y.registry u) (go (any holdsVector (comparedTypes x)) refl i j))
+    (rw (holds_resolved x.registry t, holds_resolved y.registry u) (go (any holds_vector (compared_types x)) refl i j))
   where
-    go : (b : Bool) → any holdsVector (comparedTypes x) ≡ b → {t u : Ty} → In t (comparedTypes x) → In u (comparedTypes y)
-        → (holdsVector t && holdsVector u) ≡ false
-    go true p {t} i j = rw (none_in holdsVector (rw p at e) j) (and-false (holdsVector t))
-    go false p i j = rw (none_in holdsVector p i)
+    go : (b : Bool) → any holds_vector (compared_types x) ≡ b → {t u : Ty} → In t (compared_types x) → In u (compared_types y)
+        → (holds_vector t && holds_vector u) ≡ false
+    go true p {t} i j = rw (none_in holds_vector (rw p at e) j) (and-false (holds_vector t))
+    go false p i j = rw (none_in holds_vector p i)
 
 -- and where no width has changed, all that is reported is the same
-changes-otherwise : (x y : View) → (any holdsVector (comparedTypes x) && any holdsVector (comparedTypes y)) ≡ false
-    → select (compared (changes mendedReading x y)) (5 + kindAt WidthChanged) ≡ 0 → changes mendedReading x y ≡ changes plainReading x y
-changes-otherwise x y e w =
-    without-widths mendedType x y (sym (count-selected (kindAt WidthChanged) (omega arith) (changes mendedReading x y)) ∙ w) ∙ views-agree x y e
+changes_otherwise : (x y : View) → (any holds_vector (compared_types x) && any holds_vector (compared_types y)) ≡ false
+    → select (compared (changes mended_reading x y)) (5 + kind_at WidthChanged) ≡ 0 → changes mended_reading x y ≡ changes plain_reading x y
+changes_otherwise x y e w =
+    without_widths mended_type x y (sym (count_selected (kind_at WidthChanged) (omega arith) (changes mended_reading x y)) ∙ w) ∙ views_agree x y e
 
 -- of two images of which 16 is not given
-pair-otherwise : (x y : Schema) → (select (comparePair mended x y) 0 ≡ number mixedRefusal → ⊥)
-    → select (comparePair mended x y) (5 + kindAt WidthChanged) ≡ 0
-    → (any holdsVector (comparedTypes (viewOf x)) && any holdsVector (comparedTypes (viewOf y))) ≡ false → comparePair mended x y ≡ comparePair plain x y
-unfolding comparePair judged select selected
-pair-otherwise x y n w e =
-    let p = false_from_ne_true (mixed x y) (λ m. n (given (mixed-fault x y m))) in
-    rw (unmixed_checks x y p) (go (firstFault (aliasCheck viewOf ∷ []) x y) (unmixed_checks x y p))
+pair_otherwise : (x y : Schema) → (select (compare_pair mended x y) 0 ≡ number mixed_refusal → ⊥)
+    → select (compare_pair mended x y) (5 + kind_at WidthChanged) ≡ 0
+    → (any holds_vector (compared_types (view_of x)) && any holds_vector (compared_types (view_of y))) ≡ false → compare_pair mended x y ≡ compare_pair plain x y
+unfolding compare_pair judged select selected
+pair_otherwise x y n w e =
+    let p = false_from_ne_true (mixed x y) (λ m. n (given (mixed_fault x y m))) in
+    rw (unmixed_checks x y p) (go (first_fault (alias_check view_of ∷ []) x y) (unmixed_checks x y p))
   where
-    given : firstFault mended.pair x y ≡ some (fault 16 (number bothSides)) → select (judged (firstFault mended.pair x y) (compared (changes mendedReading (viewOf x) (viewOf y)))) 0 ≡ 16
+    given : first_fault mended.pair x y ≡ some (fault 16 (number both_sides)) → select (judged (first_fault mended.pair x y) (compared (changes mended_reading (view_of x) (view_of y)))) 0 ≡ 16
     given q = rw q
 
-    go : (o : Option Fault) → firstFault mended.pair x y ≡ o
-        → judged o (compared (changes mendedReading (viewOf x) (viewOf y))) ≡ judged o (compared (changes plainReading (viewOf x) (viewOf y)))
-    go none q = ap compared (changes-otherwise (viewOf x) (viewOf y) e (rw q at w))
+    go : (o : Option Fault) → first_fault mended.pair x y ≡ o
+        → judged o (compared (changes mended_reading (view_of x) (view_of y))) ≡ judged o (compared (changes plain_reading (view_of x) (view_of y)))
+    go none q = ap compared (changes_otherwise (view_of x) (view_of y) e (rw q at w))
     go (some f) q = refl
 
 pub otherwise : Otherwise
-unfolding holdsVectors vectorCompared verdictBy outcome acceptOld acceptNew onSide judged
-otherwise old new = go (readImage old) (readImage new)
+unfolding holds_vectors vector_compared verdict_by outcome accept_old accept_new on_side judged
+otherwise old new = go (read_image old) (read_image new)
   where
-    go : (r q : Parsed Schema) → (select (acceptOld mended r q) 0 ≡ number mixedRefusal → ⊥)
-        → select (acceptOld mended r q) (5 + kindAt WidthChanged) ≡ 0
-        → (vectorCompared viewOf r && vectorCompared viewOf q) ≡ false → acceptOld mended r q ≡ acceptOld plain r q
-    go (ok x m) (ok y n) f w e = pair-otherwise x y f w e
+    go : (r q : Parsed Schema) → (select (accept_old mended r q) 0 ≡ number mixed_refusal → ⊥)
+        → select (accept_old mended r q) (5 + kind_at WidthChanged) ≡ 0
+        → (vector_compared view_of r && vector_compared view_of q) ≡ false → accept_old mended r q ≡ accept_old plain r q
+    go (ok x m) (ok y n) f w e = pair_otherwise x y f w e
     go (ok x m) (no k) f w e = refl
     go (no k) q f w e = refl
 
 -- ---- the mended verdict
 
-pub mended-bounded : Bounded mended
-mended-bounded = record {
-  view = survivors-sized;
-  light = widths-light mendedType;
+pub mended_bounded : Bounded mended
+mended_bounded = record {
+  view = survivors_sized;
+  light = widths_light mended_type;
   alone = λ x k e. absurd (none-ne-some k e);
   pair = λ x y f e.
-      let q = mended-numbers x y f e in
+      let q = mended_numbers x y f e in
       (⊎_elim (λ z. omega (arith, z)) (λ z. omega (arith, z)) q.0, omega (arith, q.1));
 }
 
 -- the three counts that are always 0
-pub mended-ordinary : All (λ j. Ordinary j mendedReading) ordinalKinds
+pub mended_ordinary : All (λ j. Ordinary j mended_reading) ordinal_kinds
 unfolding All
-mended-ordinary = (widths-ordinary mendedType _ refl, (widths-ordinary mendedType _ refl, (widths-ordinary mendedType _ refl, tt)))
+mended_ordinary = (widths_ordinary mended_type _ refl, (widths_ordinary mended_type _ refl, (widths_ordinary mended_type _ refl, tt)))
 
 -- "there every image that gets a verdict against itself is at distance 0 from itself. The chain rule covers the mended verdict as well."
-pub mended-distance-rule : DistanceRule (verdictBy mended) never
-mended-distance-rule = even-distance-rule mended mended-numbered view-rises (widths-lawful mended-types)
+pub mended_distance_rule : DistanceRule (verdict_by mended) never
+mended_distance_rule = even_distance_rule mended mended_numbered view_rises (widths_lawful mended_types)

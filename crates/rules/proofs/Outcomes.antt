@@ -8,7 +8,7 @@ use borrow.Author.Tests.{leb-true, leb-false}
 use lib.Dec.{leb}
 use lib.ListN.{length, take, drop, get_or-eq_default}
 use lib.Seq.{take_at, drop_at}
-use Rattle.rules.specs.Outcome.{Answer, Outcome, refused, answered, selected, select, fit, textLength, written}
+use Rattle.rules.specs.Outcome.{Answer, Outcome, refused, answered, selected, select, fit, text_length, written}
 use Rattle.rules.specs.Refusals.{Refusal}
 
 -- ---- a refusal
@@ -18,16 +18,16 @@ unfolding select selected
 refusal_is number side = record { bump = refl; result = refl; rest = λ n h. get_or-eq_default (number ∷ side ∷ 2 ∷ 1 ∷ []) 0 h }
 
 -- what has another number than 0 is one
-pub not-answered : (o : Outcome) → (select o 0 ≡ 0 → ⊥) → Refusal (select o)
+pub not_answered : (o : Outcome) → (select o 0 ≡ 0 → ⊥) → Refusal (select o)
 unfolding select selected
-not-answered (refused number side) n = refusal_is number side
-not-answered (answered a) n = absurd (n refl)
+not_answered (refused number side) n = refusal_is number side
+not_answered (answered a) n = absurd (n refl)
 
 -- nothing is written of it
-pub nothing-told : (o : Outcome) → (select o 0 ≡ 0 → ⊥) → textLength o ≡ 0
-unfolding select selected textLength
-nothing-told (refused number side) n = refl
-nothing-told (answered a) n = absurd (n refl)
+pub nothing_told : (o : Outcome) → (select o 0 ≡ 0 → ⊥) → text_length o ≡ 0
+unfolding select selected text_length
+nothing_told (refused number side) n = refl
+nothing_told (answered a) n = absurd (n refl)
 
 pub nothing_written : (o : Outcome) → (select o 0 ≡ 0 → ⊥) → (out : List ℕ) → written o out ≡ out
 unfolding select selected written
@@ -36,10 +36,10 @@ nothing_written (answered a) n out = absurd (n refl)
 
 -- ---- in a buffer
 
-pub length-selected : (o : Outcome) → textLength o ≡ select o 4
-unfolding textLength select selected
-length-selected (refused number side) = refl
-length-selected (answered a) = refl
+pub length_selected : (o : Outcome) → text_length o ≡ select o 4
+unfolding text_length select selected
+length_selected (refused number side) = refl
+length_selected (answered a) = refl
 
 -- what an outcome becomes there
 data Fitted (side room : ℕ) : Outcome → Outcome → Type 0 where
@@ -58,10 +58,10 @@ fitted side room (answered a) = go (leb (length a.text) room) refl
 
 module _ (side room : ℕ) (o : Outcome) where
   -- 12, of what is not refused by 12 anyhow
-  pub fit-full : (select o 0 ≡ 12 → ⊥) → select (fit side room o) 0 ≡ 12
+  pub fit_full : (select o 0 ≡ 12 → ⊥) → select (fit side room o) 0 ≡ 12
       → (fit side room o ≡ refused 12 side) × ((select o 0 ≡ 0) × (room < select o 4))
   unfolding select selected
-  fit-full = go (fitted side room o)
+  fit_full = go (fitted side room o)
     where
       go : {u v : Outcome} → Fitted side room u v → (select u 0 ≡ 12 → ⊥) → select v 0 ≡ 12
           → (v ≡ refused 12 side) × ((select u 0 ≡ 0) × (room < select u 4))
@@ -69,9 +69,9 @@ module _ (side room : ℕ) (o : Outcome) where
       go (fits l) n z = absurd (omega arith)
       go (full l) n z = (refl, (refl, l))
 
-  pub fit-filled : (select o 0 ≡ 0) × (room < select o 4) → select (fit side room o) 0 ≡ 12
+  pub fit_filled : (select o 0 ≡ 0) × (room < select o 4) → select (fit side room o) 0 ≡ 12
   unfolding select selected
-  fit-filled = go (fitted side room o)
+  fit_filled = go (fitted side room o)
     where
       go : {u v : Outcome} → Fitted side room u v → (select u 0 ≡ 0) × (room < select u 4) → select v 0 ≡ 12
       go stays z = absurd (omega arith)
@@ -79,18 +79,18 @@ module _ (side room : ℕ) (o : Outcome) where
       go (full l) z = refl
 
   -- otherwise all is as it was
-  pub fit-else : (select (fit side room o) 0 ≡ 12 → ⊥) → fit side room o ≡ o
+  pub fit_else : (select (fit side room o) 0 ≡ 12 → ⊥) → fit side room o ≡ o
   unfolding select selected
-  fit-else = go (fitted side room o)
+  fit_else = go (fitted side room o)
     where
       go : {u v : Outcome} → Fitted side room u v → (select v 0 ≡ 12 → ⊥) → v ≡ u
       go stays n = refl
       go (fits l) n = refl
       go (full l) n = absurd (n refl)
 
-  pub fit-enough : select o 4 ≤ room → fit side room o ≡ o
+  pub fit_enough : select o 4 ≤ room → fit side room o ≡ o
   unfolding select selected
-  fit-enough = go (fitted side room o)
+  fit_enough = go (fitted side room o)
     where
       go : {u v : Outcome} → Fitted side room u v → select u 4 ≤ room → v ≡ u
       go stays h = refl
@@ -98,11 +98,11 @@ module _ (side room : ℕ) (o : Outcome) where
       go (full l) h = absurd (omega arith)
 
   -- an answer that is not empty is none in a buffer either
-  pub fit-some : (select o 0 ≡ 0 → 0 < textLength o) → select (fit side room o) 0 ≡ 0 → 0 < textLength (fit side room o)
+  pub fit_some : (select o 0 ≡ 0 → 0 < text_length o) → select (fit side room o) 0 ≡ 0 → 0 < text_length (fit side room o)
   unfolding select selected
-  fit-some = go (fitted side room o)
+  fit_some = go (fitted side room o)
     where
-      go : {u v : Outcome} → Fitted side room u v → (select u 0 ≡ 0 → 0 < textLength u) → select v 0 ≡ 0 → 0 < textLength v
+      go : {u v : Outcome} → Fitted side room u v → (select u 0 ≡ 0 → 0 < text_length u) → select v 0 ≡ 0 → 0 < text_length v
       go stays h z = h z
       go (fits l) h z = h refl
       go (full l) h z = absurd (omega arith)
@@ -110,16 +110,16 @@ module _ (side room : ℕ) (o : Outcome) where
 -- ---- what is left there
 
 -- the text, empty if refused
-unfoldable pub textOf : Outcome → List ℕ
-textOf (refused number side) = []
-textOf (answered a) = a.text
+unfoldable pub text_of : Outcome → List ℕ
+text_of (refused number side) = []
+text_of (answered a) = a.text
 
-pub text-written : (o : Outcome) (d : List ℕ) → take (textLength o) (written o d) ≡ textOf o
-unfolding textLength written textOf
-text-written (refused number side) d = refl
-text-written (answered a) d = take_at a.text (drop (length a.text) d) (length a.text) refl
+pub text_written : (o : Outcome) (d : List ℕ) → take (text_length o) (written o d) ≡ text_of o
+unfolding text_length written text_of
+text_written (refused number side) d = refl
+text_written (answered a) d = take_at a.text (drop (length a.text) d) (length a.text) refl
 
-pub rest-written : (o : Outcome) (d : List ℕ) → drop (textLength o) (written o d) ≡ drop (textLength o) d
-unfolding textLength written
-rest-written (refused number side) d = refl
-rest-written (answered a) d = drop_at a.text (drop (length a.text) d) (length a.text) refl
+pub rest_written : (o : Outcome) (d : List ℕ) → drop (text_length o) (written o d) ≡ drop (text_length o) d
+unfolding text_length written
+rest_written (refused number side) d = refl
+rest_written (answered a) d = drop_at a.text (drop (length a.text) d) (length a.text) refl

@@ -1,67 +1,67 @@
 -- What is pinned of R-5 and R-6 over byte lists holds, by computation from the definitions alone. Assumes nothing.
 use mathlib.Core.Path.{refl}
-use Rattle.rules.specs.Distance.{Verdict, distance, countBetween, Steps}
-use Rattle.rules.specs.PinnedImports.{importsTold}
-use Rattle.rules.specs.PinnedMended.{mendedTold, PinnedMended}
+use Rattle.rules.specs.Distance.{Verdict, distance, count_between, Steps}
+use Rattle.rules.specs.PinnedImports.{imports_told}
+use Rattle.rules.specs.PinnedMended.{mended_told, PinnedMended}
 use Rattle.rules.proofs.Computed.{reports}
 
-pub pinned-mended : PinnedMended
-unfolding reports importsTold mendedTold Verdict distance countBetween Steps
-pinned-mended = record {
+pub pinned_mended : PinnedMended
+unfolding reports imports_told mended_told Verdict distance count_between Steps
+pinned_mended = record {
   self = refl;
-  selfTold = refl;
-  selfToldPlain = refl;
-  selfDistance = refl;
-  selfDistancePlain = refl;
-  namedDistance = refl;
-  namedDistancePlain = refl;
-  namedDistanceImports = refl;
+  self_told = refl;
+  self_told_plain = refl;
+  self_distance = refl;
+  self_distance_plain = refl;
+  named_distance = refl;
+  named_distance_plain = refl;
+  named_distance_imports = refl;
   renamed = refl;
-  renamedPlain = refl;
+  renamed_plain = refl;
   marked = refl;
   steps = (refl, (refl, tt));
   ends = refl;
-  wholeWay = refl;
-  wholeWayPlain = refl;
+  whole_way = refl;
+  whole_way_plain = refl;
   flat = refl;
-  flatDistance = refl;
-  flatDistancePlain = refl;
+  flat_distance = refl;
+  flat_distance_plain = refl;
   wide = refl;
-  wideDistancePlain = refl;
-  wideBack = refl;
+  wide_distance_plain = refl;
+  wide_back = refl;
   selectors = refl;
-  notFollowed = refl;
-  ninthPlain = refl;
-  ninthImports = refl;
+  not_followed = refl;
+  ninth_plain = refl;
+  ninth_imports = refl;
   ninth = refl;
-  ninthBack = refl;
-  ninthDistance = refl;
-  ninthDistancePlain = refl;
-  ninthSelf = refl;
-  ninthCount = refl;
-  ninthCountBack = refl;
-  ninthCountPlain = refl;
-  ninthSelectors = refl;
+  ninth_back = refl;
+  ninth_distance = refl;
+  ninth_distance_plain = refl;
+  ninth_self = refl;
+  ninth_count = refl;
+  ninth_count_back = refl;
+  ninth_count_plain = refl;
+  ninth_selectors = refl;
   widened = refl;
-  widenedPlain = refl;
+  widened_plain = refl;
   widening = (refl, (refl, tt));
-  widenedLast = refl;
+  widened_last = refl;
   widths = refl;
-  bothMixed = refl;
-  oldMixed = refl;
-  newMixed = refl;
-  mixedPlain = refl;
-  mixedImports = refl;
-  mixedRefused = refl;
-  mixedAliases = refl;
+  both_mixed = refl;
+  old_mixed = refl;
+  new_mixed = refl;
+  mixed_plain = refl;
+  mixed_imports = refl;
+  mixed_refused = refl;
+  mixed_aliases = refl;
   aliases = refl;
-  newRefused = refl;
-  threeBytes = refl;
-  threeBytesPlain = refl;
-  noWidth = refl;
-  noWidthPlain = refl;
+  new_refused = refl;
+  three_bytes = refl;
+  three_bytes_plain = refl;
+  no_width = refl;
+  no_width_plain = refl;
   format = refl;
-  formatImports = refl;
+  format_imports = refl;
   removed = refl;
   added = refl;
 }

@@ -15,86 +15,86 @@ use Rattle.maps.proofs.Lists.{all_map}
 use Rattle.maps.proofs.Tests.{no_both}
 use Rattle.rules.specs.Survivors.{Registry}
 use Rattle.rules.specs.Verdict.{any}
-use Rattle.rules.specs.Reached.{member, resolvable, IdSet, has, mark, markAll, upFrom}
+use Rattle.rules.specs.Reached.{member, resolvable, IdSet, has, mark, mark_all, up_from}
 
 -- ---- members of a list
 
-pub member-cons : (id a : ℕ) (ids : List ℕ) → member id (a ∷ ids) ≡ true → (id ≡ a) ⊎ (member id ids ≡ true)
+pub member_cons : (id a : ℕ) (ids : List ℕ) → member id (a ∷ ids) ≡ true → (id ≡ a) ⊎ (member id ids ≡ true)
 unfolding member any
-member-cons id a ids = go (eqb id a) refl
+member_cons id a ids = go (eqb id a) refl
   where
     go : (b : Bool) → eqb id a ≡ b → (b || any (eqb id) ids) ≡ true → (id ≡ a) ⊎ (any (eqb id) ids ≡ true)
     go true p e = inl (eqb-true id a p)
     go false p e = inr e
 
-pub member-here : (id : ℕ) (ids : List ℕ) → member id (id ∷ ids) ≡ true
+pub member_here : (id : ℕ) (ids : List ℕ) → member id (id ∷ ids) ≡ true
 unfolding member any
-member-here id ids = rw (eq-eqb id id refl)
+member_here id ids = rw (eq-eqb id id refl)
 
-pub member-more : (id a : ℕ) (ids : List ℕ) → member id ids ≡ true → member id (a ∷ ids) ≡ true
+pub member_more : (id a : ℕ) (ids : List ℕ) → member id ids ≡ true → member id (a ∷ ids) ≡ true
 unfolding member any
-member-more id a ids e = rw e (or-true (eqb id a))
+member_more id a ids e = rw e (or-true (eqb id a))
 
-pub member-none : {A : Type 0} (id : ℕ) → member id [] ≡ true → A
+pub member_none : {A : Type 0} (id : ℕ) → member id [] ≡ true → A
 unfolding member any
-member-none id e = no_both e refl
+member_none id e = no_both e refl
 
-pub member-left : (id : ℕ) (xs ys : List ℕ) → member id xs ≡ true → member id (xs ++ ys) ≡ true
-member-left id [] ys e = member-none id e
-member-left id (a ∷ xs) ys e =
-    ⊎_elim (λ p. rw p (member-here a (xs ++ ys))) (λ p. member-more id a (xs ++ ys) (member-left id xs ys p)) (member-cons id a xs e)
+pub member_left : (id : ℕ) (xs ys : List ℕ) → member id xs ≡ true → member id (xs ++ ys) ≡ true
+member_left id [] ys e = member_none id e
+member_left id (a ∷ xs) ys e =
+    ⊎_elim (λ p. rw p (member_here a (xs ++ ys))) (λ p. member_more id a (xs ++ ys) (member_left id xs ys p)) (member_cons id a xs e)
 
 pub member_right : (id : ℕ) (xs ys : List ℕ) → member id ys ≡ true → member id (xs ++ ys) ≡ true
 member_right id [] ys e = e
-member_right id (a ∷ xs) ys e = member-more id a (xs ++ ys) (member_right id xs ys e)
+member_right id (a ∷ xs) ys e = member_more id a (xs ++ ys) (member_right id xs ys e)
 
-pub member-flatMap : {A : Type 0} (f : A → List ℕ) (id : ℕ) (l : List A) → All (λ a. member id (f a) ≡ true → member id (flat_map f l) ≡ true) l
+pub member_flat_map : {A : Type 0} (f : A → List ℕ) (id : ℕ) (l : List A) → All (λ a. member id (f a) ≡ true → member id (flat_map f l) ≡ true) l
 unfolding All flat_map
-member-flatMap f id [] = tt
-member-flatMap f id (a ∷ l) =
-    (λ e. member-left id (f a) (flat_map f l) e, all_map (λ b h e. member_right id (f a) (flat_map f l) (h e)) l (member-flatMap f id l))
+member_flat_map f id [] = tt
+member_flat_map f id (a ∷ l) =
+    (λ e. member_left id (f a) (flat_map f l) e, all_map (λ b h e. member_right id (f a) (flat_map f l) (h e)) l (member_flat_map f id l))
 
-pub member-up : (n from id : ℕ) → from ≤ id → id < from + n → member id (upFrom from n) ≡ true
-unfolding upFrom
-member-up zero from id l h = absurd (omega arith)
-member-up (suc n) from id l h = go (eqb id from) refl (member-up n (suc from) id)
+pub member_up : (n from id : ℕ) → from ≤ id → id < from + n → member id (up_from from n) ≡ true
+unfolding up_from
+member_up zero from id l h = absurd (omega arith)
+member_up (suc n) from id l h = go (eqb id from) refl (member_up n (suc from) id)
   where
-    go : (b : Bool) → eqb id from ≡ b → (suc from ≤ id → id < suc from + n → member id (upFrom (suc from) n) ≡ true)
-        → member id (from ∷ upFrom (suc from) n) ≡ true
-    go true e ih = rw (eqb-true id from e) (member-here from (upFrom (suc from) n))
+    go : (b : Bool) → eqb id from ≡ b → (suc from ≤ id → id < suc from + n → member id (up_from (suc from) n) ≡ true)
+        → member id (from ∷ up_from (suc from) n) ≡ true
+    go true e ih = rw (eqb-true id from e) (member_here from (up_from (suc from) n))
     go false e ih =
         let d : id ≡ from → ⊥ = eqb-false id from e in
-        member-more id from (upFrom (suc from) n) (ih (omega arith) (omega arith))
+        member_more id from (up_from (suc from) n) (ih (omega arith) (omega arith))
 
 -- ---- sets that grow
 
 -- every mark of the first is one of the second
 pub data Below : IdSet → IdSet → Type 0 where
-  below-nil : Below [] []
-  below-cons : {a b : Bool} {m n : IdSet} → (a ≡ true → b ≡ true) → Below m n → Below (a ∷ m) (b ∷ n)
+  below_nil : Below [] []
+  below_cons : {a b : Bool} {m n : IdSet} → (a ≡ true → b ≡ true) → Below m n → Below (a ∷ m) (b ∷ n)
 
-pub below-refl : (m : IdSet) → Below m m
-below-refl [] = below-nil
-below-refl (a ∷ m) = below-cons (λ e. e) (below-refl m)
+pub below_refl : (m : IdSet) → Below m m
+below_refl [] = below_nil
+below_refl (a ∷ m) = below_cons (λ e. e) (below_refl m)
 
-pub below-trans : {l m n : IdSet} → Below l m → Below m n → Below l n
-below-trans below-nil q = q
-below-trans (below-cons h p) (below-cons k q) = below-cons (λ e. k (h e)) (below-trans p q)
+pub below_trans : {l m n : IdSet} → Below l m → Below m n → Below l n
+below_trans below_nil q = q
+below_trans (below_cons h p) (below_cons k q) = below_cons (λ e. k (h e)) (below_trans p q)
 
 below_set : (m : IdSet) (i : ℕ) → Below m (set m i true)
-below_set [] i = below-refl []
-below_set (a ∷ m) zero = below-cons (λ e. refl) (below-refl m)
-below_set (a ∷ m) (suc i) = below-cons (λ e. e) (below_set m i)
+below_set [] i = below_refl []
+below_set (a ∷ m) zero = below_cons (λ e. refl) (below_refl m)
+below_set (a ∷ m) (suc i) = below_cons (λ e. e) (below_set m i)
 
-pub below-has : {m n : IdSet} → Below m n → (id : ℕ) → has m id ≡ true → has n id ≡ true
+pub below_has : {m n : IdSet} → Below m n → (id : ℕ) → has m id ≡ true → has n id ≡ true
 unfolding has
-below-has below-nil id e = e
-below-has (below-cons h p) zero e = h e
-below-has (below-cons h p) (suc id) e = below-has p id e
+below_has below_nil id e = e
+below_has (below_cons h p) zero e = h e
+below_has (below_cons h p) (suc id) e = below_has p id e
 
 pub below_length : {m n : IdSet} → Below m n → length m ≡ length n
-below_length below-nil = refl
-below_length (below-cons h p) = ap suc (below_length p)
+below_length below_nil = refl
+below_length (below_cons h p) = ap suc (below_length p)
 
 -- an id within one set is within a grown one
 pub below_in : {m n : IdSet} → Below m n → {id : ℕ} → id < length m → id < length n
@@ -105,10 +105,10 @@ below_in p l = omega (arith, below_length p)
 abbrev pub size : IdSet → ℕ
 size m = count (λ b. b) m
 
-below-size : {m n : IdSet} → Below m n → size m ≤ size n
+below_size : {m n : IdSet} → Below m n → size m ≤ size n
 unfolding count total
-below-size below-nil = omega arith
-below-size (below-cons {a = a} {b = b} {m = m} {n = n} h p) = go a b h (below-size p)
+below_size below_nil = omega arith
+below_size (below_cons {a = a} {b = b} {m = m} {n = n} h p) = go a b h (below_size p)
   where
     go : (a b : Bool) → (a ≡ true → b ≡ true) → size m ≤ size n → cond a 1 0 + size m ≤ cond b 1 0 + size n
     go true true k q = omega arith
@@ -117,10 +117,10 @@ below-size (below-cons {a = a} {b = b} {m = m} {n = n} h p) = go a b h (below-si
     go false false k q = omega arith
 
 -- a set that grows and has no more ids is the same
-pub below-same : {m n : IdSet} → Below m n → size n ≤ size m → m ≡ n
+pub below_same : {m n : IdSet} → Below m n → size n ≤ size m → m ≡ n
 unfolding count total
-below-same below-nil q = refl
-below-same (below-cons {a = a} {b = b} {m = m} {n = n} h p) q = go a b h (below-size p) (below-same p) q
+below_same below_nil q = refl
+below_same (below_cons {a = a} {b = b} {m = m} {n = n} h p) q = go a b h (below_size p) (below_same p) q
   where
     go : (a b : Bool) → (a ≡ true → b ≡ true) → size m ≤ size n → (size n ≤ size m → m ≡ n) → cond b 1 0 + size n ≤ cond a 1 0 + size m
         → ◌≡◌ {A = IdSet} (a ∷ m) (b ∷ n)
@@ -129,63 +129,63 @@ below-same (below-cons {a = a} {b = b} {m = m} {n = n} h p) q = go a b h (below-
     go false true k l ih r = absurd (omega arith)
     go false false k l ih r = ap (λ (x : IdSet). false ∷ x) (ih (omega arith))
 
-size-most : (m : IdSet) → size m ≤ length m
+size_most : (m : IdSet) → size m ≤ length m
 unfolding count total
-size-most [] = omega arith
-size-most (true ∷ m) = omega (arith, size-most m)
-size-most (false ∷ m) = omega (arith, size-most m)
+size_most [] = omega arith
+size_most (true ∷ m) = omega (arith, size_most m)
+size_most (false ∷ m) = omega (arith, size_most m)
 
 -- a set with as many ids as marks has every one of them
-pub size-full : (m : IdSet) → length m ≤ size m → (id : ℕ) → id < length m → has m id ≡ true
+pub size_full : (m : IdSet) → length m ≤ size m → (id : ℕ) → id < length m → has m id ≡ true
 unfolding count total has
-size-full [] h id l = absurd (omega arith)
-size-full (true ∷ m) h zero l = refl
-size-full (true ∷ m) h (suc id) l = size-full m (omega arith) id (omega arith)
-size-full (false ∷ m) h id l = absurd (omega (arith, size-most m))
+size_full [] h id l = absurd (omega arith)
+size_full (true ∷ m) h zero l = refl
+size_full (true ∷ m) h (suc id) l = size_full m (omega arith) id (omega arith)
+size_full (false ∷ m) h id l = absurd (omega (arith, size_most m))
 
-pub no-marks : (n id : ℕ) → has (replicate n false) id ≡ false
+pub no_marks_lem : (n id : ℕ) → has (replicate n false) id ≡ false
 unfolding has
-no-marks zero id = refl
-no-marks (suc n) zero = refl
-no-marks (suc n) (suc id) = no-marks n id
+no_marks_lem zero id = refl
+no_marks_lem (suc n) zero = refl
+no_marks_lem (suc n) (suc id) = no_marks_lem n id
 
 -- ---- passes whose steps only add
 
 module _ (step : IdSet → ℕ → IdSet) (adds : (m : IdSet) (a : ℕ) → Below m (step m a)) where
   pub pass_below : (m : IdSet) (ids : List ℕ) → Below m (pass step m ids)
   unfolding pass
-  pass_below m [] = below-refl m
-  pass_below m (a ∷ ids) = below-trans (adds m a) (pass_below (step m a) ids)
+  pass_below m [] = below_refl m
+  pass_below m (a ∷ ids) = below_trans (adds m a) (pass_below (step m a) ids)
 
   -- what the step of one member adds, where P holds, is there in the end
-  pub pass-has : (P : IdSet → Type 0) → ((m n : IdSet) → Below m n → P m → P n) → (a id : ℕ) → ((m : IdSet) → P m → has (step m a) id ≡ true)
+  pub pass_has : (P : IdSet → Type 0) → ((m n : IdSet) → Below m n → P m → P n) → (a id : ℕ) → ((m : IdSet) → P m → has (step m a) id ≡ true)
       → (m : IdSet) (ids : List ℕ) → member a ids ≡ true → P m → has (pass step m ids) id ≡ true
   unfolding pass
-  pass-has P keeps a id puts m [] e h = member-none a e
-  pass-has P keeps a id puts m (b ∷ ids) e h =
+  pass_has P keeps a id puts m [] e h = member_none a e
+  pass_has P keeps a id puts m (b ∷ ids) e h =
       ⊎_elim
-      (λ p. below-has (pass_below (step m b) ids) id (subst (λ x. has (step m x) id ≡ true) p (puts m h)))
-      (λ p. pass-has P keeps a id puts (step m b) ids p (keeps m (step m b) (adds m b) h))
-      (member-cons a b ids e)
+      (λ p. below_has (pass_below (step m b) ids) id (subst (λ x. has (step m x) id ≡ true) p (puts m h)))
+      (λ p. pass_has P keeps a id puts (step m b) ids p (keeps m (step m b) (adds m b) h))
+      (member_cons a b ids e)
 
 -- ---- marks
 
 module _ (R : Registry) where
-  mark-below : (m : IdSet) (id : ℕ) → Below m (mark R m id)
+  mark_below : (m : IdSet) (id : ℕ) → Below m (mark R m id)
   unfolding mark
-  mark-below m id = go (resolvable R id)
+  mark_below m id = go (resolvable R id)
     where
       go : (b : Bool) → Below m (cond b (set m id true) m)
       go true = below_set m id
-      go false = below-refl m
+      go false = below_refl m
 
-  mark-has : (id : ℕ) → resolvable R id ≡ true → (m : IdSet) → id < length m → has (mark R m id) id ≡ true
+  mark_has : (id : ℕ) → resolvable R id ≡ true → (m : IdSet) → id < length m → has (mark R m id) id ≡ true
   unfolding mark has
-  mark-has id r m l = rw r (get_or-set_same m id true false l)
+  mark_has id r m l = rw r (get_or-set_same m id true false l)
 
-  mark-only : (m : IdSet) (id j : ℕ) → has (mark R m id) j ≡ true → (has m j ≡ true) ⊎ ((j ≡ id) × (resolvable R id ≡ true))
+  mark_only : (m : IdSet) (id j : ℕ) → has (mark R m id) j ≡ true → (has m j ≡ true) ⊎ ((j ≡ id) × (resolvable R id ≡ true))
   unfolding mark has
-  mark-only m id j = go (resolvable R id) (eqb j id) refl refl
+  mark_only m id j = go (resolvable R id) (eqb j id) refl refl
     where
       go : (b c : Bool) → resolvable R id ≡ b → eqb j id ≡ c → get_or (cond b (set m id true) m) j false ≡ true
           → (get_or m j false ≡ true) ⊎ ((j ≡ id) × (resolvable R id ≡ true))
@@ -193,32 +193,32 @@ module _ (R : Registry) where
       go true false r e h = inl (rw (get_or-set_other m id j true false (eqb-false j id e)) at h)
       go false c r e h = inl h
 
-  pub markAll-below : (m : IdSet) (ids : List ℕ) → Below m (markAll R m ids)
-  unfolding markAll
-  markAll-below = pass_below (mark R) mark-below
+  pub mark_all_below : (m : IdSet) (ids : List ℕ) → Below m (mark_all R m ids)
+  unfolding mark_all
+  mark_all_below = pass_below (mark R) mark_below
 
-  pub markAll-has : (m : IdSet) (ids : List ℕ) (id : ℕ) → member id ids ≡ true → resolvable R id ≡ true → id < length m
-      → has (markAll R m ids) id ≡ true
-  unfolding markAll
-  markAll-has m ids id e r l = pass-has (mark R) mark-below (λ n. id < length n) (λ n k p. below_in p) id id (mark-has id r) m ids e l
+  pub mark_all_has : (m : IdSet) (ids : List ℕ) (id : ℕ) → member id ids ≡ true → resolvable R id ≡ true → id < length m
+      → has (mark_all R m ids) id ≡ true
+  unfolding mark_all
+  mark_all_has m ids id e r l = pass_has (mark R) mark_below (λ n. id < length n) (λ n k p. below_in p) id id (mark_has id r) m ids e l
 
   -- ids that are in the set
-  pub markAll-kept : (m : IdSet) (ids : List ℕ) → ((id : ℕ) → member id ids ≡ true → resolvable R id ≡ true → has m id ≡ true) → markAll R m ids ≡ m
-  unfolding markAll pass mark has
-  markAll-kept m [] h = refl
-  markAll-kept m (a ∷ ids) h =
-      ap (λ x. pass (mark R) x ids) (go (resolvable R a) refl) ∙ markAll-kept m ids (λ id e. h id (member-more id a ids e))
+  pub mark_all_kept : (m : IdSet) (ids : List ℕ) → ((id : ℕ) → member id ids ≡ true → resolvable R id ≡ true → has m id ≡ true) → mark_all R m ids ≡ m
+  unfolding mark_all pass mark has
+  mark_all_kept m [] h = refl
+  mark_all_kept m (a ∷ ids) h =
+      ap (λ x. pass (mark R) x ids) (go (resolvable R a) refl) ∙ mark_all_kept m ids (λ id e. h id (member_more id a ids e))
     where
       go : (b : Bool) → resolvable R a ≡ b → cond b (set m a true) m ≡ m
-      go true r = ap (set m a) (sym (h a (member-here a ids) r)) ∙ set-get_or m a false
+      go true r = ap (set m a) (sym (h a (member_here a ids) r)) ∙ set-get_or m a false
       go false r = refl
 
-  pub markAll-only : (m : IdSet) (ids : List ℕ) (j : ℕ) → has (markAll R m ids) j ≡ true
+  pub mark_all_only : (m : IdSet) (ids : List ℕ) (j : ℕ) → has (mark_all R m ids) j ≡ true
       → (has m j ≡ true) ⊎ ((member j ids ≡ true) × (resolvable R j ≡ true))
-  unfolding markAll pass
-  markAll-only m [] j h = inl h
-  markAll-only m (a ∷ ids) j h =
+  unfolding mark_all pass
+  mark_all_only m [] j h = inl h
+  mark_all_only m (a ∷ ids) j h =
       ⊎_elim
-      (λ p. ⊎_elim (λ q. inl q) (λ q. inr (rw q.0 (member-here a ids), rw q.0 q.1)) (mark-only m a j p))
-      (λ p. inr (member-more j a ids p.0, p.1))
-      (markAll-only (mark R m a) ids j h)
+      (λ p. ⊎_elim (λ q. inl q) (λ q. inr (rw q.0 (member_here a ids), rw q.0 q.1)) (mark_only m a j p))
+      (λ p. inr (member_more j a ids p.0, p.1))
+      (mark_all_only (mark R m a) ids j h)

@@ -7,28 +7,28 @@ use Prim.Native.Nat.{ℕ}
 use native.Mathlib.Omega.{arith}
 use lib.Dec.{eqb}
 use Rattle.maps.specs.Lists.{largest, total, count}
-use Rattle.maps.proofs.Levels.{Chained, chained-small}
+use Rattle.maps.proofs.Levels.{Chained, chained_small}
 use Rattle.image.specs.Schema.{Name, Ty, Variant, Decl}
 use Rattle.rules.specs.Equal.{Sound}
-use Rattle.rules.specs.Changes.{level, Change, kindAt, FieldDeprecated}
-use Rattle.rules.specs.Clauses.{Reading, clausesBy}
-use Rattle.rules.specs.Verdict.{countOf}
+use Rattle.rules.specs.Changes.{level, Change, kind_at, FieldDeprecated}
+use Rattle.rules.specs.Clauses.{Reading, clauses_by}
+use Rattle.rules.specs.Verdict.{count_of}
 use Rattle.rules.proofs.Mirror.{mirror}
 
 -- the level of a change
-abbrev pub levelOf : Change → ℕ
-levelOf c = level c.bump
+abbrev pub level_of : Change → ℕ
+level_of c = level c.bump
 
 -- ---- for the distance rule
 
 -- what f reports of two things that go together, under a name
 pub record Besides {E : Type 0} (Go : E → E → Type 0) (f : Name → E → E → List Change) : Type 0 where
   -- from the first of three to the third no more than to and from the second
-  pub chained : (b : ℕ) (c d e : Name) (x y z : E) → Go x y → Go y z → Chained levelOf b (f c x y) (f d y z) (f e x z)
+  pub chained : (b : ℕ) (c d e : Name) (x y z : E) → Go x y → Go y z → Chained level_of b (f c x y) (f d y z) (f e x z)
   -- of a thing and itself nothing that counts
-  pub self : (d : Name) (x : E) → largest levelOf (f d x x) ≡ 0
+  pub self : (d : Name) (x : E) → largest level_of (f d x x) ≡ 0
   -- both ways the same but for deprecations
-  pub swap : (j : ℕ) → eqb (kindAt FieldDeprecated) j ≡ false → (d e : Name) (x y : E) → Go x y → countOf j (f d x y) ≡ countOf (mirror j) (f e y x)
+  pub swap : (j : ℕ) → eqb (kind_at FieldDeprecated) j ≡ false → (d e : Name) (x y : E) → Go x y → count_of j (f d x y) ≡ count_of (mirror j) (f e y x)
 
 abbrev pub OneKind : Decl → Decl → Type 0
 OneKind x y = x.kind ≡ y.kind
@@ -40,11 +40,11 @@ pub record Lawful (r : Reading) (odd : Ty → Bool) : Type 0 where
   pub types : Sound r.same odd
   pub first : Besides OneKind (λ d. r.first)
   pub last : Besides OneKind (λ d. r.last)
-  pub lastIn : Besides AnyTwo r.lastIn
+  pub last_in : Besides AnyTwo r.last_in
 
-pub nothing-besides : {E : Type 0} {Go : E → E → Type 0} → Besides Go (λ d x y. [])
-unfolding largest countOf count total
-nothing-besides = record { chained = λ b c d e x y z p q. chained-small (omega arith); self = λ d x. refl; swap = λ j o d e x y p. refl }
+pub nothing_besides : {E : Type 0} {Go : E → E → Type 0} → Besides Go (λ d x y. [])
+unfolding largest count_of count total
+nothing_besides = record { chained = λ b c d e x y z p q. chained_small (omega arith); self = λ d x. refl; swap = λ j o d e x y p. refl }
 
-pub clauses-lawful : {same : Ty → Ty → Bool} {odd : Ty → Bool} → Sound same odd → Lawful (clausesBy same) odd
-clauses-lawful sound = record { types = sound; first = nothing-besides; last = nothing-besides; lastIn = nothing-besides }
+pub clauses_lawful : {same : Ty → Ty → Bool} {odd : Ty → Bool} → Sound same odd → Lawful (clauses_by same) odd
+clauses_lawful sound = record { types = sound; first = nothing_besides; last = nothing_besides; last_in = nothing_besides }

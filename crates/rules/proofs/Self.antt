@@ -11,29 +11,29 @@ use Rattle.maps.specs.Lists.{largest}
 use Rattle.maps.specs.Compare.{Rules, compare}
 use Rattle.maps.specs.Orders.{before}
 use Rattle.maps.specs.Walk.{Rising}
-use Rattle.maps.proofs.Lists.{all, largest-append}
-use Rattle.maps.proofs.Orders.{byNumber}
-use Rattle.maps.proofs.Names.{byName}
+use Rattle.maps.proofs.Lists.{all, largest_append}
+use Rattle.maps.proofs.Orders.{by_number}
+use Rattle.maps.proofs.Names.{by_name}
 use Rattle.maps.proofs.Survivors.{rising}
-use Rattle.maps.proofs.Levels.{self-flatMap, self-none}
+use Rattle.maps.proofs.Levels.{self_flat_map, self_none}
 use Rattle.image.specs.Schema.{Name, Marks, Ty, Field, Variant, Decl}
-use Rattle.image.specs.Kinds.{Kind, kindOf, message, enum, flags, union, newtype, config, alias, trait, impl, other}
+use Rattle.image.specs.Kinds.{Kind, kind_of, message, enum, flags, union, newtype, config, alias, trait, impl, other}
 use Rattle.rules.specs.Equal.{Sound}
-use Rattle.rules.specs.Survivors.{Registry, nameOf, ordinalOf, fieldMap, variantOrdinal, variantMap, View}
+use Rattle.rules.specs.Survivors.{Registry, name_of, ordinal_of, field_map, variant_ordinal, variant_map, View}
 use Rattle.rules.specs.Types.{resolve}
 use Rattle.rules.specs.Changes.{level, Change, only}
-use Rattle.rules.specs.Clauses.{compareNamespaces, Reading, Context, context, compareTypes, fieldText, compareFieldNames, compareEncodings, compareDeprecated, compareFields, fieldRules, compareFieldSets, compareMessages, enumRules, compareNonExhaustive, compareEnums, flagsRules, compareFlags, unionRules, compareUnions, compareNewtypes, compareKind, compareAlike, compareDecls, declRules, changes, fieldTypes, variantTypes, typesOf, comparedTypes}
+use Rattle.rules.specs.Clauses.{compare_namespaces, Reading, Context, context, compare_types, field_text, compare_field_names, compare_encodings, compare_deprecated, compare_fields, field_rules, compare_field_sets, compare_messages, enum_rules, compare_non_exhaustive, compare_enums, flags_rules, compare_flags, union_rules, compare_unions, compare_newtypes, compare_kind, compare_alike, compare_decls, decl_rules, changes, field_types, variant_types, types_of, compared_types}
 use Rattle.rules.specs.Verdict.{any}
-use Rattle.rules.proofs.Equal.{pairs, numbers, marks, options, names, nameLists}
+use Rattle.rules.proofs.Equal.{pairs, numbers, marks, options, names, name_lists}
 use Rattle.rules.proofs.Types.{encodings}
-use Rattle.rules.proofs.Readings.{levelOf, Lawful}
+use Rattle.rules.proofs.Readings.{level_of, Lawful}
 
 -- a part that reports nothing worth counting, before or after another
-nothing_then : {n : ℕ} (xs ys : List Change) → largest levelOf xs ≡ 0 → largest levelOf ys ≡ n → largest levelOf (xs ++ ys) ≡ n
-nothing_then xs ys p q = omega (arith, largest-append levelOf xs ys)
+nothing_then : {n : ℕ} (xs ys : List Change) → largest level_of xs ≡ 0 → largest level_of ys ≡ n → largest level_of (xs ++ ys) ≡ n
+nothing_then xs ys p q = omega (arith, largest_append level_of xs ys)
 
-then-nothing : {n : ℕ} (xs ys : List Change) → largest levelOf xs ≡ n → largest levelOf ys ≡ 0 → largest levelOf (xs ++ ys) ≡ n
-then-nothing xs ys p q = omega (arith, largest-append levelOf xs ys)
+then_nothing : {n : ℕ} (xs ys : List Change) → largest level_of xs ≡ n → largest level_of ys ≡ 0 → largest level_of (xs ++ ys) ≡ n
+then_nothing xs ys p q = omega (arith, largest_append level_of xs ys)
 
 -- the largest of one
 alone : (n : ℕ) → n ≡ max n 0
@@ -41,59 +41,59 @@ alone n = omega arith
 
 -- ---- a test of a thing against itself
 
-pub test-self : {A : Type 0} {same : A → A → Bool} {odd : A → Bool} → Sound same odd → (a : A) (c : Change)
-    → largest levelOf (only (not (same a a)) c) ≡ cond (odd a) (levelOf c) 0
+pub test_self : {A : Type 0} {same : A → A → Bool} {odd : A → Bool} → Sound same odd → (a : A) (c : Change)
+    → largest level_of (only (not (same a a)) c) ≡ cond (odd a) (level_of c) 0
 unfolding only largest
-test-self {odd = odd} S a c = rw (S.self a) (go (odd a))
+test_self {odd = odd} S a c = rw (S.self a) (go (odd a))
   where
-    go : (u : Bool) → largest levelOf (only (not (not u)) c) ≡ cond u (levelOf c) 0
+    go : (u : Bool) → largest level_of (only (not (not u)) c) ≡ cond u (level_of c) 0
     go true = omega arith
     go false = refl
 
 -- ---- clauses that read no types
 
-namespaces-self : (n : List Name) → largest levelOf (compareNamespaces n n) ≡ 0
-unfolding compareNamespaces
-namespaces-self n = test-self nameLists n _
+namespaces_self : (n : List Name) → largest level_of (compare_namespaces n n) ≡ 0
+unfolding compare_namespaces
+namespaces_self n = test_self name_lists n _
 
-names-self : (d : Name) (f : Field) → largest levelOf (compareFieldNames d f f) ≡ 0
-unfolding compareFieldNames
-names-self d f = test-self names f.name _
+names_self : (d : Name) (f : Field) → largest level_of (compare_field_names d f f) ≡ 0
+unfolding compare_field_names
+names_self d f = test_self names f.name _
 
-encodings-self : (d : Name) (f : Field) → largest levelOf (compareEncodings d f f) ≡ 0
-unfolding compareEncodings
-encodings-self d f = test-self (pairs encodings (options numbers)) (f.encoding, f.limit) _
+encodings_self : (d : Name) (f : Field) → largest level_of (compare_encodings d f f) ≡ 0
+unfolding compare_encodings
+encodings_self d f = test_self (pairs encodings (options numbers)) (f.encoding, f.limit) _
 
-deprecated-self : (d : Name) (field : Option Name) (target : List ℕ) (m : Marks)
-    → largest levelOf (compareDeprecated d field target m m) ≡ 0
-unfolding compareDeprecated only largest
-deprecated-self d field target m = go m.deprecated _
+deprecated_self : (d : Name) (field : Option Name) (target : List ℕ) (m : Marks)
+    → largest level_of (compare_deprecated d field target m m) ≡ 0
+unfolding compare_deprecated only largest
+deprecated_self d field target m = go m.deprecated _
   where
-    go : (u : Bool) (c : Change) → largest levelOf (only (not u && u) c) ≡ 0
+    go : (u : Bool) (c : Change) → largest level_of (only (not u && u) c) ≡ 0
     go true c = refl
     go false c = refl
 
-openness-self : (d : Name) (m : Marks) → largest levelOf (compareNonExhaustive d m m) ≡ 0
-unfolding compareNonExhaustive
-openness-self d m = test-self marks m.nonExhaustive _
+openness_self : (d : Name) (m : Marks) → largest level_of (compare_non_exhaustive d m m) ≡ 0
+unfolding compare_non_exhaustive
+openness_self d m = test_self marks m.non_exhaustive _
 
 -- rules that keep nothing of an entry
-variants-self : (r : Rules Variant Change) → ((v w : Variant) → r.kept v w ≡ []) → (vs : List Variant)
-    → largest levelOf (compare variantOrdinal ltb r (variantMap vs) (variantMap vs)) ≡ 0
-unfolding variantMap largest
-variants-self r h vs =
-    self-none variantOrdinal byNumber (variantMap vs) (rising variantOrdinal byNumber vs) r levelOf
-    (all (λ v. ap (largest levelOf) (h v v)) (variantMap vs))
+variants_self : (r : Rules Variant Change) → ((v w : Variant) → r.kept v w ≡ []) → (vs : List Variant)
+    → largest level_of (compare variant_ordinal ltb r (variant_map vs) (variant_map vs)) ≡ 0
+unfolding variant_map largest
+variants_self r h vs =
+    self_none variant_ordinal by_number (variant_map vs) (rising variant_ordinal by_number vs) r level_of
+    (all (λ v. ap (largest level_of) (h v v)) (variant_map vs))
 
-enums-self : (d : Name) (x : Decl) → largest levelOf (compareEnums d x x) ≡ 0
-unfolding compareEnums enumRules
-enums-self d x =
-    nothing_then (compareNonExhaustive d x.marks x.marks) _ (openness-self d x.marks)
-    (variants-self (enumRules d x.marks) (λ v w. refl) x.variants)
+enums_self : (d : Name) (x : Decl) → largest level_of (compare_enums d x x) ≡ 0
+unfolding compare_enums enum_rules
+enums_self d x =
+    nothing_then (compare_non_exhaustive d x.marks x.marks) _ (openness_self d x.marks)
+    (variants_self (enum_rules d x.marks) (λ v w. refl) x.variants)
 
-flags-self : (d : Name) (x : Decl) → largest levelOf (compareFlags d x x) ≡ 0
-unfolding compareFlags flagsRules
-flags-self d x = variants-self (flagsRules d) (λ v w. refl) x.variants
+flags_self : (d : Name) (x : Decl) → largest level_of (compare_flags d x x) ≡ 0
+unfolding compare_flags flags_rules
+flags_self d x = variants_self (flags_rules d) (λ v w. refl) x.variants
 
 -- ---- the clauses, over any lawful reading
 
@@ -105,68 +105,68 @@ module _ {r : Reading} {odd : Ty → Bool} (lawful : Lawful r odd) (R : Registry
   score : Ty → ℕ
   score t = cond (odd (resolve R t)) 2 0
 
-  types-self : (d : Name) (field : Option Name) (what : List ℕ) (t : Ty)
-      → largest levelOf (compareTypes own d field what t t) ≡ largest score (t ∷ [])
-  unfolding compareTypes score largest level
-  types-self d field what t = test-self lawful.types (resolve R t) _ ∙ alone (score t)
+  types_self : (d : Name) (field : Option Name) (what : List ℕ) (t : Ty)
+      → largest level_of (compare_types own d field what t t) ≡ largest score (t ∷ [])
+  unfolding compare_types score largest level
+  types_self d field what t = test_self lawful.types (resolve R t) _ ∙ alone (score t)
 
-  fields-self : (d : Name) (f : Field) → largest levelOf (compareFields own d f f) ≡ largest score (f.type ∷ [])
-  unfolding compareFields
-  fields-self d f =
-      nothing_then (compareFieldNames d f f) _ (names-self d f)
-      (then-nothing (compareTypes own d (some f.name) (fieldText f) f.type f.type) _
-      (types-self d (some f.name) (fieldText f) f.type)
-      (nothing_then (compareEncodings d f f) _ (encodings-self d f) (deprecated-self d _ _ f.marks)))
+  fields_self : (d : Name) (f : Field) → largest level_of (compare_fields own d f f) ≡ largest score (f.type ∷ [])
+  unfolding compare_fields
+  fields_self d f =
+      nothing_then (compare_field_names d f f) _ (names_self d f)
+      (then_nothing (compare_types own d (some f.name) (field_text f) f.type f.type) _
+      (types_self d (some f.name) (field_text f) f.type)
+      (nothing_then (compare_encodings d f f) _ (encodings_self d f) (deprecated_self d _ _ f.marks)))
 
-  sets-self : (d : Name) (fs : List Field) → largest levelOf (compareFieldSets own d fs fs) ≡ largest score (fieldTypes fs)
-  unfolding compareFieldSets fieldRules fieldTypes fieldMap
-  sets-self d fs =
-      self-flatMap ordinalOf byNumber (fieldMap fs) (rising ordinalOf byNumber fs) (fieldRules own d) levelOf score (λ f. f.type ∷ [])
-      (all (fields-self d) (fieldMap fs))
+  sets_self : (d : Name) (fs : List Field) → largest level_of (compare_field_sets own d fs fs) ≡ largest score (field_types fs)
+  unfolding compare_field_sets field_rules field_types field_map
+  sets_self d fs =
+      self_flat_map ordinal_of by_number (field_map fs) (rising ordinal_of by_number fs) (field_rules own d) level_of score (λ f. f.type ∷ [])
+      (all (fields_self d) (field_map fs))
 
   module _ (x : Decl) where
-    messages-self : largest levelOf (compareMessages own x.name x x) ≡ largest score (fieldTypes x.fields)
-    unfolding compareMessages
-    messages-self =
-        then-nothing (compareFieldSets own x.name x.fields x.fields) _ (sets-self x.name x.fields)
-        (deprecated-self x.name _ _ x.marks)
+    messages_self : largest level_of (compare_messages own x.name x x) ≡ largest score (field_types x.fields)
+    unfolding compare_messages
+    messages_self =
+        then_nothing (compare_field_sets own x.name x.fields x.fields) _ (sets_self x.name x.fields)
+        (deprecated_self x.name _ _ x.marks)
 
-    unions-self : largest levelOf (compareUnions own x.name x x) ≡ largest score (variantTypes x.variants)
-    unfolding compareUnions unionRules variantTypes variantMap
-    unions-self =
-        self-flatMap variantOrdinal byNumber (variantMap x.variants) (rising variantOrdinal byNumber x.variants)
-        (unionRules own x.name) levelOf score
-        (λ v. fieldTypes v.fields)
-        (all (λ v. then-nothing (compareFieldSets own _ v.fields v.fields) _ (sets-self _ v.fields) (lawful.lastIn.self _ v))
-        (variantMap x.variants))
+    unions_self : largest level_of (compare_unions own x.name x x) ≡ largest score (variant_types x.variants)
+    unfolding compare_unions union_rules variant_types variant_map
+    unions_self =
+        self_flat_map variant_ordinal by_number (variant_map x.variants) (rising variant_ordinal by_number x.variants)
+        (union_rules own x.name) level_of score
+        (λ v. field_types v.fields)
+        (all (λ v. then_nothing (compare_field_sets own _ v.fields v.fields) _ (sets_self _ v.fields) (lawful.last_in.self _ v))
+        (variant_map x.variants))
 
-    kinds-self : (k : Kind) → largest levelOf (compareKind k own x x) ≡ largest score (typesOf k x)
-    unfolding compareKind typesOf compareNewtypes largest
-    kinds-self message = messages-self
-    kinds-self enum = enums-self x.name x
-    kinds-self flags = flags-self x.name x
-    kinds-self union = unions-self
-    kinds-self newtype = types-self x.name none _ x.inner
-    kinds-self config = refl
-    kinds-self alias = refl
-    kinds-self trait = refl
-    kinds-self impl = refl
-    kinds-self other = refl
+    kinds_self : (k : Kind) → largest level_of (compare_kind k own x x) ≡ largest score (types_of k x)
+    unfolding compare_kind types_of compare_newtypes largest
+    kinds_self message = messages_self
+    kinds_self enum = enums_self x.name x
+    kinds_self flags = flags_self x.name x
+    kinds_self union = unions_self
+    kinds_self newtype = types_self x.name none _ x.inner
+    kinds_self config = refl
+    kinds_self alias = refl
+    kinds_self trait = refl
+    kinds_self impl = refl
+    kinds_self other = refl
 
-    decls-self : largest levelOf (compareDecls own x x) ≡ largest score (typesOf (kindOf x.kind) x)
-    unfolding compareDecls compareAlike
-    decls-self =
+    decls_self : largest level_of (compare_decls own x x) ≡ largest score (types_of (kind_of x.kind) x)
+    unfolding compare_decls compare_alike
+    decls_self =
         rw (numbers.self x.kind)
         (nothing_then (r.first x x) _ (lawful.first.self x.name x)
-        (then-nothing (compareKind (kindOf x.kind) own x x) _ (kinds-self (kindOf x.kind)) (lawful.last.self x.name x)))
+        (then_nothing (compare_kind (kind_of x.kind) own x x) _ (kinds_self (kind_of x.kind)) (lawful.last.self x.name x)))
 
 -- ---- all clauses
 
 -- the largest of 2 for those that pass a test
-largest-any : {A : Type 0} (p : A → Bool) (l : List A) → largest (λ a. cond (p a) 2 0) l ≡ cond (any p l) 2 0
+largest_any : {A : Type 0} (p : A → Bool) (l : List A) → largest (λ a. cond (p a) 2 0) l ≡ cond (any p l) 2 0
 unfolding largest any
-largest-any p [] = refl
-largest-any p (a ∷ l) = go (p a) (any p l) (largest-any p l)
+largest_any p [] = refl
+largest_any p (a ∷ l) = go (p a) (any p l) (largest_any p l)
   where
     go : (u v : Bool) → largest (λ a. cond (p a) 2 0) l ≡ cond v 2 0
         → max (cond u 2 0) (largest (λ a. cond (p a) 2 0) l) ≡ cond (u || v) 2 0
@@ -174,11 +174,11 @@ largest-any p (a ∷ l) = go (p a) (any p l) (largest-any p l)
     go true false ih = omega arith
     go false v ih = omega (arith, ih)
 
-pub changes-self : {r : Reading} {odd : Ty → Bool} → Lawful r odd → (v : View) → Rising nameOf before v.standing
-    → largest levelOf (changes r v v) ≡ cond (any (λ t. odd (resolve v.registry t)) (comparedTypes v)) 2 0
-unfolding changes declRules comparedTypes score
-changes-self {r = r} {odd = odd} lawful v p =
-    nothing_then (compareNamespaces v.namespace v.namespace) _ (namespaces-self v.namespace)
-    (self-flatMap nameOf byName v.standing p (declRules (context r v.registry v.registry)) levelOf (score lawful v.registry)
-    (λ d. typesOf (kindOf d.kind) d) (all (decls-self lawful v.registry) v.standing)
-    ∙ largest-any (λ t. odd (resolve v.registry t)) (comparedTypes v))
+pub changes_self : {r : Reading} {odd : Ty → Bool} → Lawful r odd → (v : View) → Rising name_of before v.standing
+    → largest level_of (changes r v v) ≡ cond (any (λ t. odd (resolve v.registry t)) (compared_types v)) 2 0
+unfolding changes decl_rules compared_types score
+changes_self {r = r} {odd = odd} lawful v p =
+    nothing_then (compare_namespaces v.namespace v.namespace) _ (namespaces_self v.namespace)
+    (self_flat_map name_of by_name v.standing p (decl_rules (context r v.registry v.registry)) level_of (score lawful v.registry)
+    (λ d. types_of (kind_of d.kind) d) (all (decls_self lawful v.registry) v.standing)
+    ∙ largest_any (λ t. odd (resolve v.registry t)) (compared_types v))

@@ -5,19 +5,19 @@ use lib.ListN.{length}
 use Rattle.maps.specs.Lists.{total}
 use Rattle.image.specs.Schema.{Name, Ty, leaf, one, two, Field, Variant, Decl}
 
-unfoldable pub namesSize : List Name → ℕ
-namesSize ns = total (λ n. 1 + length n) ns
+unfoldable pub names_size : List Name → ℕ
+names_size ns = total (λ n. 1 + length n) ns
 
-unfoldable pub typeSize : Ty → ℕ
-typeSize (leaf l) = 1 + namesSize l.names
-typeSize (one l t) = 1 + namesSize l.names + typeSize t
-typeSize (two l t u) = 1 + namesSize l.names + (typeSize t + typeSize u)
+unfoldable pub type_size : Ty → ℕ
+type_size (leaf l) = 1 + names_size l.names
+type_size (one l t) = 1 + names_size l.names + type_size t
+type_size (two l t u) = 1 + names_size l.names + (type_size t + type_size u)
 
-unfoldable pub fieldSize : Field → ℕ
-fieldSize f = length f.name + (f.encoding.deltas + typeSize f.type)
+unfoldable pub field_size : Field → ℕ
+field_size f = length f.name + (f.encoding.deltas + type_size f.type)
 
-unfoldable pub variantSize : Variant → ℕ
-variantSize v = 1 + (length v.name + total fieldSize v.fields)
+unfoldable pub variant_size : Variant → ℕ
+variant_size v = 1 + (length v.name + total field_size v.fields)
 
-unfoldable pub declSize : Decl → ℕ
-declSize d = length d.name + (total fieldSize d.fields + (total variantSize d.variants + typeSize d.inner))
+unfoldable pub decl_size : Decl → ℕ
+decl_size d = length d.name + (total field_size d.fields + (total variant_size d.variants + type_size d.inner))

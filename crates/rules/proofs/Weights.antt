@@ -13,112 +13,112 @@ use Rattle.maps.specs.Lists.{total, All}
 use Rattle.maps.specs.Orders.{before}
 use Rattle.maps.specs.Compare.{Rules, compare}
 use Rattle.maps.specs.Walk.{Rising}
-use Rattle.maps.proofs.Lists.{all_map, total-append}
-use Rattle.maps.proofs.Orders.{byNumber}
-use Rattle.maps.proofs.Names.{byName}
-use Rattle.maps.proofs.Survivors.{rising, all-survivors}
-use Rattle.maps.proofs.Sums.{compare-weight}
+use Rattle.maps.proofs.Lists.{all_map, total_append}
+use Rattle.maps.proofs.Orders.{by_number}
+use Rattle.maps.proofs.Names.{by_name}
+use Rattle.maps.proofs.Survivors.{rising, all_survivors}
+use Rattle.maps.proofs.Sums.{compare_weight}
 use Rattle.image.specs.Schema.{Name, Marks, Ty, Field, Variant, Decl}
 use Rattle.image.specs.Words.{bytes}
-use Rattle.image.specs.Kinds.{Kind, kindOf, message, enum, flags, union, newtype, config, alias, trait, impl, other}
-use Rattle.rules.specs.Survivors.{nameOf, ordinalOf, fieldMap, variantOrdinal, variantMap, View}
+use Rattle.image.specs.Kinds.{Kind, kind_of, message, enum, flags, union, newtype, config, alias, trait, impl, other}
+use Rattle.rules.specs.Survivors.{name_of, ordinal_of, field_map, variant_ordinal, variant_map, View}
 use Rattle.rules.specs.Text.{joined}
 use Rattle.rules.specs.Changes.{Bump, Change, change, quoted, numbered}
-use Rattle.rules.specs.Clauses.{showNamespace, compareNamespaces, Reading, clausesBy, Context, context, compareTypes, fieldText, compareFieldNames, compareEncodings, compareDeprecated, compareFields, fieldRules, compareFieldSets, compareMessages, variantText, variantGone, variantCame, enumRules, compareNonExhaustive, compareEnums, bitText, flagsRules, compareFlags, variantDecl, unionRules, compareUnions, compareNewtypes, compareKind, kindChanged, compareAlike, compareDecls, declText, declRules, changes}
-use Rattle.rules.proofs.Sizes.{namesSize, typeSize, fieldSize, variantSize, declSize}
-use Rattle.text.proofs.Numbers.{decimal-length}
-use Rattle.rules.proofs.Scales.{fine-weight, heavy, total-heavy, twice, total_twice, total-each, survivors-heavy, type-one, lineLength, single-weight, only-weight}
-use Rattle.rules.proofs.Texts.{kind-length, bool-length, joined_length, encoding-length, Short, type-length, quoted-length, numbered-length, fromTo-length, optionLength}
+use Rattle.rules.specs.Clauses.{show_namespace, compare_namespaces, Reading, clauses_by, Context, context, compare_types, field_text, compare_field_names, compare_encodings, compare_deprecated, compare_fields, field_rules, compare_field_sets, compare_messages, variant_text, variant_gone, variant_came, enum_rules, compare_non_exhaustive, compare_enums, bit_text, flags_rules, compare_flags, variant_decl, union_rules, compare_unions, compare_newtypes, compare_kind, kind_changed, compare_alike, compare_decls, decl_text, decl_rules, changes}
+use Rattle.rules.proofs.Sizes.{names_size, type_size, field_size, variant_size, decl_size}
+use Rattle.text.proofs.Numbers.{decimal_length}
+use Rattle.rules.proofs.Scales.{fine_weight, heavy, total_heavy, twice, total_twice, total_each, survivors_heavy, type_one, line_length, single_weight, only_weight}
+use Rattle.rules.proofs.Texts.{kind_length, bool_length, joined_length, encoding_length, Short, type_length, quoted_length, numbered_length, from_to_length, option_length}
 
 -- ---- clauses that show no types
 
-namespace-length : (l : List Name) → length (showNamespace l) ≤ 2 + 2 * namesSize l
-unfolding showNamespace bytes
-namespace-length l = omega (arith, quoted-length (joined (bytes ".") l), joined_length (bytes ".") (omega arith) l)
+namespace_length : (l : List Name) → length (show_namespace l) ≤ 2 + 2 * names_size l
+unfolding show_namespace bytes
+namespace_length l = omega (arith, quoted_length (joined (bytes ".") l), joined_length (bytes ".") (omega arith) l)
 
-namespaces-weight : (m n : List Name) → total lineLength (compareNamespaces m n) ≤ 100 + (2 * namesSize m + 2 * namesSize n)
-unfolding compareNamespaces bytes optionLength
-namespaces-weight m n =
-    le_trans (only-weight _ _) (simp fromTo-length (omega (arith, namespace-length m, namespace-length n)))
+namespaces_weight : (m n : List Name) → total line_length (compare_namespaces m n) ≤ 100 + (2 * names_size m + 2 * names_size n)
+unfolding compare_namespaces bytes option_length
+namespaces_weight m n =
+    le_trans (only_weight _ _) (simp from_to_length (omega (arith, namespace_length m, namespace_length n)))
 
-names-weight : (d : Name) (f g : Field)
-    → total lineLength (compareFieldNames d f g) ≤ 100 + (length d + (length f.name + 2 * length g.name))
-unfolding compareFieldNames bytes optionLength
-names-weight d f g =
-    le_trans (only-weight _ _) (simp (length-append, fromTo-length, quoted-length) (omega (arith, decimal-length g.ordinal)))
+names_weight : (d : Name) (f g : Field)
+    → total line_length (compare_field_names d f g) ≤ 100 + (length d + (length f.name + 2 * length g.name))
+unfolding compare_field_names bytes option_length
+names_weight d f g =
+    le_trans (only_weight _ _) (simp (length-append, from_to_length, quoted_length) (omega (arith, decimal_length g.ordinal)))
 
-field-length : (f : Field) → length (fieldText f) ≤ 30 + length f.name
-unfolding fieldText bytes
-field-length f = omega (arith, numbered-length (bytes "field") f.name f.ordinal)
+field_length : (f : Field) → length (field_text f) ≤ 30 + length f.name
+unfolding field_text bytes
+field_length f = omega (arith, numbered_length (bytes "field") f.name f.ordinal)
 
-encodings-weight : (d : Name) (f g : Field)
-    → total lineLength (compareEncodings d f g)
+encodings_weight : (d : Name) (f g : Field)
+    → total line_length (compare_encodings d f g)
     ≤ 150 + (length d + (2 * length g.name + 7 * (f.encoding.deltas + g.encoding.deltas)))
-unfolding compareEncodings bytes optionLength
-encodings-weight d f g =
-    le_trans (only-weight _ _)
-    (simp (length-append, fromTo-length) (omega (arith, field-length g, encoding-length f.encoding, encoding-length g.encoding)))
+unfolding compare_encodings bytes option_length
+encodings_weight d f g =
+    le_trans (only_weight _ _)
+    (simp (length-append, from_to_length) (omega (arith, field_length g, encoding_length f.encoding, encoding_length g.encoding)))
 
-deprecated-weight : (d : Name) (field : Option Name) (target : List ℕ) (m n : Marks)
-    → total lineLength (compareDeprecated d field target m n) ≤ 100 + (length d + (optionLength field + length target))
-unfolding compareDeprecated bytes
-deprecated-weight d field target m n = le_trans (only-weight _ _) (simp length-append (omega arith))
+deprecated_weight : (d : Name) (field : Option Name) (target : List ℕ) (m n : Marks)
+    → total line_length (compare_deprecated d field target m n) ≤ 100 + (length d + (option_length field + length target))
+unfolding compare_deprecated bytes
+deprecated_weight d field target m n = le_trans (only_weight _ _) (simp length-append (omega arith))
 
-openness-weight : (d : Name) (m n : Marks) → total lineLength (compareNonExhaustive d m n) ≤ 100 + length d
-unfolding compareNonExhaustive bytes optionLength
-openness-weight d m n =
-    le_trans (only-weight _ _) (simp fromTo-length (omega (arith, bool-length m.nonExhaustive, bool-length n.nonExhaustive)))
+openness_weight : (d : Name) (m n : Marks) → total line_length (compare_non_exhaustive d m n) ≤ 100 + length d
+unfolding compare_non_exhaustive bytes option_length
+openness_weight d m n =
+    le_trans (only_weight _ _) (simp from_to_length (omega (arith, bool_length m.non_exhaustive, bool_length n.non_exhaustive)))
 
 -- an item that is gone or came
-item-weight : (kind : ℕ) (bump : Bump) (d : Name) (what : List ℕ) (n : Name) (o : ℕ) (text : List ℕ)
-    → total lineLength (change kind bump d (some n) (numbered what n o ++ text) ∷ [])
+item_weight : (kind : ℕ) (bump : Bump) (d : Name) (what : List ℕ) (n : Name) (o : ℕ) (text : List ℕ)
+    → total line_length (change kind bump d (some n) (numbered what n o ++ text) ∷ [])
     ≤ 65 + (length d + (2 * length n + (length what + length text)))
-unfolding optionLength
-item-weight kind bump d what n o text = le_trans (single-weight _) (simp length-append (omega (arith, numbered-length what n o)))
+unfolding option_length
+item_weight kind bump d what n o text = le_trans (single_weight _) (simp length-append (omega (arith, numbered_length what n o)))
 
 -- ---- variants and bits
 
 module _ (d : Name) (h : length d ≤ 32768) where
-  gone-weight : (v : Variant) → total lineLength (variantGone d v) ≤ heavy variantSize v
-  unfolding variantGone variantText bytes heavy variantSize
-  gone-weight v = le_trans (item-weight _ _ d (bytes "variant") v.name v.ordinal (bytes " was removed")) (omega arith)
+  gone_weight : (v : Variant) → total line_length (variant_gone d v) ≤ heavy variant_size v
+  unfolding variant_gone variant_text bytes heavy variant_size
+  gone_weight v = le_trans (item_weight _ _ d (bytes "variant") v.name v.ordinal (bytes " was removed")) (omega arith)
 
-  came-weight : (b : Bump) (v : Variant) → total lineLength (variantCame b d v) ≤ heavy variantSize v
-  unfolding variantCame variantText bytes heavy variantSize
-  came-weight b v = le_trans (item-weight _ _ d (bytes "variant") v.name v.ordinal (bytes " was added")) (omega arith)
+  came_weight : (b : Bump) (v : Variant) → total line_length (variant_came b d v) ≤ heavy variant_size v
+  unfolding variant_came variant_text bytes heavy variant_size
+  came_weight b v = le_trans (item_weight _ _ d (bytes "variant") v.name v.ordinal (bytes " was added")) (omega arith)
 
   -- rules that keep nothing of an entry
-  variants-weight : (r : Rules Variant Change) → ((v : Variant) → total lineLength (r.gone v) ≤ heavy variantSize v)
-      → ((v : Variant) → total lineLength (r.came v) ≤ heavy variantSize v) → ((v w : Variant) → r.kept v w ≡ []) → (l m : List Variant)
-      → total lineLength (compare variantOrdinal ltb r (variantMap l) (variantMap m)) ≤ 200000 * (total variantSize l + total variantSize m)
-  unfolding variantMap total
-  variants-weight r p q k l m =
+  variants_weight : (r : Rules Variant Change) → ((v : Variant) → total line_length (r.gone v) ≤ heavy variant_size v)
+      → ((v : Variant) → total line_length (r.came v) ≤ heavy variant_size v) → ((v w : Variant) → r.kept v w ≡ []) → (l m : List Variant)
+      → total line_length (compare variant_ordinal ltb r (variant_map l) (variant_map m)) ≤ 200000 * (total variant_size l + total variant_size m)
+  unfolding variant_map total
+  variants_weight r p q k l m =
       omega (
         arith,
-        compare-weight variantOrdinal byNumber lineLength (heavy variantSize) (heavy variantSize) (variantMap l) (variantMap m)
-            (rising variantOrdinal byNumber l) (rising variantOrdinal byNumber m) r p q (λ v w e. rw (k v w) (omega arith)),
-        survivors-heavy variantOrdinal ltb variantSize l,
-        survivors-heavy variantOrdinal ltb variantSize m,
+        compare_weight variant_ordinal by_number line_length (heavy variant_size) (heavy variant_size) (variant_map l) (variant_map m)
+            (rising variant_ordinal by_number l) (rising variant_ordinal by_number m) r p q (λ v w e. rw (k v w) (omega arith)),
+        survivors_heavy variant_ordinal ltb variant_size l,
+        survivors_heavy variant_ordinal ltb variant_size m,
       )
 
-  flags-weight : (x y : Decl)
-      → total lineLength (compareFlags d x y) ≤ 200000 * (total variantSize x.variants + total variantSize y.variants)
-  unfolding compareFlags flagsRules bitText bytes heavy variantSize
-  flags-weight x y =
-      variants-weight (flagsRules d)
-      (λ v. le_trans (item-weight _ _ d (bytes "bit") v.name v.ordinal (bytes " was removed")) (omega arith))
-      (λ v. le_trans (item-weight _ _ d (bytes "bit") v.name v.ordinal (bytes " was added")) (omega arith))
+  flags_weight : (x y : Decl)
+      → total line_length (compare_flags d x y) ≤ 200000 * (total variant_size x.variants + total variant_size y.variants)
+  unfolding compare_flags flags_rules bit_text bytes heavy variant_size
+  flags_weight x y =
+      variants_weight (flags_rules d)
+      (λ v. le_trans (item_weight _ _ d (bytes "bit") v.name v.ordinal (bytes " was removed")) (omega arith))
+      (λ v. le_trans (item_weight _ _ d (bytes "bit") v.name v.ordinal (bytes " was added")) (omega arith))
       (λ v w. refl) x.variants y.variants
 
-  enums-weight : (x y : Decl)
-      → total lineLength (compareEnums d x y) ≤ 33000 + 200000 * (total variantSize x.variants + total variantSize y.variants)
-  unfolding compareEnums enumRules
-  enums-weight x y =
-      simp (total-append lineLength)
+  enums_weight : (x y : Decl)
+      → total line_length (compare_enums d x y) ≤ 33000 + 200000 * (total variant_size x.variants + total variant_size y.variants)
+  unfolding compare_enums enum_rules
+  enums_weight x y =
+      simp (total_append line_length)
       (omega (
         arith,
-        openness-weight d x.marks y.marks,
-        variants-weight (enumRules d y.marks) gone-weight (came-weight _)
+        openness_weight d x.marks y.marks,
+        variants_weight (enum_rules d y.marks) gone_weight (came_weight _)
             (λ v w. refl) x.variants y.variants,
       ))
 
@@ -126,199 +126,199 @@ module _ (d : Name) (h : length d ≤ 32768) where
 
 -- it is no longer than what a clause may report
 pub record Light (r : Reading) : Type 0 where
-  pub decls : (x y : Decl) → declSize x ≤ 32768
-      → total lineLength (r.first x y) + total lineLength (r.last x y) ≤ heavy declSize x + heavy declSize y
+  pub decls : (x y : Decl) → decl_size x ≤ 32768
+      → total line_length (r.first x y) + total line_length (r.last x y) ≤ heavy decl_size x + heavy decl_size y
   pub variants : (d : Name) → length d ≤ 65538 → (v w : Variant)
-      → total lineLength (r.lastIn d v w) ≤ heavy variantSize v + heavy variantSize w
+      → total line_length (r.last_in d v w) ≤ heavy variant_size v + heavy variant_size w
 
-pub clauses-light : (same : Ty → Ty → Bool) → Light (clausesBy same)
+pub clauses_light : (same : Ty → Ty → Bool) → Light (clauses_by same)
 unfolding total
-clauses-light same = record { decls = λ x y h. omega arith; variants = λ d h v w. omega arith }
+clauses_light same = record { decls = λ x y h. omega arith; variants = λ d h v w. omega arith }
 
 -- ---- clauses that show types
 
 module _ (r : Context) (light : Light r.reading) (S : Short r.old) (T : Short r.new) where
-  types-weight : (d : Name) (field : Option Name) (what : List ℕ) (t u : Ty)
-      → total lineLength (compareTypes r d field what t u)
-      ≤ 100 + (length d + (optionLength field + (length what + 66000 * (typeSize t + typeSize u))))
-  unfolding compareTypes bytes
-  types-weight d field what t u =
-      le_trans (only-weight _ _) (simp (length-append, fromTo-length) (omega (arith, type-length r.old S t, type-length r.new T u)))
+  types_weight : (d : Name) (field : Option Name) (what : List ℕ) (t u : Ty)
+      → total line_length (compare_types r d field what t u)
+      ≤ 100 + (length d + (option_length field + (length what + 66000 * (type_size t + type_size u))))
+  unfolding compare_types bytes
+  types_weight d field what t u =
+      le_trans (only_weight _ _) (simp (length-append, from_to_length) (omega (arith, type_length r.old S t, type_length r.new T u)))
 
-  fields-weight : (d : Name) → length d ≤ 65538 → (f g : Field)
-      → total lineLength (compareFields r d f g) ≤ heavy fieldSize f + heavy fieldSize g
-  unfolding compareFields bytes optionLength heavy fieldSize
-  fields-weight d h f g =
-      simp (total-append lineLength)
+  fields_weight : (d : Name) → length d ≤ 65538 → (f g : Field)
+      → total line_length (compare_fields r d f g) ≤ heavy field_size f + heavy field_size g
+  unfolding compare_fields bytes option_length heavy field_size
+  fields_weight d h f g =
+      simp (total_append line_length)
       (omega (
         arith,
-        names-weight d f g,
-        types-weight d (some g.name) (fieldText g) f.type g.type,
-        field-length g,
-        encodings-weight d f g,
-        deprecated-weight d (some g.name) (bytes "field " ++ quoted g.name) f.marks g.marks,
+        names_weight d f g,
+        types_weight d (some g.name) (field_text g) f.type g.type,
+        field_length g,
+        encodings_weight d f g,
+        deprecated_weight d (some g.name) (bytes "field " ++ quoted g.name) f.marks g.marks,
         length-append (bytes "field ") (quoted g.name),
-        quoted-length g.name,
-        type-one f.type,
-        type-one g.type,
+        quoted_length g.name,
+        type_one f.type,
+        type_one g.type,
       ))
 
-  sets-weight : (d : Name) → length d ≤ 65538 → (l m : List Field)
-      → total lineLength (compareFieldSets r d l m) ≤ 200000 * (total fieldSize l + total fieldSize m)
-  unfolding compareFieldSets fieldRules fieldMap fieldText bytes heavy fieldSize
-  sets-weight d h l m =
+  sets_weight : (d : Name) → length d ≤ 65538 → (l m : List Field)
+      → total line_length (compare_field_sets r d l m) ≤ 200000 * (total field_size l + total field_size m)
+  unfolding compare_field_sets field_rules field_map field_text bytes heavy field_size
+  sets_weight d h l m =
       omega (
         arith,
-        compare-weight ordinalOf byNumber lineLength (heavy fieldSize) (heavy fieldSize) (fieldMap l) (fieldMap m)
-            (rising ordinalOf byNumber l) (rising ordinalOf byNumber m) (fieldRules r d)
-            (λ f. le_trans (item-weight _ _ d (bytes "field") f.name f.ordinal (bytes " was removed"))
-            (omega (arith, type-one f.type)))
-            (λ f. le_trans (item-weight _ _ d (bytes "field") f.name f.ordinal (bytes " was added"))
-            (omega (arith, type-one f.type)))
-            (λ f g e. fields-weight d h f g),
-        survivors-heavy ordinalOf ltb fieldSize l,
-        survivors-heavy ordinalOf ltb fieldSize m,
+        compare_weight ordinal_of by_number line_length (heavy field_size) (heavy field_size) (field_map l) (field_map m)
+            (rising ordinal_of by_number l) (rising ordinal_of by_number m) (field_rules r d)
+            (λ f. le_trans (item_weight _ _ d (bytes "field") f.name f.ordinal (bytes " was removed"))
+            (omega (arith, type_one f.type)))
+            (λ f. le_trans (item_weight _ _ d (bytes "field") f.name f.ordinal (bytes " was added"))
+            (omega (arith, type_one f.type)))
+            (λ f g e. fields_weight d h f g),
+        survivors_heavy ordinal_of ltb field_size l,
+        survivors_heavy ordinal_of ltb field_size m,
       )
 
   -- of an old declaration that an image can hold
-  module _ (x y : Decl) (h : declSize x ≤ 32768) where
-    name-short : length x.name ≤ 32768
-    unfolding declSize
-    name-short = omega arith
+  module _ (x y : Decl) (h : decl_size x ≤ 32768) where
+    name_short : length x.name ≤ 32768
+    unfolding decl_size
+    name_short = omega arith
 
-    messages-weight : total lineLength (compareMessages r x.name x y) ≤ heavy declSize x + heavy declSize y
-    unfolding compareMessages bytes optionLength heavy declSize
-    messages-weight =
-        simp (total-append lineLength)
+    messages_weight : total line_length (compare_messages r x.name x y) ≤ heavy decl_size x + heavy decl_size y
+    unfolding compare_messages bytes option_length heavy decl_size
+    messages_weight =
+        simp (total_append line_length)
         (omega (
           arith,
-          sets-weight x.name (omega (arith, name-short)) x.fields y.fields,
-          deprecated-weight x.name none
+          sets_weight x.name (omega (arith, name_short)) x.fields y.fields,
+          deprecated_weight x.name none
               (bytes "declaration") x.marks y.marks,
-          name-short,
-          type-one x.inner,
+          name_short,
+          type_one x.inner,
         ))
 
-    variants-short : All (λ v. leb (length v.name) 32768 ≡ true) (variantMap x.variants)
-    unfolding variantMap declSize variantSize
-    variants-short =
-        all-survivors variantOrdinal ltb _ x.variants
-        (all_map {P = λ v. variantSize v ≤ total variantSize x.variants} (λ v p. le-leb (length v.name) 32768 (omega (arith, p)))
-        x.variants (total-each variantSize x.variants))
+    variants_short : All (λ v. leb (length v.name) 32768 ≡ true) (variant_map x.variants)
+    unfolding variant_map decl_size variant_size
+    variants_short =
+        all_survivors variant_ordinal ltb _ x.variants
+        (all_map {P = λ v. variant_size v ≤ total variant_size x.variants} (λ v p. le-leb (length v.name) 32768 (omega (arith, p)))
+        x.variants (total_each variant_size x.variants))
 
-    variant-short : (v : Variant) → leb (length v.name) 32768 ≡ true → length (variantDecl x.name v) ≤ 65538
-    unfolding variantDecl bytes
-    variant-short v p = simp length-append (omega (arith, name-short, leb-true (length v.name) 32768 p))
+    variant_short : (v : Variant) → leb (length v.name) 32768 ≡ true → length (variant_decl x.name v) ≤ 65538
+    unfolding variant_decl bytes
+    variant_short v p = simp length-append (omega (arith, name_short, leb-true (length v.name) 32768 p))
 
-    variant-weight : (v w : Variant) → leb (length v.name) 32768 ≡ true
-        → total lineLength ((unionRules r x.name).kept v w) ≤ heavy (twice variantSize) v + heavy (twice variantSize) w
-    unfolding unionRules heavy twice variantSize
-    variant-weight v w p =
-        simp (total-append lineLength)
+    variant_weight : (v w : Variant) → leb (length v.name) 32768 ≡ true
+        → total line_length ((union_rules r x.name).kept v w) ≤ heavy (twice variant_size) v + heavy (twice variant_size) w
+    unfolding union_rules heavy twice variant_size
+    variant_weight v w p =
+        simp (total_append line_length)
         (omega (
           arith,
-          sets-weight (variantDecl x.name v) (variant-short v p) v.fields w.fields,
-          light.variants (variantDecl x.name v) (variant-short v p) v w,
+          sets_weight (variant_decl x.name v) (variant_short v p) v.fields w.fields,
+          light.variants (variant_decl x.name v) (variant_short v p) v w,
         ))
 
-    gone-twice : (v : Variant) → total lineLength (variantGone x.name v) ≤ heavy (twice variantSize) v
+    gone_twice : (v : Variant) → total line_length (variant_gone x.name v) ≤ heavy (twice variant_size) v
     unfolding heavy twice
-    gone-twice v = omega (arith, gone-weight x.name name-short v)
+    gone_twice v = omega (arith, gone_weight x.name name_short v)
 
-    came-twice : (b : Bump) (v : Variant) → total lineLength (variantCame b x.name v) ≤ heavy (twice variantSize) v
+    came_twice : (b : Bump) (v : Variant) → total line_length (variant_came b x.name v) ≤ heavy (twice variant_size) v
     unfolding heavy twice
-    came-twice b v = omega (arith, came-weight x.name name-short b v)
+    came_twice b v = omega (arith, came_weight x.name name_short b v)
 
-    unions-weight : total lineLength (compareUnions r x.name x y)
-        ≤ 400000 * (total variantSize x.variants + total variantSize y.variants)
-    unfolding compareUnions unionRules variantMap
-    unions-weight =
+    unions_weight : total line_length (compare_unions r x.name x y)
+        ≤ 400000 * (total variant_size x.variants + total variant_size y.variants)
+    unfolding compare_unions union_rules variant_map
+    unions_weight =
         omega (
           arith,
-          fine-weight variantOrdinal byNumber lineLength (λ v. leb (length v.name) 32768) (heavy (twice variantSize))
-              (heavy (twice variantSize)) (variantMap x.variants) (variantMap y.variants) (rising variantOrdinal byNumber x.variants)
-              (rising variantOrdinal byNumber y.variants) variants-short
-              (unionRules r x.name) gone-twice (came-twice _) variant-weight,
-          survivors-heavy variantOrdinal ltb (twice variantSize) x.variants,
-          survivors-heavy variantOrdinal ltb (twice variantSize) y.variants,
-          total_twice variantSize x.variants,
-          total_twice variantSize y.variants,
+          fine_weight variant_ordinal by_number line_length (λ v. leb (length v.name) 32768) (heavy (twice variant_size))
+              (heavy (twice variant_size)) (variant_map x.variants) (variant_map y.variants) (rising variant_ordinal by_number x.variants)
+              (rising variant_ordinal by_number y.variants) variants_short
+              (union_rules r x.name) gone_twice (came_twice _) variant_weight,
+          survivors_heavy variant_ordinal ltb (twice variant_size) x.variants,
+          survivors_heavy variant_ordinal ltb (twice variant_size) y.variants,
+          total_twice variant_size x.variants,
+          total_twice variant_size y.variants,
         )
 
-    newtypes-weight : total lineLength (compareNewtypes r x.name x y) ≤ heavy declSize x + heavy declSize y
-    unfolding compareNewtypes bytes optionLength heavy declSize
-    newtypes-weight =
+    newtypes_weight : total line_length (compare_newtypes r x.name x y) ≤ heavy decl_size x + heavy decl_size y
+    unfolding compare_newtypes bytes option_length heavy decl_size
+    newtypes_weight =
         omega (
           arith,
-          types-weight x.name none (bytes "newtype " ++ (quoted x.name ++ bytes " inner")) x.inner y.inner,
+          types_weight x.name none (bytes "newtype " ++ (quoted x.name ++ bytes " inner")) x.inner y.inner,
           length-append (bytes "newtype ") (quoted x.name ++ bytes " inner"),
           length-append (quoted x.name) (bytes " inner"),
-          quoted-length x.name,
-          type-one x.inner,
+          quoted_length x.name,
+          type_one x.inner,
         )
 
-    kinds-weight : (k : Kind) → total lineLength (compareKind k r x y) ≤ 2 * (heavy declSize x + heavy declSize y)
-    unfolding compareKind heavy declSize total
-    kinds-weight message = omega (arith, messages-weight)
-    kinds-weight enum = omega (arith, enums-weight x.name name-short x y, type-one x.inner)
-    kinds-weight flags = omega (arith, flags-weight x.name name-short x y)
-    kinds-weight union = omega (arith, unions-weight)
-    kinds-weight newtype = omega (arith, newtypes-weight)
-    kinds-weight config = omega arith
-    kinds-weight alias = omega arith
-    kinds-weight trait = omega arith
-    kinds-weight impl = omega arith
-    kinds-weight other = omega arith
+    kinds_weight : (k : Kind) → total line_length (compare_kind k r x y) ≤ 2 * (heavy decl_size x + heavy decl_size y)
+    unfolding compare_kind heavy decl_size total
+    kinds_weight message = omega (arith, messages_weight)
+    kinds_weight enum = omega (arith, enums_weight x.name name_short x y, type_one x.inner)
+    kinds_weight flags = omega (arith, flags_weight x.name name_short x y)
+    kinds_weight union = omega (arith, unions_weight)
+    kinds_weight newtype = omega (arith, newtypes_weight)
+    kinds_weight config = omega arith
+    kinds_weight alias = omega arith
+    kinds_weight trait = omega arith
+    kinds_weight impl = omega arith
+    kinds_weight other = omega arith
 
-    changed-weight : total lineLength (kindChanged x y) ≤ heavy declSize x + heavy declSize y
-    unfolding kindChanged bytes optionLength heavy declSize
-    changed-weight =
-        le_trans (single-weight _)
-        (simp (length-append, fromTo-length, quoted-length)
-        (omega (arith, kind-length x.kind, kind-length y.kind, name-short, type-one x.inner)))
+    changed_weight : total line_length (kind_changed x y) ≤ heavy decl_size x + heavy decl_size y
+    unfolding kind_changed bytes option_length heavy decl_size
+    changed_weight =
+        le_trans (single_weight _)
+        (simp (length-append, from_to_length, quoted_length)
+        (omega (arith, kind_length x.kind, kind_length y.kind, name_short, type_one x.inner)))
 
-    decls-weight : total lineLength (compareDecls r x y) ≤ heavy (twice (twice declSize)) x + heavy (twice (twice declSize)) y
-    unfolding compareDecls compareAlike heavy twice
-    decls-weight = go (eqb x.kind y.kind)
+    decls_weight : total line_length (compare_decls r x y) ≤ heavy (twice (twice decl_size)) x + heavy (twice (twice decl_size)) y
+    unfolding compare_decls compare_alike heavy twice
+    decls_weight = go (eqb x.kind y.kind)
       where
-        go : (u : Bool) → total lineLength (cond u (compareAlike r x y) (kindChanged x y))
-            ≤ heavy (twice (twice declSize)) x + heavy (twice (twice declSize)) y
-        go true = simp (total-append lineLength) (omega (arith, kinds-weight (kindOf x.kind), light.decls x y h))
-        go false = omega (arith, changed-weight)
+        go : (u : Bool) → total line_length (cond u (compare_alike r x y) (kind_changed x y))
+            ≤ heavy (twice (twice decl_size)) x + heavy (twice (twice decl_size)) y
+        go true = simp (total_append line_length) (omega (arith, kinds_weight (kind_of x.kind), light.decls x y h))
+        go false = omega (arith, changed_weight)
 
 -- ---- all clauses
 
 -- of views whose declarations an image can hold
 module _ (r : Reading) (light : Light r) (x y : View) (S : Short x.registry) (T : Short y.registry)
-    (R : Rising nameOf before x.standing) (Q : Rising nameOf before y.standing)
-    (h : All (λ d. declSize d ≤ 32768) x.standing) where
-  abbrev between-views : Context
-  between-views = context r x.registry y.registry
+    (R : Rising name_of before x.standing) (Q : Rising name_of before y.standing)
+    (h : All (λ d. decl_size d ≤ 32768) x.standing) where
+  abbrev between_views : Context
+  between_views = context r x.registry y.registry
 
   -- a declaration that is gone or came
-  decl-weight : (kind : ℕ) (bump : Bump) (d : Decl) (text : List ℕ) → length text ≤ 12
-      → total lineLength (change kind bump d.name none (declText d ++ text) ∷ []) ≤ heavy (twice (twice declSize)) d
-  unfolding declText bytes optionLength heavy twice declSize
-  decl-weight kind bump d text l =
-      le_trans (single-weight _) (simp (length-append, quoted-length) (omega (arith, kind-length d.kind, type-one d.inner)))
+  decl_weight : (kind : ℕ) (bump : Bump) (d : Decl) (text : List ℕ) → length text ≤ 12
+      → total line_length (change kind bump d.name none (decl_text d ++ text) ∷ []) ≤ heavy (twice (twice decl_size)) d
+  unfolding decl_text bytes option_length heavy twice decl_size
+  decl_weight kind bump d text l =
+      le_trans (single_weight _) (simp (length-append, quoted_length) (omega (arith, kind_length d.kind, type_one d.inner)))
 
-  pub changes-weight : total lineLength (changes r x y)
-      ≤ 100 + (2 * namesSize x.namespace + 2 * namesSize y.namespace) + 800000 * (total declSize x.standing + total declSize
+  pub changes_weight : total line_length (changes r x y)
+      ≤ 100 + (2 * names_size x.namespace + 2 * names_size y.namespace) + 800000 * (total decl_size x.standing + total decl_size
       y.standing)
-  unfolding changes declRules bytes
-  changes-weight =
-      simp (total-append lineLength)
+  unfolding changes decl_rules bytes
+  changes_weight =
+      simp (total_append line_length)
       (omega (
         arith,
-        namespaces-weight x.namespace y.namespace,
-        fine-weight nameOf byName lineLength (λ d. leb (declSize d) 32768) (heavy (twice (twice declSize))) (heavy (twice (twice declSize)))
-            x.standing y.standing R Q (all_map (λ d p. le-leb (declSize d) 32768 p) x.standing h) (declRules between-views)
-            (λ d. decl-weight _ _ d _ (omega arith)) (λ d. decl-weight _ _ d _ (omega arith))
-            (λ d e p. decls-weight between-views light S T d e (leb-true (declSize d) 32768 p)),
-        total-heavy (twice (twice declSize)) x.standing,
-        total-heavy (twice (twice declSize)) y.standing,
-        total_twice (twice declSize) x.standing,
-        total_twice (twice declSize) y.standing,
-        total_twice declSize x.standing,
-        total_twice declSize y.standing,
+        namespaces_weight x.namespace y.namespace,
+        fine_weight name_of by_name line_length (λ d. leb (decl_size d) 32768) (heavy (twice (twice decl_size))) (heavy (twice (twice decl_size)))
+            x.standing y.standing R Q (all_map (λ d p. le-leb (decl_size d) 32768 p) x.standing h) (decl_rules between_views)
+            (λ d. decl_weight _ _ d _ (omega arith)) (λ d. decl_weight _ _ d _ (omega arith))
+            (λ d e p. decls_weight between_views light S T d e (leb-true (decl_size d) 32768 p)),
+        total_heavy (twice (twice decl_size)) x.standing,
+        total_heavy (twice (twice decl_size)) y.standing,
+        total_twice (twice decl_size) x.standing,
+        total_twice (twice decl_size) y.standing,
+        total_twice decl_size x.standing,
+        total_twice decl_size y.standing,
       ))

@@ -21,34 +21,34 @@ pub data ChangeKind : Type 0 where
   NonExhaustiveChanged FlagsBitAdded FlagsBitRemoved FlagsBitOrdinalChanged WidthChanged : ChangeKind
 
 -- by their places in it
-abbrev pub kindAt : ChangeKind → ℕ
-kindAt FieldAdded = 0
-kindAt FieldRemoved = 1
-kindAt FieldTypeChanged = 2
-kindAt FieldOrdinalChanged = 3
-kindAt FieldRenamed = 4
-kindAt FieldDeprecated = 5
-kindAt FieldEncodingChanged = 6
-kindAt VariantAdded = 7
-kindAt VariantRemoved = 8
-kindAt VariantOrdinalChanged = 9
-kindAt DeclarationAdded = 10
-kindAt DeclarationRemoved = 11
-kindAt DeclarationKindChanged = 12
-kindAt NamespaceChanged = 13
-kindAt NonExhaustiveChanged = 14
-kindAt FlagsBitAdded = 15
-kindAt FlagsBitRemoved = 16
-kindAt FlagsBitOrdinalChanged = 17
-kindAt WidthChanged = 18
+abbrev pub kind_at : ChangeKind → ℕ
+kind_at FieldAdded = 0
+kind_at FieldRemoved = 1
+kind_at FieldTypeChanged = 2
+kind_at FieldOrdinalChanged = 3
+kind_at FieldRenamed = 4
+kind_at FieldDeprecated = 5
+kind_at FieldEncodingChanged = 6
+kind_at VariantAdded = 7
+kind_at VariantRemoved = 8
+kind_at VariantOrdinalChanged = 9
+kind_at DeclarationAdded = 10
+kind_at DeclarationRemoved = 11
+kind_at DeclarationKindChanged = 12
+kind_at NamespaceChanged = 13
+kind_at NonExhaustiveChanged = 14
+kind_at FlagsBitAdded = 15
+kind_at FlagsBitRemoved = 16
+kind_at FlagsBitOrdinalChanged = 17
+kind_at WidthChanged = 18
 
 -- "The three `..OrdinalChanged`"
-abbrev pub ordinalKinds : List ℕ
-ordinalKinds = (kindAt FieldOrdinalChanged) ∷ kindAt VariantOrdinalChanged ∷ kindAt FlagsBitOrdinalChanged ∷ []
+abbrev pub ordinal_kinds : List ℕ
+ordinal_kinds = (kind_at FieldOrdinalChanged) ∷ kind_at VariantOrdinalChanged ∷ kind_at FlagsBitOrdinalChanged ∷ []
 
 -- how many kinds are counted
-abbrev pub kindCount : ℕ
-kindCount = 19
+abbrev pub kind_count : ℕ
+kind_count = 19
 
 -- each member as `check` fills it
 pub record Change : Type 0 where
@@ -76,5 +76,5 @@ unfoldable pub numbered : List ℕ → Name → ℕ → List ℕ
 numbered what n ordinal = what ++ (bytes " " ++ (quoted n ++ (bytes " @" ++ decimal ordinal)))
 
 --  from OLD to NEW
-unfoldable pub fromTo : List ℕ → List ℕ → List ℕ
-fromTo old new = bytes " from " ++ (old ++ (bytes " to " ++ new))
+unfoldable pub from_to : List ℕ → List ℕ → List ℕ
+from_to old new = bytes " from " ++ (old ++ (bytes " to " ++ new))

@@ -3,23 +3,23 @@ use Rattle.std.specs.Prelude.{◌≡◌, Bool, true, false, not, ◌&&◌, List,
 use Rattle.std.proofs.Math.Option.{Option, none, some}
 use Rattle.image.specs.Schema.{Name}
 
-unfoldable pub sameList : {A : Type 0} → (A → A → Bool) → List A → List A → Bool
-sameList same [] [] = true
-sameList same [] (y ∷ ys) = false
-sameList same (x ∷ xs) [] = false
-sameList same (x ∷ xs) (y ∷ ys) = same x y && sameList same xs ys
+unfoldable pub same_list : {A : Type 0} → (A → A → Bool) → List A → List A → Bool
+same_list same [] [] = true
+same_list same [] (y ∷ ys) = false
+same_list same (x ∷ xs) [] = false
+same_list same (x ∷ xs) (y ∷ ys) = same x y && same_list same xs ys
 
-unfoldable pub sameOption : {A : Type 0} → (A → A → Bool) → Option A → Option A → Bool
-sameOption same none none = true
-sameOption same none (some b) = false
-sameOption same (some a) none = false
-sameOption same (some a) (some b) = same a b
+unfoldable pub same_option : {A : Type 0} → (A → A → Bool) → Option A → Option A → Bool
+same_option same none none = true
+same_option same none (some b) = false
+same_option same (some a) none = false
+same_option same (some a) (some b) = same a b
 
-unfoldable pub sameName : Name → Name → Bool
-sameName a b = sameList eqb a b
+unfoldable pub same_name : Name → Name → Bool
+same_name a b = same_list eqb a b
 
-unfoldable pub sameNames : List Name → List Name → Bool
-sameNames a b = sameList sameName a b
+unfoldable pub same_names : List Name → List Name → Bool
+same_names a b = same_list same_name a b
 
 -- A test is sound if it says yes only of equal things, and of a thing and itself unless the thing is odd.
 pub record Sound {A : Type 0} (same : A → A → Bool) (odd : A → Bool) : Type 0 where

@@ -11,12 +11,12 @@ use Rattle.rules.specs.Refusals.{AcceptedPair}
 unfoldable pub unsized : Decl → Decl
 unsized d = decl d.kind d.name d.marks none d.fields d.variants d.inner
 
-unfoldable pub unsizedSchema : Schema → Schema
-unsizedSchema s = record { format = 1; registry = map (map_option unsized) s.registry; ids = s.ids; namespace = s.namespace }
+unfoldable pub unsized_schema : Schema → Schema
+unsized_schema s = record { format = 1; registry = map (map_option unsized) s.registry; ids = s.ids; namespace = s.namespace }
 
 -- two images that are accepted, and hold the same but for format and widths
 abbrev pub SameUnsized : List ℕ → List ℕ → Type 0
-SameUnsized a b = AcceptedPair a b (λ x y. unsizedSchema x ≡ unsizedSchema y)
+SameUnsized a b = AcceptedPair a b (λ x y. unsized_schema x ≡ unsized_schema y)
 
 -- on either side of any pair they come to the same
 pub record Ignores (outcome : List ℕ → List ℕ → Outcome) : Type 0 where

@@ -3,28 +3,28 @@
 use Rattle.std.specs.Prelude.{◌≡◌, List, [], ◌∷◌, ◌++◌, ℕ, zero, suc, ◌≤◌}
 use Rattle.std.proofs.Math.Option.{Option, none, some}
 use Prim.Native.String.{String}
-use Rattle.image.specs.Schema.{unmarked, label, Ty, two, noType, Field, Variant, Decl, decl, Schema}
-use Rattle.image.specs.Codes.{number, newtypeKind, aliasKind, optionalTag, arrayTag, mapTag, resultTag, vec3Tag}
+use Rattle.image.specs.Schema.{unmarked, label, Ty, two, no_type, Field, Variant, Decl, decl, Schema}
+use Rattle.image.specs.Codes.{number, newtype_kind, alias_kind, optional_tag, array_tag, map_tag, result_tag, vec3_tag}
 use Rattle.image.specs.Words.{bytes}
 use Rattle.text.specs.Decimal.{decimal}
 use Rattle.rules.specs.Outcome.{selected, written}
-use Rattle.rules.specs.Answer.{Policy, comparePair, plain}
+use Rattle.rules.specs.Answer.{Policy, compare_pair, plain}
 use Rattle.rules.specs.Reached.{Reached}
 use Rattle.rules.specs.Imports.{imports, OnlyListed}
 use Rattle.rules.specs.Edges.{newtype, named, around, u8, f32, impl, field, message, union, variant, silent}
 
 -- the report of two schemas, empty if they are refused
 unfoldable pub told : Policy → Schema → Schema → List ℕ
-told p old new = written (comparePair p old new) []
+told p old new = written (compare_pair p old new) []
 
 -- ---- schemas: entry 0 is declared, under the name A
 
 -- a newtype of a name, and a generic alias
 abbrev pub entry : String → Ty → Option Decl
-entry name t = some (decl (number newtypeKind) (bytes name) unmarked none [] [] t)
+entry name t = some (decl (number newtype_kind) (bytes name) unmarked none [] [] t)
 
 abbrev pub alias : String → Option Decl
-alias name = some (decl (number aliasKind) (bytes name) unmarked none [] [] noType)
+alias name = some (decl (number alias_kind) (bytes name) unmarked none [] [] no_type)
 
 -- A names entry 1; the entries from 1 on
 abbrev pub naming : List (Option Decl) → Schema
@@ -38,16 +38,16 @@ abbrev pub listing : Schema → List ℕ → Schema
 listing s more = record { format = s.format; registry = s.registry; ids = s.ids ++ more; namespace = s.namespace }
 
 abbrev pub optional : Ty → Ty
-optional t = around (number optionalTag) t
+optional t = around (number optional_tag) t
 
 abbrev pub array : Ty → Ty
-array t = around (number arrayTag) t
+array t = around (number array_tag) t
 
 abbrev pub map : Ty → Ty → Ty
-map k t = two (label (number mapTag) 0 0 []) k t
+map k t = two (label (number map_tag) 0 0 []) k t
 
 abbrev pub result : Ty → Ty → Ty
-result t u = two (label (number resultTag) 0 0 []) t u
+result t u = two (label (number result_tag) 0 0 []) t u
 
 -- so many nodes above a type
 unfoldable pub under : ℕ → Ty → Ty
@@ -59,11 +59,11 @@ abbrev pub twice : Option Decl → Option Decl → List (Option Decl) → Schema
 twice first second more = newtype (result (named 1) (named 2)) (first ∷ second ∷ more)
 
 -- a field that names entry 1, and a variant with that field
-abbrev pub fieldNaming : Field
-fieldNaming = field 0 "x" unmarked none (named 1)
+abbrev pub field_naming : Field
+field_naming = field 0 "x" unmarked none (named 1)
 
-abbrev pub variantNaming : Variant
-variantNaming = record { ordinal = 0; name = bytes "x"; fields = fieldNaming ∷ [] }
+abbrev pub variant_naming : Variant
+variant_naming = record { ordinal = 0; name = bytes "x"; fields = field_naming ∷ [] }
 
 -- what is told where a schema holds B, a newtype of u8, and then of f32; and that this is seen
 abbrev pub changing : Policy → (Option Decl → Schema) → List ℕ
@@ -76,7 +76,7 @@ seen = bytes "FieldTypeChanged;Major;B;-;newtype 'B' inner type changed from u8 
 
 -- an entry is a newtype of the next; and so many entries from an id on
 abbrev pub link : ℕ → Decl
-link id = decl (number newtypeKind) (bytes "A" ++ decimal id) unmarked none [] [] (named (suc id))
+link id = decl (number newtype_kind) (bytes "A" ++ decimal id) unmarked none [] [] (named (suc id))
 
 unfoldable pub links : ℕ → ℕ → List (Option Decl)
 links from zero = []
@@ -89,47 +89,47 @@ chain n = record { format = 2; registry = links 0 (suc n); ids = 0 ∷ []; names
 pub record ImportEdges : Type 0 where
   -- what is imported has changed
   pub inside : changing imports (λ b. naming (b ∷ [])) ≡ seen
-  pub insidePlain : changing plain (λ b. naming (b ∷ [])) ≡ silent
+  pub inside_plain : changing plain (λ b. naming (b ∷ [])) ≡ silent
   -- a type that names itself is compared once
   pub itself : told imports (newtype (optional (named 0)) []) (newtype (array (named 0)) [])
       ≡ bytes "FieldTypeChanged;Major;A;-;newtype 'A' inner type changed from optional<A> to array<A>\nBreaking;Major;1\n"
-  pub itselfInside : told imports (naming (entry "B" (optional (named 1)) ∷ [])) (naming (entry "B" (array (named 1)) ∷ []))
+  pub itself_inside : told imports (naming (entry "B" (optional (named 1)) ∷ [])) (naming (entry "B" (array (named 1)) ∷ []))
       ≡ bytes "FieldTypeChanged;Major;B;-;newtype 'B' inner type changed from optional<B> to array<B>\nBreaking;Major;1\n"
   -- so are two that name each other
-  pub eachOther : told imports (naming (entry "B" (optional (named 0)) ∷ [])) (naming (entry "B" (array (named 0)) ∷ []))
+  pub each_other : told imports (naming (entry "B" (optional (named 0)) ∷ [])) (naming (entry "B" (array (named 0)) ∷ []))
       ≡ bytes "FieldTypeChanged;Major;B;-;newtype 'B' inner type changed from optional<A> to array<A>\nBreaking;Major;1\n"
   -- B is named in a field, or a variant, that survives; and only in one that does not
-  pub keptField : changing imports (λ b. holding (message (fieldNaming ∷ [])) (b ∷ [])) ≡ seen
-  pub lostField : changing imports (λ b. holding (message (fieldNaming ∷ field 0 "y" unmarked none u8 ∷ [])) (b ∷ [])) ≡ silent
-  pub keptVariant : changing imports (λ b. holding (union (variantNaming ∷ [])) (b ∷ [])) ≡ seen
-  pub lostVariant : changing imports (λ b. holding (union (variantNaming ∷ variant 0 "y" ∷ [])) (b ∷ [])) ≡ silent
+  pub kept_field : changing imports (λ b. holding (message (field_naming ∷ [])) (b ∷ [])) ≡ seen
+  pub lost_field : changing imports (λ b. holding (message (field_naming ∷ field 0 "y" unmarked none u8 ∷ [])) (b ∷ [])) ≡ silent
+  pub kept_variant : changing imports (λ b. holding (union (variant_naming ∷ [])) (b ∷ [])) ≡ seen
+  pub lost_variant : changing imports (λ b. holding (union (variant_naming ∷ variant 0 "y" ∷ [])) (b ∷ [])) ≡ silent
   -- of two reached entries of one name that with the higher id stands, and the other is followed all the same
   pub higher : changing imports (λ b. twice (entry "B" u8) b []) ≡ seen
   pub lower : changing imports (λ b. twice b (entry "B" u8) []) ≡ silent
-  pub lowerFollowed : changing imports (λ b. twice (entry "C" (named 3)) (entry "C" u8) (b ∷ [])) ≡ seen
+  pub lower_followed : changing imports (λ b. twice (entry "C" (named 3)) (entry "C" u8) (b ∷ [])) ≡ seen
   -- a listed declaration stands before a reached entry of its name, also of a higher id, and that is followed all the same
   pub listed : changing imports (λ b. listing (newtype (named 2) (b ∷ entry "B" u8 ∷ [])) (1 ∷ [])) ≡ seen
-  pub notListed : changing imports (λ b. listing (newtype (named 2) (entry "B" u8 ∷ b ∷ [])) (1 ∷ [])) ≡ silent
-  pub notListedFollowed : changing imports (λ b. listing (newtype (named 2) (entry "C" u8 ∷ entry "C" (named 3) ∷ b ∷ [])) (1 ∷ [])) ≡ seen
+  pub not_listed : changing imports (λ b. listing (newtype (named 2) (entry "B" u8 ∷ b ∷ [])) (1 ∷ [])) ≡ silent
+  pub not_listed_followed : changing imports (λ b. listing (newtype (named 2) (entry "C" u8 ∷ entry "C" (named 3) ∷ b ∷ [])) (1 ∷ [])) ≡ seen
   -- a listed declaration that lost its name, and is not reached, is not followed
-  pub notFollowed : changing imports (λ b. listing (newtype u8 (entry "C" (named 3) ∷ entry "C" u8 ∷ b ∷ [])) (1 ∷ 2 ∷ [])) ≡ silent
+  pub not_followed : changing imports (λ b. listing (newtype u8 (entry "C" (named 3) ∷ entry "C" u8 ∷ b ∷ [])) (1 ∷ 2 ∷ [])) ≡ silent
   -- 11: a generic alias is reached on both sides, or listed on one and reached on the other
-  pub reachedAliases : selected (comparePair imports (naming (alias "G" ∷ [])) (naming (alias "G" ∷ []))) ≡ 11 ∷ 3 ∷ 2 ∷ 1 ∷ []
-  pub reachedAliasesPlain : told plain (naming (alias "G" ∷ [])) (naming (alias "G" ∷ [])) ≡ silent
-  pub aliasReached : selected (comparePair imports (listing (newtype u8 (alias "G" ∷ [])) (1 ∷ [])) (naming (alias "G" ∷ []))) ≡ 11 ∷ 3 ∷ 2 ∷ 1 ∷ []
-  pub aliasListed : selected (comparePair imports (naming (alias "G" ∷ [])) (listing (newtype u8 (alias "G" ∷ [])) (1 ∷ []))) ≡ 11 ∷ 3 ∷ 2 ∷ 1 ∷ []
+  pub reached_aliases : selected (compare_pair imports (naming (alias "G" ∷ [])) (naming (alias "G" ∷ []))) ≡ 11 ∷ 3 ∷ 2 ∷ 1 ∷ []
+  pub reached_aliases_plain : told plain (naming (alias "G" ∷ [])) (naming (alias "G" ∷ [])) ≡ silent
+  pub alias_reached : selected (compare_pair imports (listing (newtype u8 (alias "G" ∷ [])) (1 ∷ [])) (naming (alias "G" ∷ []))) ≡ 11 ∷ 3 ∷ 2 ∷ 1 ∷ []
+  pub alias_listed : selected (compare_pair imports (naming (alias "G" ∷ [])) (listing (newtype u8 (alias "G" ∷ [])) (1 ∷ []))) ≡ 11 ∷ 3 ∷ 2 ∷ 1 ∷ []
   -- not 11: it is reached on both sides, and another declaration of its name survives
-  pub aliasHidden : changing imports (λ b. listing (naming (alias "B" ∷ b ∷ [])) (2 ∷ [])) ≡ seen
+  pub alias_hidden : changing imports (λ b. listing (naming (alias "B" ∷ b ∷ [])) (2 ∷ [])) ≡ seen
   -- an id past the registry and one of an empty entry reach nothing; then B is there
   pub unresolvable : told imports (newtype (result (named 7) (named 1)) (none ∷ [])) (newtype (result (named 7) (named 1)) (none ∷ [])) ≡ silent
   pub resolvable : told imports (newtype (named 7) []) (naming (entry "B" u8 ∷ []))
       ≡ bytes "DeclarationAdded;Minor;B;-;newtype 'B' was added\nFieldTypeChanged;Major;A;-;newtype 'A' inner type changed from <unknown> to B\nBreaking;Major;2\n"
   -- B is named inside a map, a result, a vector, and by the last of 32 nodes
-  pub inKey : changing imports (λ b. newtype (map (named 1) u8) (b ∷ [])) ≡ seen
-  pub inValue : changing imports (λ b. newtype (map u8 (named 1)) (b ∷ [])) ≡ seen
-  pub inResult : changing imports (λ b. newtype (result (named 1) u8) (b ∷ [])) ≡ seen
-  pub inError : changing imports (λ b. newtype (result u8 (named 1)) (b ∷ [])) ≡ seen
-  pub inVector : changing imports (λ b. newtype (around (number vec3Tag) (named 1)) (b ∷ []))
+  pub in_key : changing imports (λ b. newtype (map (named 1) u8) (b ∷ [])) ≡ seen
+  pub in_value : changing imports (λ b. newtype (map u8 (named 1)) (b ∷ [])) ≡ seen
+  pub in_result : changing imports (λ b. newtype (result (named 1) u8) (b ∷ [])) ≡ seen
+  pub in_error : changing imports (λ b. newtype (result u8 (named 1)) (b ∷ [])) ≡ seen
+  pub in_vector : changing imports (λ b. newtype (around (number vec3_tag) (named 1)) (b ∷ []))
       ≡ bytes "FieldTypeChanged;Major;A;-;newtype 'A' inner type changed from vec3<B> to vec3<B>\nFieldTypeChanged;Major;B;-;newtype 'B' inner type changed from u8 to f32\nBreaking;Major;2\n"
   pub deep : changing imports (λ b. newtype (under 31 (named 1)) (b ∷ [])) ≡ seen
   -- imports on one side only; an impl that is reached stands under the empty name
@@ -137,17 +137,17 @@ pub record ImportEdges : Type 0 where
       ≡ bytes "DeclarationRemoved;Major;B;-;newtype 'B' was removed\nFieldTypeChanged;Major;A;-;newtype 'A' inner type changed from B to u8\nBreaking;Major;2\n"
   pub came : told imports (newtype u8 []) (naming (entry "B" u8 ∷ []))
       ≡ bytes "DeclarationAdded;Minor;B;-;newtype 'B' was added\nFieldTypeChanged;Major;A;-;newtype 'A' inner type changed from u8 to B\nBreaking;Major;2\n"
-  pub reachedImpl : told imports (naming (some impl ∷ [])) (newtype u8 [])
+  pub reached_impl : told imports (naming (some impl ∷ [])) (newtype u8 [])
       ≡ bytes "DeclarationRemoved;Major;;-;impl '' was removed\nFieldTypeChanged;Major;A;-;newtype 'A' inner type changed from  to u8\nBreaking;Major;2\n"
   -- B was listed and is now imported only
   pub moved : told imports (listing (naming (entry "B" u8 ∷ [])) (1 ∷ [])) (naming (entry "B" u8 ∷ [])) ≡ silent
-  pub movedPlain : told plain (listing (naming (entry "B" u8 ∷ [])) (1 ∷ [])) (naming (entry "B" u8 ∷ []))
+  pub moved_plain : told plain (listing (naming (entry "B" u8 ∷ [])) (1 ∷ [])) (naming (entry "B" u8 ∷ []))
       ≡ bytes "DeclarationRemoved;Major;B;-;newtype 'B' was removed\nBreaking;Major;1\n"
   -- B is listed and reached: nothing is reached but what is listed
-  pub reachedListed : Reached (listing (naming (entry "B" u8 ∷ [])) (1 ∷ [])) 1
-  pub onlyListed : OnlyListed (listing (naming (entry "B" u8 ∷ [])) (1 ∷ []))
+  pub reached_listed : Reached (listing (naming (entry "B" u8 ∷ [])) (1 ∷ [])) 1
+  pub only_listed : OnlyListed (listing (naming (entry "B" u8 ∷ [])) (1 ∷ []))
   -- over three steps to falling ids
   pub falling : changing imports (λ b. newtype (named 3) (b ∷ entry "C" (named 1) ∷ entry "D" (named 2) ∷ [])) ≡ seen
   -- every entry of a chain of any length is reached, also the one after 500 steps
   pub steps : (n id : ℕ) → 1 ≤ id → id ≤ n → Reached (chain n) id
-  pub fiveHundred : Reached (chain 500) 500
+  pub five_hundred : Reached (chain 500) 500

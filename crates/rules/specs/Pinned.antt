@@ -4,10 +4,10 @@ use mathlib.Core.List.{List, [], ◌∷◌, ◌++◌, flat_map}
 use Prim.Native.String.{String}
 use Prim.Native.Char.{Char, code}
 use Rattle.image.specs.Words.{bytes}
-use Rattle.rules.specs.Changes.{kindAt, DeclarationAdded, DeclarationRemoved}
+use Rattle.rules.specs.Changes.{kind_at, DeclarationAdded, DeclarationRemoved}
 use Rattle.rules.specs.Outcome.{selected, written}
-use Rattle.rules.specs.Answer.{checked, verdictOf}
-use Rattle.rules.specs.Distance.{Verdict, distance, countBetween, Steps}
+use Rattle.rules.specs.Answer.{checked, verdict_of}
+use Rattle.rules.specs.Distance.{Verdict, distance, count_between, Steps}
 
 -- ---- images in hexadecimal
 
@@ -36,8 +36,8 @@ told old new = written (checked old new) []
 -- ---- a pair with every kind of change that is reported at all, and every word of a type, an encoding and a kind of declaration
 
 -- ride.a: M E F U N K G, an impl, an N that is listed before the other, S, Z, L; of the ids two are unresolvable
-abbrev pub richOld : List ℕ
-richOld =
+abbrev pub rich_old : List ℕ
+rich_old =
     image
     ("01 00 0f 00 0e 00 02 00"
     ∷ "83 00 95 00 18 01 12 00 2a 01 11 00 3b 01 30 00 6b 01 11 00 7c 01 03 00 7f 01 03 00 82 01 01 00 83 01 05 00 88 01 0a 00 92 01 05 00 97 01 07 00 00 00 00 00 9e 01 03 00 a1 01 05 00"
@@ -60,8 +60,8 @@ richOld =
     ∷ [])
 
 -- ride.b.c: M E F U N S changed, K and L of another kind, T TX X Y new
-abbrev pub richNew : List ℕ
-richNew =
+abbrev pub rich_new : List ℕ
+rich_new =
     image
     ("01 00 0d 00 0c 00 03 00"
     ∷ "75 00 7c 00 f1 00 12 00 03 01 11 00 14 01 2f 00 43 01 0c 00 4f 01 06 00 55 01 05 00 5a 01 0a 00 64 01 03 00 67 01 04 00 6b 01 05 00 70 01 06 00 76 01 05 00"
@@ -85,12 +85,12 @@ richNew =
 -- ---- named types
 
 -- newtype A of the type with id 1, which is B
-abbrev pub atOne : List ℕ
-atOne = image ("01 00 02 00 01 00 00 00" ∷ "14 00 08 00 1c 00 06 00" ∷ "00 00 00 00" ∷ "04 01 41 03 01 00 00 00" ∷ "00 01 42 00 00 00" ∷ [])
+abbrev pub at_one : List ℕ
+at_one = image ("01 00 02 00 01 00 00 00" ∷ "14 00 08 00 1c 00 06 00" ∷ "00 00 00 00" ∷ "04 01 41 03 01 00 00 00" ∷ "00 01 42 00 00 00" ∷ [])
 
 -- the same, B with id 2
-abbrev pub atTwo : List ℕ
-atTwo = image ("01 00 03 00 01 00 00 00" ∷ "18 00 08 00 00 00 00 00 20 00 06 00" ∷ "00 00 00 00" ∷ "04 01 41 03 02 00 00 00" ∷ "00 01 42 00 00 00" ∷ [])
+abbrev pub at_two : List ℕ
+at_two = image ("01 00 03 00 01 00 00 00" ∷ "18 00 08 00 00 00 00 00 20 00 06 00" ∷ "00 00 00 00" ∷ "04 01 41 03 02 00 00 00" ∷ "00 01 42 00 00 00" ∷ [])
 
 -- newtype A of the type with id 1, which is C
 abbrev pub another : List ℕ
@@ -99,12 +99,12 @@ another = image ("01 00 02 00 01 00 00 00" ∷ "14 00 08 00 1c 00 06 00" ∷ "00
 -- ---- distances
 
 -- a non-exhaustive enum with no variant, and a message with a field
-abbrev pub enumEmpty : List ℕ
-enumEmpty = image ("01 00 02 00 02 00 00 00" ∷ "18 00 06 00 1e 00 11 00" ∷ "00 00 00 00 01 00 00 00" ∷ "01 01 45 02 00 00" ∷ "00 01 4d 00 01 00 00 00 00 00 01 78 00 00 00 00 01" ∷ [])
+abbrev pub enum_empty : List ℕ
+enum_empty = image ("01 00 02 00 02 00 00 00" ∷ "18 00 06 00 1e 00 11 00" ∷ "00 00 00 00 01 00 00 00" ∷ "01 01 45 02 00 00" ∷ "00 01 4d 00 01 00 00 00 00 00 01 78 00 00 00 00 01" ∷ [])
 
 -- a variant more
-abbrev pub enumGrown : List ℕ
-enumGrown =
+abbrev pub enum_grown : List ℕ
+enum_grown =
     image
     ("01 00 02 00 02 00 00 00"
     ∷ "18 00 0c 00 24 00 11 00"
@@ -114,8 +114,8 @@ enumGrown =
     ∷ [])
 
 -- and the field renamed
-abbrev pub fieldRenamed : List ℕ
-fieldRenamed =
+abbrev pub field_renamed : List ℕ
+field_renamed =
     image
     ("01 00 02 00 02 00 00 00"
     ∷ "18 00 0c 00 24 00 11 00"
@@ -142,7 +142,7 @@ vector = image ("01 00 01 00 01 00 00 00" ∷ "10 00 07 00" ∷ "00 00 00 00" �
 
 pub record Pinned : Type 0 where
   -- the whole report and all 24 selectors
-  pub richReport : told richOld richNew ≡ lines
+  pub rich_report : told rich_old rich_new ≡ lines
       ("NamespaceChanged;Major;;-;namespace changed from 'ride.a' to 'ride.b.c'"
       ∷ "DeclarationRemoved;Major;;-;impl '' was removed"
       ∷ "DeclarationRemoved;Major;G;-;generic_alias 'G' was removed"
@@ -175,26 +175,26 @@ pub record Pinned : Type 0 where
       ∷ "FieldAdded;Major;U::was;+h;field 'h' @2 was added"
       ∷ "Breaking;Major;30"
       ∷ [])
-  pub richSelectors : selected (checked richOld richNew) ≡ 0 ∷ 0 ∷ 2 ∷ 1 ∷ 2156 ∷ 2 ∷ 2 ∷ 4 ∷ 0 ∷ 1 ∷ 2 ∷ 2 ∷ 2 ∷ 2 ∷ 0 ∷ 4 ∷ 3 ∷ 2 ∷ 1 ∷ 1 ∷ 1 ∷ 1 ∷ 0 ∷ 0 ∷ []
+  pub rich_selectors : selected (checked rich_old rich_new) ≡ 0 ∷ 0 ∷ 2 ∷ 1 ∷ 2156 ∷ 2 ∷ 2 ∷ 4 ∷ 0 ∷ 1 ∷ 2 ∷ 2 ∷ 2 ∷ 2 ∷ 0 ∷ 4 ∷ 3 ∷ 2 ∷ 1 ∷ 1 ∷ 1 ∷ 1 ∷ 0 ∷ 0 ∷ []
   -- one name under different ids is equal; one id with different names is not
-  pub sameName : told atOne atTwo ≡ lines ("Compatible;Patch;0" ∷ [])
-  pub sameId : told atOne another ≡ lines ("FieldTypeChanged;Major;A;-;newtype 'A' inner type changed from B to C" ∷ "Breaking;Major;1" ∷ [])
+  pub same_name : told at_one at_two ≡ lines ("Compatible;Patch;0" ∷ [])
+  pub same_id : told at_one another ≡ lines ("FieldTypeChanged;Major;A;-;newtype 'A' inner type changed from B to C" ∷ "Breaking;Major;1" ∷ [])
   -- a chain of distance 1 over neighbours 1 and 0
-  pub steps : Steps verdictOf enumEmpty (enumGrown ∷ fieldRenamed ∷ [])
-  pub ends : Verdict verdictOf enumEmpty fieldRenamed
-  pub firstStep : distance verdictOf enumEmpty enumGrown ≡ 1
-  pub secondStep : distance verdictOf enumGrown fieldRenamed ≡ 0
-  pub wholeWay : distance verdictOf enumEmpty fieldRenamed ≡ 1
+  pub steps : Steps verdict_of enum_empty (enum_grown ∷ field_renamed ∷ [])
+  pub ends : Verdict verdict_of enum_empty field_renamed
+  pub first_step : distance verdict_of enum_empty enum_grown ≡ 1
+  pub second_step : distance verdict_of enum_grown field_renamed ≡ 0
+  pub whole_way : distance verdict_of enum_empty field_renamed ≡ 1
   -- a chain of four whose first and third are refused by 11
-  pub fourSteps : Steps verdictOf alias (nothing ∷ alias ∷ config ∷ [])
-  pub fourEnds : Verdict verdictOf alias config
-  pub firstAndThird : selected (checked alias alias) ≡ 11 ∷ 3 ∷ 2 ∷ 1 ∷ []
-  pub fourWay : distance verdictOf alias config ≡ 2
+  pub four_steps : Steps verdict_of alias (nothing ∷ alias ∷ config ∷ [])
+  pub four_ends : Verdict verdict_of alias config
+  pub first_and_third : selected (checked alias alias) ≡ 11 ∷ 3 ∷ 2 ∷ 1 ∷ []
+  pub four_way : distance verdict_of alias config ≡ 2
   -- a self distance of 2
-  pub self : Verdict verdictOf vector vector
-  pub selfDistance : distance verdictOf vector vector ≡ 2
+  pub self : Verdict verdict_of vector vector
+  pub self_distance : distance verdict_of vector vector ≡ 2
   -- a swap with different bumps each way
-  pub there : distance verdictOf nothing config ≡ 1
-  pub back : distance verdictOf config nothing ≡ 2
-  pub added : countBetween verdictOf (kindAt DeclarationAdded) nothing config ≡ 1
-  pub removed : countBetween verdictOf (kindAt DeclarationRemoved) config nothing ≡ 1
+  pub there : distance verdict_of nothing config ≡ 1
+  pub back : distance verdict_of config nothing ≡ 2
+  pub added : count_between verdict_of (kind_at DeclarationAdded) nothing config ≡ 1
+  pub removed : count_between verdict_of (kind_at DeclarationRemoved) config nothing ≡ 1

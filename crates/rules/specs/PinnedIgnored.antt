@@ -5,13 +5,13 @@ use Rattle.rules.specs.Outcome.{selected}
 use Rattle.rules.specs.Answer.{outcome}
 use Rattle.rules.specs.Mended.{mended}
 use Rattle.rules.specs.Pinned.{image, lines, told}
-use Rattle.rules.specs.PinnedImports.{importsTold}
-use Rattle.rules.specs.PinnedMended.{mendedTold}
+use Rattle.rules.specs.PinnedImports.{imports_told}
+use Rattle.rules.specs.PinnedMended.{mended_told}
 use Rattle.rules.specs.Ignored.{SameUnsized}
 
 -- an enum E of `@0 a` and flags F of `@0 p`: in format 1; and in format 2, of 8 wire bits and 1 wire byte, and of 16 and 2
-abbrev pub unsizedImage : List ℕ
-unsizedImage =
+abbrev pub unsized_image : List ℕ
+unsized_image =
     image
     ("01 00 02 00 02 00 00 00"
     ∷ "18 00 0c 00 24 00 0b 00"
@@ -20,8 +20,8 @@ unsizedImage =
     ∷ "02 01 46 01 00 00 00 00 00 01 70"
     ∷ [])
 
-abbrev pub narrowImage : List ℕ
-narrowImage =
+abbrev pub narrow_image : List ℕ
+narrow_image =
     image
     ("02 00 02 00 02 00 00 00"
     ∷ "18 00 0d 00 25 00 0c 00"
@@ -30,8 +30,8 @@ narrowImage =
     ∷ "02 01 46 01 01 00 00 00 00 00 01 70"
     ∷ [])
 
-abbrev pub wideImage : List ℕ
-wideImage =
+abbrev pub wide_image : List ℕ
+wide_image =
     image
     ("02 00 02 00 02 00 00 00"
     ∷ "18 00 0d 00 25 00 0c 00"
@@ -42,13 +42,13 @@ wideImage =
 
 pub record PinnedIgnored : Type 0 where
   -- all are accepted, and the same but for format and widths
-  pub formats : SameUnsized unsizedImage narrowImage
-  pub widths : SameUnsized narrowImage wideImage
+  pub formats : SameUnsized unsized_image narrow_image
+  pub widths : SameUnsized narrow_image wide_image
   -- against each other they get what one gets against itself
-  pub plain : told unsizedImage wideImage ≡ lines ("Compatible;Patch;0" ∷ [])
-  pub plainBack : told wideImage narrowImage ≡ lines ("Compatible;Patch;0" ∷ [])
-  pub withImports : importsTold unsizedImage wideImage ≡ lines ("Compatible;Patch;0" ∷ [])
+  pub plain : told unsized_image wide_image ≡ lines ("Compatible;Patch;0" ∷ [])
+  pub plain_back : told wide_image narrow_image ≡ lines ("Compatible;Patch;0" ∷ [])
+  pub with_imports : imports_told unsized_image wide_image ≡ lines ("Compatible;Patch;0" ∷ [])
   -- but from the mended verdict: by their widths, and by their formats
-  pub apart : mendedTold narrowImage wideImage
+  pub apart : mended_told narrow_image wide_image
       ≡ lines ("WidthChanged;Major;E;-;width changed from 8 to 16" ∷ "WidthChanged;Major;F;-;width changed from 1 to 2" ∷ "Breaking;Major;2" ∷ [])
-  pub mixed : selected (outcome mended unsizedImage narrowImage) ≡ 16 ∷ 3 ∷ 2 ∷ 1 ∷ []
+  pub mixed : selected (outcome mended unsized_image narrow_image) ≡ 16 ∷ 3 ∷ 2 ∷ 1 ∷ []

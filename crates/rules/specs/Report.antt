@@ -8,50 +8,50 @@ use Rattle.image.specs.Words.{bytes}
 use Rattle.text.specs.Decimal.{decimal}
 use Rattle.rules.specs.Text.{joined, word}
 use Rattle.rules.specs.Changes.{level, Change}
-use Rattle.rules.specs.Verdict.{bumpOf, resultAt}
+use Rattle.rules.specs.Verdict.{bump_of, result_at}
 
 -- the names of `ChangeKind`, with R-6's at the end, of `BumpKind` and of `CompatResult`
-abbrev pub changeNames : List String
-changeNames =
+abbrev pub change_names : List String
+change_names =
     "FieldAdded" ∷ "FieldRemoved" ∷ "FieldTypeChanged" ∷ "FieldOrdinalChanged" ∷ "FieldRenamed" ∷ "FieldDeprecated"
     ∷ "FieldEncodingChanged" ∷ "VariantAdded" ∷ "VariantRemoved" ∷ "VariantOrdinalChanged" ∷ "DeclarationAdded" ∷ "DeclarationRemoved"
     ∷ "DeclarationKindChanged" ∷ "NamespaceChanged" ∷ "NonExhaustiveChanged" ∷ "FlagsBitAdded" ∷ "FlagsBitRemoved"
     ∷ "FlagsBitOrdinalChanged" ∷ "WidthChanged" ∷ []
 
-abbrev pub bumpNames : List String
-bumpNames = "Patch" ∷ "Minor" ∷ "Major" ∷ []
+abbrev pub bump_names : List String
+bump_names = "Patch" ∷ "Minor" ∷ "Major" ∷ []
 
-abbrev pub resultNames : List String
-resultNames = "Compatible" ∷ "Breaking" ∷ []
+abbrev pub result_names : List String
+result_names = "Compatible" ∷ "Breaking" ∷ []
 
-unfoldable pub changeWord : ℕ → List ℕ
-changeWord kind = word changeNames kind
+unfoldable pub change_word : ℕ → List ℕ
+change_word kind = word change_names kind
 
-unfoldable pub bumpWord : ℕ → List ℕ
-bumpWord bump = word bumpNames bump
+unfoldable pub bump_word : ℕ → List ℕ
+bump_word bump = word bump_names bump
 
-unfoldable pub resultWord : ℕ → List ℕ
-resultWord result = word resultNames result
+unfoldable pub result_word : ℕ → List ℕ
+result_word result = word result_names result
 
 -- "`-` if the change has no field, else `+` and the field"
-unfoldable pub fieldPart : Option Name → List ℕ
-fieldPart none = bytes "-"
-fieldPart (some n) = bytes "+" ++ n
+unfoldable pub field_part : Option Name → List ℕ
+field_part none = bytes "-"
+field_part (some n) = bytes "+" ++ n
 
 -- "parted by `;`, ended by byte 10"
 unfoldable pub line : List (List ℕ) → List ℕ
 line parts = joined (bytes ";") parts ++ bytes "\n"
 
 -- "One line a change: kind, bump, declaration .., field .., the `detail`"
-unfoldable pub changeLine : Change → List ℕ
-changeLine c = line (changeWord c.kind ∷ bumpWord (level c.bump) ∷ c.declaration ∷ fieldPart c.field ∷ c.detail ∷ [])
+unfoldable pub change_line : Change → List ℕ
+change_line c = line (change_word c.kind ∷ bump_word (level c.bump) ∷ c.declaration ∷ field_part c.field ∷ c.detail ∷ [])
 
 -- "Last line, in the same way: result, bump, number of changes."
-abbrev pub lastLineAt : ℕ → ℕ → List ℕ
-lastLineAt bump count = line (resultWord (resultAt bump) ∷ bumpWord bump ∷ decimal count ∷ [])
+abbrev pub last_line_at : ℕ → ℕ → List ℕ
+last_line_at bump count = line (result_word (result_at bump) ∷ bump_word bump ∷ decimal count ∷ [])
 
-unfoldable pub lastLine : List Change → List ℕ
-lastLine cs = lastLineAt (bumpOf cs) (length cs)
+unfoldable pub last_line : List Change → List ℕ
+last_line cs = last_line_at (bump_of cs) (length cs)
 
 unfoldable pub report : List Change → List ℕ
-report cs = flat_map changeLine cs ++ lastLine cs
+report cs = flat_map change_line cs ++ last_line cs

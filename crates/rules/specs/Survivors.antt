@@ -10,8 +10,8 @@ abbrev pub Registry : Type 0
 Registry = List (Option Decl)
 
 -- "An id that is N or more, or whose entry is empty, is unresolvable"
-unfoldable pub standsFor : Registry → ℕ → Option Decl
-standsFor R id = get_or R id none
+unfoldable pub stands_for : Registry → ℕ → Option Decl
+stands_for R id = get_or R id none
 
 -- "in the declaration list it is skipped"
 unfoldable pub resolved : Option Decl → List Decl → List Decl
@@ -20,26 +20,26 @@ resolved (some d) ds = d ∷ ds
 
 unfoldable pub listed : Registry → List ℕ → List Decl
 listed R [] = []
-listed R (id ∷ ids) = resolved (standsFor R id) (listed R ids)
+listed R (id ∷ ids) = resolved (stands_for R id) (listed R ids)
 
 -- "All impls share the empty name": an impl is read with it.
-abbrev pub nameOf : Decl → Name
-nameOf d = d.name
+abbrev pub name_of : Decl → Name
+name_of d = d.name
 
 unfoldable pub declarations : Schema → List Decl
-declarations s = survivors nameOf before (listed s.registry s.ids)
+declarations s = survivors name_of before (listed s.registry s.ids)
 
-abbrev pub ordinalOf : Field → ℕ
-ordinalOf f = f.ordinal
+abbrev pub ordinal_of : Field → ℕ
+ordinal_of f = f.ordinal
 
-unfoldable pub fieldMap : List Field → List Field
-fieldMap fs = survivors ordinalOf ltb fs
+unfoldable pub field_map : List Field → List Field
+field_map fs = survivors ordinal_of ltb fs
 
-abbrev pub variantOrdinal : Variant → ℕ
-variantOrdinal v = v.ordinal
+abbrev pub variant_ordinal : Variant → ℕ
+variant_ordinal v = v.ordinal
 
-unfoldable pub variantMap : List Variant → List Variant
-variantMap vs = survivors variantOrdinal ltb vs
+unfoldable pub variant_map : List Variant → List Variant
+variant_map vs = survivors variant_ordinal ltb vs
 
 -- What the clauses compare of a schema: its namespace, the declarations that stand, by rising name, and its registry, for the names of
 -- its types.
@@ -49,5 +49,5 @@ pub record View : Type 0 where
   pub registry : Registry
 
 -- the survivors stand
-unfoldable pub viewOf : Schema → View
-viewOf s = record { namespace = s.namespace; standing = declarations s; registry = s.registry }
+unfoldable pub view_of : Schema → View
+view_of s = record { namespace = s.namespace; standing = declarations s; registry = s.registry }

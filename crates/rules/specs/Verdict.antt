@@ -5,36 +5,36 @@ use Rattle.maps.specs.Lists.{largest, count}
 use Rattle.maps.specs.Keyed.{lookup}
 use Rattle.maps.specs.Orders.{before}
 use Rattle.image.specs.Schema.{Decl}
-use Rattle.image.specs.Codes.{number, aliasKind}
-use Rattle.rules.specs.Survivors.{nameOf, View}
+use Rattle.image.specs.Codes.{number, alias_kind}
+use Rattle.rules.specs.Survivors.{name_of, View}
 use Rattle.rules.specs.Changes.{level, Change}
 
 -- "the bump (the largest; Patch if none)"
-unfoldable pub bumpOf : List Change → ℕ
-bumpOf cs = largest (λ c. level c.bump) cs
+unfoldable pub bump_of : List Change → ℕ
+bump_of cs = largest (λ c. level c.bump) cs
 
 -- "the result (Breaking exactly at Major)": Breaking 1, Compatible 0
-abbrev pub resultAt : ℕ → ℕ
-resultAt bump = cond (eqb bump 2) 1 0
+abbrev pub result_at : ℕ → ℕ
+result_at bump = cond (eqb bump 2) 1 0
 
-unfoldable pub resultOf : List Change → ℕ
-resultOf cs = resultAt (bumpOf cs)
+unfoldable pub result_of : List Change → ℕ
+result_of cs = result_at (bump_of cs)
 
 -- "the count for each of the .. names of `ChangeKind`"
-unfoldable pub countOf : ℕ → List Change → ℕ
-countOf kind cs = count (λ c. eqb c.kind kind) cs
+unfoldable pub count_of : ℕ → List Change → ℕ
+count_of kind cs = count (λ c. eqb c.kind kind) cs
 
 -- 11: "survivors of one name are generic aliases in both images"
 unfoldable pub alias : Decl → Bool
-alias d = eqb d.kind (number aliasKind)
+alias d = eqb d.kind (number alias_kind)
 
-unfoldable pub isAlias : Option Decl → Bool
-isAlias none = false
-isAlias (some d) = alias d
+unfoldable pub is_alias : Option Decl → Bool
+is_alias none = false
+is_alias (some d) = alias d
 
 unfoldable pub any : {A : Type 0} → (A → Bool) → List A → Bool
 any p [] = false
 any p (a ∷ l) = p a || any p l
 
-unfoldable pub aliasPair : View → View → Bool
-aliasPair old new = any (λ d. alias d && isAlias (lookup nameOf before d.name new.standing)) old.standing
+unfoldable pub alias_pair : View → View → Bool
+alias_pair old new = any (λ d. alias d && is_alias (lookup name_of before d.name new.standing)) old.standing

@@ -2,28 +2,28 @@
 use Rattle.std.specs.Prelude.{Bool, cond, not, ◌||◌, ◌++◌, List, [], ℕ, eqb}
 use Rattle.std.proofs.Math.Option.{Option, none, some}
 use Rattle.image.specs.Schema.{Decl, Schema}
-use Rattle.image.specs.Codes.{number, mixedRefusal, bothSides}
+use Rattle.image.specs.Codes.{number, mixed_refusal, both_sides}
 use Rattle.image.specs.Words.{bytes}
 use Rattle.text.specs.Decimal.{decimal}
-use Rattle.rules.specs.Equal.{sameOption}
-use Rattle.rules.specs.Changes.{major, Change, change, only, fromTo, kindAt, WidthChanged}
+use Rattle.rules.specs.Equal.{same_option}
+use Rattle.rules.specs.Changes.{major, Change, change, only, from_to, kind_at, WidthChanged}
 use Rattle.rules.specs.Answer.{fault, Check}
 
 -- as it is stored; a format without widths, which this verdict refuses, has nothing to show
-unfoldable pub showWidth : Option ℕ → List ℕ
-showWidth none = []
-showWidth (some w) = decimal w
+unfoldable pub show_width : Option ℕ → List ℕ
+show_width none = []
+show_width (some w) = decimal w
 
 -- "reports a differing width between two enums or two flags as WidthChanged, Major, without a field, .. with the detail "width changed from 8
 -- to 16", both numbers as stored". Of two declarations of one kind; other kinds have no width.
-unfoldable pub compareWidths : Decl → Decl → List Change
-compareWidths old new =
-    only (not (sameOption eqb old.width new.width))
-    (change (kindAt WidthChanged) major old.name none (bytes "width changed" ++ fromTo (showWidth old.width) (showWidth new.width)))
+unfoldable pub compare_widths : Decl → Decl → List Change
+compare_widths old new =
+    only (not (same_option eqb old.width new.width))
+    (change (kind_at WidthChanged) major old.name none (bytes "width changed" ++ from_to (show_width old.width) (show_width new.width)))
 
 -- 16: "if either image or both are format 1"
 unfoldable pub mixed : Schema → Schema → Bool
 mixed x y = eqb x.format 1 || eqb y.format 1
 
-unfoldable pub mixedCheck : Check
-mixedCheck x y = cond (mixed x y) (some (fault (number mixedRefusal) (number bothSides))) none
+unfoldable pub mixed_check : Check
+mixed_check x y = cond (mixed x y) (some (fault (number mixed_refusal) (number both_sides))) none

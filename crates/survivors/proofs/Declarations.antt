@@ -7,37 +7,37 @@ use Rattle.maps.specs.Orders.{before}
 use Rattle.maps.specs.Keyed.{lookup}
 use Rattle.maps.specs.Walk.{following}
 use Rattle.image.specs.Schema.{Name, Decl}
-use Rattle.parts.specs.Promise.{DeclHere, declIn}
+use Rattle.parts.specs.Promise.{DeclHere, decl_in}
 use Rattle.parts.specs.declared.Entry.{Entry}
 use Rattle.parts.specs.declared.Entry.TheVariants.{Body, Unresolvable}
-use Rattle.rules.specs.Survivors.{nameOf}
+use Rattle.rules.specs.Survivors.{name_of}
 use Rattle.survivors.specs.Answers.{named, Survives, Follows}
 use Rattle.survivors.proofs.Laws.Nearest.{entry_here}
 -- the declaration of an entry, and its name: where a walk starts, and the bound after a declaration
-pub use Rattle.survivors.proofs.Laws.Nearest.{decl-none, decl-body, named_none, named-body}
+pub use Rattle.survivors.proofs.Laws.Nearest.{decl_none, decl_body, named_none, named_body}
 
 -- ---- the answers, where m are the declarations that stand
 
 -- of `survivor`
 module _ {m : List Decl} (s : List ℕ) (name : Name) {r : Entry} (h : Survives m s name r) where
-  pub survives-none : r ≡ Unresolvable → lookup nameOf before name m ≡ none
-  survives-none e = sym h.value ∙ decl-none s e
+  pub survives_none : r ≡ Unresolvable → lookup name_of before name m ≡ none
+  survives_none e = sym h.value ∙ decl_none s e
 
   module _ {at : ℕ} (e : r ≡ Body at) where
-    pub survives-body : lookup nameOf before name m ≡ some (declIn s at)
-    survives-body = sym h.value ∙ decl-body s e
+    pub survives_body : lookup name_of before name m ≡ some (decl_in s at)
+    survives_body = sym h.value ∙ decl_body s e
 
-    pub survives-here : DeclHere s at
-    survives-here = entry_here s e h.here
+    pub survives_here : DeclHere s at
+    survives_here = entry_here s e h.here
 
 -- of `next_decl`
 module _ {m : List Decl} (s : List ℕ) (after : Entry) {r : Entry} (h : Follows m s after r) where
-  pub follows-none : r ≡ Unresolvable → following nameOf before (named s after) m ≡ none
-  follows-none e = sym h.value ∙ decl-none s e
+  pub follows_none : r ≡ Unresolvable → following name_of before (named s after) m ≡ none
+  follows_none e = sym h.value ∙ decl_none s e
 
   module _ {at : ℕ} (e : r ≡ Body at) where
-    pub follows-body : following nameOf before (named s after) m ≡ some (declIn s at)
-    follows-body = sym h.value ∙ decl-body s e
+    pub follows_body : following name_of before (named s after) m ≡ some (decl_in s at)
+    follows_body = sym h.value ∙ decl_body s e
 
-    pub follows-here : DeclHere s at
-    follows-here = entry_here s e h.here
+    pub follows_here : DeclHere s at
+    follows_here = entry_here s e h.here

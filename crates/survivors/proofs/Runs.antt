@@ -9,18 +9,18 @@ use native.Mathlib.Numerals.{sub-one}
 use lib.Dec.{ltb}
 use Rattle.maps.specs.Lists.{All}
 use Rattle.maps.specs.Keyed.{survivors, lookup}
-use Rattle.maps.specs.Walk.{isSome, Rising, following}
-use Rattle.maps.proofs.Orders.{byNumber}
+use Rattle.maps.specs.Walk.{is_some, Rising, following}
+use Rattle.maps.proofs.Orders.{by_number}
 use Rattle.maps.proofs.Survivors.{rising}
-use Rattle.maps.proofs.Places.{Placed, lookup-placed, following-placed}
-use Rattle.parts.specs.Promise.{ItemOf, ItemHere, itemEnd, ItemsHere, placesFrom, ordinalIn}
+use Rattle.maps.proofs.Places.{Placed, lookup_placed, following_placed}
+use Rattle.parts.specs.Promise.{ItemOf, ItemHere, item_end, ItemsHere, places_from, ordinal_in}
 use Rattle.parts.specs.declared.Shape.{Shape}
 use Rattle.parts.specs.declared.Shape.TheVariants as shape
 use Rattle.parts.specs.declared.Run.{Run}
-use Rattle.parts.proofs.Promise.{places-none, places-more, items-first, items-rest, field-ordinal, variant-ordinal}
-use Rattle.rules.specs.Survivors.{fieldMap, variantMap}
-use Rattle.survivors.specs.Answers.{placeOf, FoundHere, numberOf, placeMap, ItemSurvives, placeNext, NextHere, ItemFollows}
-use Rattle.survivors.specs.Runs.{itemIn, itemOrdinal, itemMap, itemsOf, Holds}
+use Rattle.parts.proofs.Promise.{places_none, places_more, items_first, items_rest, field_ordinal, variant_ordinal_lem}
+use Rattle.rules.specs.Survivors.{field_map, variant_map}
+use Rattle.survivors.specs.Answers.{place_of, FoundHere, number_of, place_map, ItemSurvives, place_next, NextHere, ItemFollows}
+use Rattle.survivors.specs.Runs.{item_in, item_ordinal, item_map, items_of, Holds}
 use Rattle.survivors.specs.declared.Found.{Found}
 use Rattle.survivors.specs.declared.Found.TheVariants as found
 use Rattle.survivors.specs.declared.Ordinal.{Ordinal}
@@ -29,100 +29,100 @@ use Rattle.survivors.specs.declared.Next.{Next}
 use Rattle.survivors.specs.declared.Next.TheVariants as next
 
 -- a run that is well formed
-pub run_holds : (h : Shape) (s : List ℕ) (n : Run) → ItemsHere h s n.count n.start → Holds h s n (itemsOf h s n)
-unfolding itemsOf
+pub run_holds : (h : Shape) (s : List ℕ) (n : Run) → ItemsHere h s n.count n.start → Holds h s n (items_of h s n)
+unfolding items_of
 run_holds h s n g = record { here = g; are = refl }
 
 -- ---- items by rising ordinal
 
-stands : (h : Shape) (xs : List (ItemOf h)) → itemMap h xs ≡ survivors (itemOrdinal h) ltb xs
-unfolding fieldMap variantMap
+stands : (h : Shape) (xs : List (ItemOf h)) → item_map h xs ≡ survivors (item_ordinal h) ltb xs
+unfolding field_map variant_map
 stands shape.Field xs = refl
 stands shape.Bare xs = refl
 stands shape.Variant xs = refl
 
-pub items-rising : (h : Shape) (xs : List (ItemOf h)) → Rising (itemOrdinal h) ltb (itemMap h xs)
-items-rising h xs = rw (stands h xs) (rising (itemOrdinal h) byNumber xs)
+pub items_rising : (h : Shape) (xs : List (ItemOf h)) → Rising (item_ordinal h) ltb (item_map h xs)
+items_rising h xs = rw (stands h xs) (rising (item_ordinal h) by_number xs)
 
 -- ---- items at their places
 
 -- the ordinal at an item's place is its own
-pub item-ordinal : (h : Shape) (s : List ℕ) (at : ℕ) → ItemHere h s at → itemOrdinal h (itemIn h s at) ≡ ordinalIn s at
-item-ordinal shape.Field s at g = field-ordinal s at g
-item-ordinal shape.Bare s at g = refl
-item-ordinal shape.Variant s at g = variant-ordinal s at g
+pub item_ordinal_lem : (h : Shape) (s : List ℕ) (at : ℕ) → ItemHere h s at → item_ordinal h (item_in h s at) ≡ ordinal_in s at
+item_ordinal_lem shape.Field s at g = field_ordinal s at g
+item_ordinal_lem shape.Bare s at g = refl
+item_ordinal_lem shape.Variant s at g = variant_ordinal_lem s at g
 
-placed : (h : Shape) (s : List ℕ) (c at : ℕ) → ItemsHere h s c at → Placed (itemOrdinal h) ltb (itemIn h s) (ordinalIn s) (placesFrom h s c at)
+placed : (h : Shape) (s : List ℕ) (c at : ℕ) → ItemsHere h s c at → Placed (item_ordinal h) ltb (item_in h s) (ordinal_in s) (places_from h s c at)
 unfolding All
-placed h s zero at g = rw (places-none s 0 at h refl) tt
+placed h s zero at g = rw (places_none s 0 at h refl) tt
 placed h s (suc c) at g =
     let l : 0 < suc c = omega arith in
-    rw (places-more s (suc c) at h l, sub-one)
-    (item-ordinal h s at (items-first h s (suc c) at l g), placed h s c (itemEnd h s at) (rw sub-one at (items-rest h s (suc c) at l g)))
+    rw (places_more s (suc c) at h l, sub-one)
+    (item_ordinal_lem h s at (items_first h s (suc c) at l g), placed h s c (item_end h s at) (rw sub-one at (items_rest h s (suc c) at l g)))
 
-some-map : {A B : Type 0} (f : A → B) (o : Option A) → isSome o ≡ isSome (map f o)
-unfolding isSome
-some-map f none = refl
-some-map f (some a) = refl
+some_map : {A B : Type 0} (f : A → B) (o : Option A) → is_some o ≡ is_some (map f o)
+unfolding is_some
+some_map f none = refl
+some_map f (some a) = refl
 
 module _ (h : Shape) (s : List ℕ) (n : Run) {xs : List (ItemOf h)} (r : Holds h s n xs) where
   -- what stands is at the places that stand
-  pub holds-lookup : (k : ℕ) → lookup (itemOrdinal h) ltb k (itemMap h xs) ≡ map (itemIn h s) (lookup (ordinalIn s) ltb k (placeMap h s n))
-  unfolding itemsOf placeMap
-  holds-lookup k =
+  pub holds_lookup : (k : ℕ) → lookup (item_ordinal h) ltb k (item_map h xs) ≡ map (item_in h s) (lookup (ordinal_in s) ltb k (place_map h s n))
+  unfolding items_of place_map
+  holds_lookup k =
       rw (stands h xs, r.are)
-      (lookup-placed (itemOrdinal h) ltb (itemIn h s) (ordinalIn s) k (placesFrom h s n.count n.start) (placed h s n.count n.start r.here))
+      (lookup_placed (item_ordinal h) ltb (item_in h s) (ordinal_in s) k (places_from h s n.count n.start) (placed h s n.count n.start r.here))
 
-  pub holds-following : (b : Option ℕ)
-      → following (itemOrdinal h) ltb b (itemMap h xs) ≡ map (itemIn h s) (following (ordinalIn s) ltb b (placeMap h s n))
-  unfolding itemsOf placeMap
-  holds-following b =
+  pub holds_following : (b : Option ℕ)
+      → following (item_ordinal h) ltb b (item_map h xs) ≡ map (item_in h s) (following (ordinal_in s) ltb b (place_map h s n))
+  unfolding items_of place_map
+  holds_following b =
       rw (stands h xs, r.are)
-      (following-placed (itemOrdinal h) ltb (itemIn h s) (ordinalIn s) b (placesFrom h s n.count n.start) (placed h s n.count n.start r.here))
+      (following_placed (item_ordinal h) ltb (item_in h s) (ordinal_in s) b (places_from h s n.count n.start) (placed h s n.count n.start r.here))
 
   -- the answers of `survivor_item`
   module _ (k : ℕ) {o : Found} (a : ItemSurvives h s n k o) where
-    pub found_none : o ≡ found.Nothing → lookup (itemOrdinal h) ltb k (itemMap h xs) ≡ none
-    unfolding placeOf
-    found_none e = holds-lookup k ∙ ap (map (itemIn h s)) (sym a.place ∙ ap placeOf e)
+    pub found_none : o ≡ found.Nothing → lookup (item_ordinal h) ltb k (item_map h xs) ≡ none
+    unfolding place_of
+    found_none e = holds_lookup k ∙ ap (map (item_in h s)) (sym a.place ∙ ap place_of e)
 
     module _ {p : ℕ} (e : o ≡ found.At p) where
-      pub found-item : lookup (itemOrdinal h) ltb k (itemMap h xs) ≡ some (itemIn h s p)
-      unfolding placeOf
-      found-item = holds-lookup k ∙ ap (map (itemIn h s)) (sym a.place ∙ ap placeOf e)
+      pub found_item : lookup (item_ordinal h) ltb k (item_map h xs) ≡ some (item_in h s p)
+      unfolding place_of
+      found_item = holds_lookup k ∙ ap (map (item_in h s)) (sym a.place ∙ ap place_of e)
 
       pub found_here : ItemHere h s p
       unfolding FoundHere
       found_here = rw e at a.here
 
   -- the answers of `has_item`
-  pub has-stands : (k : ℕ) {t : Bool} → t ≡ isSome (lookup (ordinalIn s) ltb k (placeMap h s n)) → t ≡ isSome (lookup (itemOrdinal h) ltb k (itemMap h xs))
-  has-stands k a = a ∙ some-map (itemIn h s) (lookup (ordinalIn s) ltb k (placeMap h s n)) ∙ ap isSome (sym (holds-lookup k))
+  pub has_stands : (k : ℕ) {t : Bool} → t ≡ is_some (lookup (ordinal_in s) ltb k (place_map h s n)) → t ≡ is_some (lookup (item_ordinal h) ltb k (item_map h xs))
+  has_stands k a = a ∙ some_map (item_in h s) (lookup (ordinal_in s) ltb k (place_map h s n)) ∙ ap is_some (sym (holds_lookup k))
 
   -- the answers of `next_item`
   module _ (after : Ordinal) {o : Next} (a : ItemFollows h s n after o) where
-    pub next-none : o ≡ next.Nothing → following (itemOrdinal h) ltb (numberOf after) (itemMap h xs) ≡ none
-    unfolding placeNext
-    next-none e = holds-following (numberOf after) ∙ ap (map (itemIn h s)) (sym a.place ∙ ap placeNext e)
+    pub next_none : o ≡ next.Nothing → following (item_ordinal h) ltb (number_of after) (item_map h xs) ≡ none
+    unfolding place_next
+    next_none e = holds_following (number_of after) ∙ ap (map (item_in h s)) (sym a.place ∙ ap place_next e)
 
     module _ {k p : ℕ} (e : o ≡ next.Is k p) where
-      pub next-item : following (itemOrdinal h) ltb (numberOf after) (itemMap h xs) ≡ some (itemIn h s p)
-      unfolding placeNext
-      next-item = holds-following (numberOf after) ∙ ap (map (itemIn h s)) (sym a.place ∙ ap placeNext e)
+      pub next_item : following (item_ordinal h) ltb (number_of after) (item_map h xs) ≡ some (item_in h s p)
+      unfolding place_next
+      next_item = holds_following (number_of after) ∙ ap (map (item_in h s)) (sym a.place ∙ ap place_next e)
 
       pub next_here : ItemHere h s p
       unfolding NextHere
       next_here = (rw e at a.here).1
 
-      pub next-ordinal : itemOrdinal h (itemIn h s p) ≡ k
+      pub next_ordinal : item_ordinal h (item_in h s p) ≡ k
       unfolding NextHere
-      next-ordinal = item-ordinal h s p next_here ∙ sym (rw e at a.here).0
+      next_ordinal = item_ordinal_lem h s p next_here ∙ sym (rw e at a.here).0
 
 -- where a walk starts, and the bound after an ordinal
-pub number-none : {o : Ordinal} → o ≡ ordinal.Nothing → numberOf o ≡ none
-unfolding numberOf
-number-none e = rw e
+pub number_none : {o : Ordinal} → o ≡ ordinal.Nothing → number_of o ≡ none
+unfolding number_of
+number_none e = rw e
 
-pub number_is : {o : Ordinal} {k : ℕ} → o ≡ ordinal.Is k → numberOf o ≡ some k
-unfolding numberOf
+pub number_is : {o : Ordinal} {k : ℕ} → o ≡ ordinal.Is k → number_of o ≡ some k
+unfolding number_of
 number_is e = rw e

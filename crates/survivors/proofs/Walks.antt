@@ -10,86 +10,86 @@ use Rattle.maps.specs.Orders.{before}
 use Rattle.maps.specs.Keyed.{lookup}
 use Rattle.maps.specs.Compare.{between}
 use Rattle.maps.specs.Walk.{Rising, above, rest}
-use Rattle.maps.proofs.Names.{byName}
-use Rattle.maps.proofs.Orders.{byNumber}
-use Rattle.maps.proofs.Walking.{rest-start, rest-turn, rest-done, left_less}
+use Rattle.maps.proofs.Names.{by_name}
+use Rattle.maps.proofs.Orders.{by_number}
+use Rattle.maps.proofs.Walking.{rest_start, rest_turn, rest_done, left_less}
 use Rattle.image.specs.Schema.{Decl}
-use Rattle.parts.specs.Promise.{declIn, ItemOf}
+use Rattle.parts.specs.Promise.{decl_in, ItemOf}
 use Rattle.parts.specs.declared.Entry.{Entry}
 use Rattle.parts.specs.declared.Entry.TheVariants.{Body, Unresolvable}
 use Rattle.parts.specs.declared.Shape.{Shape}
 use Rattle.parts.specs.declared.Run.{Run}
-use Rattle.rules.specs.Survivors.{nameOf}
-use Rattle.survivors.specs.Answers.{named, Follows, numberOf, ItemFollows}
-use Rattle.survivors.specs.Runs.{itemIn, itemOrdinal, itemMap, Holds}
+use Rattle.rules.specs.Survivors.{name_of}
+use Rattle.survivors.specs.Answers.{named, Follows, number_of, ItemFollows}
+use Rattle.survivors.specs.Runs.{item_in, item_ordinal, item_map, Holds}
 use Rattle.survivors.specs.declared.Ordinal.{Ordinal}
 use Rattle.survivors.specs.declared.Ordinal.TheVariants as ordinal
 use Rattle.survivors.specs.declared.Next.{Next}
 use Rattle.survivors.specs.declared.Next.TheVariants as next
-use Rattle.survivors.proofs.Declarations.{named_none, named-body, follows-none, follows-body}
-use Rattle.survivors.proofs.Runs.{items-rising, next-none, next-item, next-ordinal, number-none, number_is}
+use Rattle.survivors.proofs.Declarations.{named_none, named_body, follows_none, follows_body}
+use Rattle.survivors.proofs.Runs.{items_rising, next_none, next_item, next_ordinal, number_none, number_is}
 
 -- ---- declarations: m are those that stand in the image s
 
 -- what a walk that starts after an entry has yet to give, with another map beside it
-unfoldable pub restDecls : {C : Type 0} → (Option Decl → Option Decl → List C) → List Decl → List ℕ → List Decl → Entry → List C
-restDecls g m s n after = rest nameOf before g m n (named s after)
+unfoldable pub rest_decls : {C : Type 0} → (Option Decl → Option Decl → List C) → List Decl → List ℕ → List Decl → Entry → List C
+rest_decls g m s n after = rest name_of before g m n (named s after)
 
 -- how many declarations it has yet to meet
-unfoldable pub declsLeft : List Decl → List ℕ → Entry → ℕ
-declsLeft m s after = length (above nameOf before (named s after) m)
+unfoldable pub decls_left : List Decl → List ℕ → Entry → ℕ
+decls_left m s after = length (above name_of before (named s after) m)
 
 module _ {C : Type 0} (g : Option Decl → Option Decl → List C) (m : List Decl) (s : List ℕ) (n : List Decl) where
-  pub decls-start : restDecls g m s n Unresolvable ≡ between nameOf before g m n
-  unfolding restDecls
-  decls-start = rw (named_none s {r = Unresolvable} refl) (rest-start nameOf byName g m n)
+  pub decls_start : rest_decls g m s n Unresolvable ≡ between name_of before g m n
+  unfolding rest_decls
+  decls_start = rw (named_none s {r = Unresolvable} refl) (rest_start name_of by_name g m n)
 
   module _ (after : Entry) {r : Entry} (f : Follows m s after r) where
-    pub decls-done : r ≡ Unresolvable → restDecls g m s n after ≡ []
-    unfolding restDecls
-    decls-done e = rest-done nameOf byName g m n (named s after) (follows-none s after f e)
+    pub decls_done : r ≡ Unresolvable → rest_decls g m s n after ≡ []
+    unfolding rest_decls
+    decls_done e = rest_done name_of by_name g m n (named s after) (follows_none s after f e)
 
-    pub decls-turn : Rising nameOf before m → {at : ℕ} → r ≡ Body at
-        → restDecls g m s n after ≡ g (some (declIn s at)) (lookup nameOf before (declIn s at).name n) ++ restDecls g m s n (Body at)
-    unfolding restDecls
-    decls-turn R {at} e =
-        rw (named-body s {r = Body at} refl) (rest-turn nameOf byName g m n (named s after) (declIn s at) R (follows-body s after f e))
+    pub decls_turn : Rising name_of before m → {at : ℕ} → r ≡ Body at
+        → rest_decls g m s n after ≡ g (some (decl_in s at)) (lookup name_of before (decl_in s at).name n) ++ rest_decls g m s n (Body at)
+    unfolding rest_decls
+    decls_turn R {at} e =
+        rw (named_body s {r = Body at} refl) (rest_turn name_of by_name g m n (named s after) (decl_in s at) R (follows_body s after f e))
 
-pub decls-less : (m : List Decl) → Rising nameOf before m → (s : List ℕ) (after : Entry) {r : Entry} → Follows m s after r
-    → {at : ℕ} → r ≡ Body at → declsLeft m s (Body at) < declsLeft m s after
-unfolding declsLeft
-decls-less m R s after f {at} e =
-    rw (named-body s {r = Body at} refl) (left_less nameOf byName m (named s after) (declIn s at) R (follows-body s after f e))
+pub decls_less : (m : List Decl) → Rising name_of before m → (s : List ℕ) (after : Entry) {r : Entry} → Follows m s after r
+    → {at : ℕ} → r ≡ Body at → decls_left m s (Body at) < decls_left m s after
+unfolding decls_left
+decls_less m R s after f {at} e =
+    rw (named_body s {r = Body at} refl) (left_less name_of by_name m (named s after) (decl_in s at) R (follows_body s after f e))
 
 -- ---- items
 
-unfoldable pub restItems : {C : Type 0} → (h : Shape) → (Option (ItemOf h) → Option (ItemOf h) → List C) → List (ItemOf h) → List (ItemOf h) → Ordinal → List C
-restItems h g xs ys after = rest (itemOrdinal h) ltb g (itemMap h xs) (itemMap h ys) (numberOf after)
+unfoldable pub rest_items : {C : Type 0} → (h : Shape) → (Option (ItemOf h) → Option (ItemOf h) → List C) → List (ItemOf h) → List (ItemOf h) → Ordinal → List C
+rest_items h g xs ys after = rest (item_ordinal h) ltb g (item_map h xs) (item_map h ys) (number_of after)
 
-unfoldable pub itemsLeft : (h : Shape) → List (ItemOf h) → Ordinal → ℕ
-itemsLeft h xs after = length (above (itemOrdinal h) ltb (numberOf after) (itemMap h xs))
+unfoldable pub items_left : (h : Shape) → List (ItemOf h) → Ordinal → ℕ
+items_left h xs after = length (above (item_ordinal h) ltb (number_of after) (item_map h xs))
 
 module _ {C : Type 0} (h : Shape) (g : Option (ItemOf h) → Option (ItemOf h) → List C) (xs ys : List (ItemOf h)) where
-  pub items-start : restItems h g xs ys ordinal.Nothing ≡ between (itemOrdinal h) ltb g (itemMap h xs) (itemMap h ys)
-  unfolding restItems
-  items-start = rw (number-none {o = ordinal.Nothing} refl) (rest-start (itemOrdinal h) byNumber g (itemMap h xs) (itemMap h ys))
+  pub items_start : rest_items h g xs ys ordinal.Nothing ≡ between (item_ordinal h) ltb g (item_map h xs) (item_map h ys)
+  unfolding rest_items
+  items_start = rw (number_none {o = ordinal.Nothing} refl) (rest_start (item_ordinal h) by_number g (item_map h xs) (item_map h ys))
 
   module _ (s : List ℕ) (n : Run) (r : Holds h s n xs) (after : Ordinal) {o : Next} (a : ItemFollows h s n after o) where
-    pub items-done : o ≡ next.Nothing → restItems h g xs ys after ≡ []
-    unfolding restItems
-    items-done e = rest-done (itemOrdinal h) byNumber g (itemMap h xs) (itemMap h ys) (numberOf after) (next-none h s n r after a e)
+    pub items_done : o ≡ next.Nothing → rest_items h g xs ys after ≡ []
+    unfolding rest_items
+    items_done e = rest_done (item_ordinal h) by_number g (item_map h xs) (item_map h ys) (number_of after) (next_none h s n r after a e)
 
-    pub items-turn : {k p : ℕ} → o ≡ next.Is k p
-        → restItems h g xs ys after ≡ g (some (itemIn h s p)) (lookup (itemOrdinal h) ltb k (itemMap h ys)) ++ restItems h g xs ys (ordinal.Is k)
-    unfolding restItems
-    items-turn {k} {p} e =
-        rw (number_is {o = ordinal.Is k} refl, ← next-ordinal h s n r after a e)
-        (rest-turn (itemOrdinal h) byNumber g (itemMap h xs) (itemMap h ys) (numberOf after) (itemIn h s p) (items-rising h xs) (next-item h s n r after a e))
+    pub items_turn : {k p : ℕ} → o ≡ next.Is k p
+        → rest_items h g xs ys after ≡ g (some (item_in h s p)) (lookup (item_ordinal h) ltb k (item_map h ys)) ++ rest_items h g xs ys (ordinal.Is k)
+    unfolding rest_items
+    items_turn {k} {p} e =
+        rw (number_is {o = ordinal.Is k} refl, ← next_ordinal h s n r after a e)
+        (rest_turn (item_ordinal h) by_number g (item_map h xs) (item_map h ys) (number_of after) (item_in h s p) (items_rising h xs) (next_item h s n r after a e))
 
-pub items-less : (h : Shape) (xs : List (ItemOf h)) (s : List ℕ) (n : Run) → Holds h s n xs
+pub items_less : (h : Shape) (xs : List (ItemOf h)) (s : List ℕ) (n : Run) → Holds h s n xs
     → (after : Ordinal) {o : Next} → ItemFollows h s n after o
-    → {k p : ℕ} → o ≡ next.Is k p → itemsLeft h xs (ordinal.Is k) < itemsLeft h xs after
-unfolding itemsLeft
-items-less h xs s n r after a {k} {p} e =
-    rw (number_is {o = ordinal.Is k} refl, ← next-ordinal h s n r after a e)
-    (left_less (itemOrdinal h) byNumber (itemMap h xs) (numberOf after) (itemIn h s p) (items-rising h xs) (next-item h s n r after a e))
+    → {k p : ℕ} → o ≡ next.Is k p → items_left h xs (ordinal.Is k) < items_left h xs after
+unfolding items_left
+items_less h xs s n r after a {k} {p} e =
+    rw (number_is {o = ordinal.Is k} refl, ← next_ordinal h s n r after a e)
+    (left_less (item_ordinal h) by_number (item_map h xs) (number_of after) (item_in h s p) (items_rising h xs) (next_item h s n r after a e))

@@ -3,9 +3,9 @@
 ghost use Rattle.std.specs.Prelude.{◌≡◌};
 ghost use Rattle.maps.specs.Orders.{before};
 ghost use Rattle.maps.specs.Walk.{past};
-ghost use Rattle.parts.specs.Promise.{schemaOf, DeclHere, declIn, entryDecl, EntryHere};
-ghost use Rattle.rules.specs.Imports.{standingWith};
-ghost use Rattle.survivors.specs.Answers.{named, Survives, Follows, nearerDecl, namesakeIn, namesCovered};
+ghost use Rattle.parts.specs.Promise.{schema_of, DeclHere, decl_in, entry_decl, EntryHere};
+ghost use Rattle.rules.specs.Imports.{standing_with};
+ghost use Rattle.survivors.specs.Answers.{named, Survives, Follows, nearer_decl, namesake_in, names_covered};
 ghost use Rattle.survivors.specs.Candidates.{Searchable};
 
 use crate::candidates::{candidate, candidate_count};
@@ -16,7 +16,7 @@ use parts::decls::decl_name;
 // The declaration that stands under a name: "The search goes from the end and stops at the first match."
 pub fn survivor(image: &[u8], reached: &[bool], name: &[u8]) -> Entry
     requires { Searchable image.now reached.now }
-    ensures { Survives (standingWith reached.now (schemaOf image.now)) image.now name.now result }
+    ensures { Survives (standing_with reached.now (schema_of image.now)) image.now name.now result }
 {
     let mut i = candidate_count(image, reached);
     'search: loop {
@@ -46,7 +46,7 @@ pub fn survivor(image: &[u8], reached: &[bool], name: &[u8]) -> Entry
 // Whether the name at one place stands before that at another.
 fn is_before(image: &[u8], a: usize, b: usize) -> bool
     requires { DeclHere image.now a × DeclHere image.now b }
-    ensures { result ≡ before (declIn image.now a).name (declIn image.now b).name }
+    ensures { result ≡ before (decl_in image.now a).name (decl_in image.now b).name }
 {
     match compared(decl_name(image, a), decl_name(image, b)) {
         Order::Less => true,
@@ -58,7 +58,7 @@ fn is_before(image: &[u8], a: usize, b: usize) -> bool
 // Whether the name at a place is past that of an entry: every name is past that of none.
 fn is_past(image: &[u8], after: Entry, at: usize) -> bool
     requires { EntryHere image.now after × DeclHere image.now at }
-    ensures { result ≡ past before (named image.now after) (declIn image.now at).name }
+    ensures { result ≡ past before (named image.now after) (decl_in image.now at).name }
 {
     let Entry::Body(bound) = after else {
         return true;
@@ -70,7 +70,7 @@ fn is_past(image: &[u8], after: Entry, at: usize) -> bool
 // one is looked at first: where names are listed as they rise, that alone decides of all that follow it.
 fn is_nearer(image: &[u8], after: Entry, best: Entry, found: Entry) -> bool
     requires { EntryHere image.now after × EntryHere image.now best × EntryHere image.now found }
-    ensures { result ≡ nearerDecl (named image.now after) (entryDecl image.now best) (entryDecl image.now found) }
+    ensures { result ≡ nearer_decl (named image.now after) (entry_decl image.now best) (entry_decl image.now found) }
 {
     let Entry::Body(at) = found else {
         return false;
@@ -88,7 +88,7 @@ fn is_nearer(image: &[u8], after: Entry, best: Entry, found: Entry) -> bool
 // that goes over to a later one of the same name.
 pub fn next_decl(image: &[u8], reached: &[bool], after: Entry) -> Entry
     requires { Searchable image.now reached.now × EntryHere image.now after }
-    ensures { Follows (standingWith reached.now (schemaOf image.now)) image.now after result }
+    ensures { Follows (standing_with reached.now (schema_of image.now)) image.now after result }
 {
     let n = candidate_count(image, reached);
     let mut best = Entry::Unresolvable;
@@ -106,7 +106,7 @@ pub fn next_decl(image: &[u8], reached: &[bool], after: Entry) -> Entry
 // Whether another image has a declaration under the name of an entry, if that is resolvable.
 fn has_namesake(image: &[u8], at: Entry, other: &[u8], other_reached: &[bool]) -> bool
     requires { EntryHere image.now at × Searchable other.now other_reached.now }
-    ensures { result ≡ namesakeIn (standingWith other_reached.now (schemaOf other.now)) (entryDecl image.now at) }
+    ensures { result ≡ namesake_in (standing_with other_reached.now (schema_of other.now)) (entry_decl image.now at) }
 {
     let Entry::Body(body) = at else {
         return true;
@@ -120,7 +120,7 @@ fn has_namesake(image: &[u8], at: Entry, other: &[u8], other_reached: &[bool]) -
 // Whether another image has a declaration under each name of what may stand in an image: far less than a walk by rising name.
 pub fn all_named(image: &[u8], reached: &[bool], other: &[u8], other_reached: &[bool]) -> bool
     requires { Searchable image.now reached.now × Searchable other.now other_reached.now }
-    ensures { result ≡ namesCovered (standingWith other_reached.now (schemaOf other.now)) image.now reached.now }
+    ensures { result ≡ names_covered (standing_with other_reached.now (schema_of other.now)) image.now reached.now }
 {
     let n = candidate_count(image, reached);
     let mut i = 0;

@@ -2,9 +2,9 @@
 // size, so all searches pass from the front.
 ghost use Rattle.std.specs.Prelude.{◌≡◌, ltb};
 ghost use Rattle.maps.specs.Keyed.{lookup};
-ghost use Rattle.maps.specs.Walk.{isSome, past, nearer};
-ghost use Rattle.parts.specs.Promise.{ItemHere, ItemsHere, ordinalIn};
-ghost use Rattle.survivors.specs.Answers.{numberOf, placeMap, ItemSurvives, placeNext, NextHere, ItemFollows};
+ghost use Rattle.maps.specs.Walk.{is_some, past, nearer};
+ghost use Rattle.parts.specs.Promise.{ItemHere, ItemsHere, ordinal_in};
+ghost use Rattle.survivors.specs.Answers.{number_of, place_map, ItemSurvives, place_next, NextHere, ItemFollows};
 
 use crate::{Found, Next, Ordinal};
 use members::items::{item_end, ordinal_at};
@@ -31,7 +31,7 @@ pub fn survivor_item(image: &[u8], shape: Shape, run: Run, ordinal: u32) -> Foun
 // Whether an item stands under an ordinal: it does if any is listed, so the search stops at the first.
 pub fn has_item(image: &[u8], shape: Shape, run: Run, ordinal: u32) -> bool
     requires { ItemsHere shape image.now run.count run.start }
-    ensures { result ≡ isSome (lookup (ordinalIn image.now) ltb ordinal (placeMap shape image.now run)) }
+    ensures { result ≡ is_some (lookup (ordinal_in image.now) ltb ordinal (place_map shape image.now run)) }
 {
     let mut at = run.start;
     let mut left = run.count;
@@ -47,7 +47,7 @@ pub fn has_item(image: &[u8], shape: Shape, run: Run, ordinal: u32) -> bool
 
 // Whether an ordinal is past a bound: every ordinal is past none.
 fn is_past(after: Ordinal, ordinal: u32) -> bool
-    ensures { result ≡ past ltb (numberOf after) ordinal }
+    ensures { result ≡ past ltb (number_of after) ordinal }
 {
     let Ordinal::Is(bound) = after else {
         return true;
@@ -58,7 +58,7 @@ fn is_past(after: Ordinal, ordinal: u32) -> bool
 // Whether the item at a place takes the place of the best one so far: its ordinal is past `after`, and the best one's is not before it.
 fn is_nearer(image: &[u8], shape: Shape, after: Ordinal, best: Next, at: usize) -> bool
     requires { NextHere shape image.now best × ItemHere shape image.now at }
-    ensures { result ≡ nearer (ordinalIn image.now) ltb (numberOf after) (placeNext best) at }
+    ensures { result ≡ nearer (ordinal_in image.now) ltb (number_of after) (place_next best) at }
 {
     let ordinal = ordinal_at(image, at);
     let Next::Is(least, _) = best else {

@@ -5,18 +5,18 @@ use Prim.Native.Nat.{ℕ}
 use Rattle.image.specs.Words.{bytes}
 use Rattle.rules.specs.Text.{joined}
 use Rattle.rules.specs.Report.{line}
-use Rattle.text.proofs.Pieces.{together, together-cons}
+use Rattle.text.proofs.Pieces.{together, together_cons}
 
 -- parts with a `;` between each two and byte 10 after the last
-unfoldable pub linePieces : List (List ℕ) → List (List ℕ)
-linePieces [] = bytes "\n" ∷ []
-linePieces (p ∷ []) = p ∷ bytes "\n" ∷ []
-linePieces (p ∷ q ∷ ps) = p ∷ bytes ";" ∷ linePieces (q ∷ ps)
+unfoldable pub line_pieces : List (List ℕ) → List (List ℕ)
+line_pieces [] = bytes "\n" ∷ []
+line_pieces (p ∷ []) = p ∷ bytes "\n" ∷ []
+line_pieces (p ∷ q ∷ ps) = p ∷ bytes ";" ∷ line_pieces (q ∷ ps)
 
-pub line-pieces : (ps : List (List ℕ)) → line ps ≡ together (linePieces ps)
-unfolding line joined linePieces together
-line-pieces [] = refl
-line-pieces (p ∷ []) = refl
-line-pieces (p ∷ q ∷ ps) =
+pub line_pieces_lem : (ps : List (List ℕ)) → line ps ≡ together (line_pieces ps)
+unfolding line joined line_pieces together
+line_pieces_lem [] = refl
+line_pieces_lem (p ∷ []) = refl
+line_pieces_lem (p ∷ q ∷ ps) =
     append_assoc p (bytes ";" ++ joined (bytes ";") (q ∷ ps)) (bytes "\n")
-    ∙ ap (λ (l : List ℕ). p ++ l) (append_assoc (bytes ";") (joined (bytes ";") (q ∷ ps)) (bytes "\n") ∙ ap (λ (l : List ℕ). bytes ";" ++ l) (line-pieces (q ∷ ps)) ∙ sym (together-cons (bytes ";") (linePieces (q ∷ ps))))
+    ∙ ap (λ (l : List ℕ). p ++ l) (append_assoc (bytes ";") (joined (bytes ";") (q ∷ ps)) (bytes "\n") ∙ ap (λ (l : List ℕ). bytes ";" ++ l) (line_pieces_lem (q ∷ ps)) ∙ sym (together_cons (bytes ";") (line_pieces (q ∷ ps))))

@@ -10,108 +10,108 @@ use lib.Dec.{eqb}
 use lib.ListN.{length, get_or, set, replicate, length-append, length-set, get_or-replicate}
 use lib.Seq.{get_or-set_same, get_or-set_other, ext_get_or}
 use Rattle.maps.specs.Lists.{pass, largest, total, count}
-use Rattle.maps.proofs.Lists.{pass-append, flatMap-append}
-use Rattle.rules.specs.Changes.{kindCount, Change}
-use Rattle.rules.specs.Report.{changeLine}
-use Rattle.rules.specs.Verdict.{bumpOf, countOf}
+use Rattle.maps.proofs.Lists.{pass_append, flat_map_append}
+use Rattle.rules.specs.Changes.{kind_count, Change}
+use Rattle.rules.specs.Report.{change_line}
+use Rattle.rules.specs.Verdict.{bump_of, count_of}
 use Rattle.rules.specs.Answer.{counts}
-use Rattle.rules.proofs.Answer.{counts-at}
-use Rattle.rules.proofs.Texts.{line-some}
-use Rattle.tally.specs.Tallies.{noChange, withChange, tallied, tallyFrom, linesOf, TallyOf, Sound}
+use Rattle.rules.proofs.Answer.{counts_at}
+use Rattle.rules.proofs.Texts.{line_some}
+use Rattle.tally.specs.Tallies.{no_change, with_change, tallied, tally_from, lines_of, TallyOf, Sound}
 use Rattle.tally.specs.declared.Tally.{Tally}
 
-pub tally-append : (t : Tally) (xs ys : List Change) → tallyFrom t (xs ++ ys) ≡ tallyFrom (tallyFrom t xs) ys
-unfolding tallyFrom
-tally-append t xs ys = pass-append tallied t xs ys
+pub tally_append : (t : Tally) (xs ys : List Change) → tally_from t (xs ++ ys) ≡ tally_from (tally_from t xs) ys
+unfolding tally_from
+tally_append t xs ys = pass_append tallied t xs ys
 
-pub lines-append : (xs ys : List Change) → linesOf (xs ++ ys) ≡ linesOf xs ++ linesOf ys
-unfolding linesOf
-lines-append xs ys = flatMap-append changeLine xs ys
+pub lines_append : (xs ys : List Change) → lines_of (xs ++ ys) ≡ lines_of xs ++ lines_of ys
+unfolding lines_of
+lines_append xs ys = flat_map_append change_line xs ys
 
 -- ---- each part of a tally
 
-pub tally-lines : (t : Tally) (cs : List Change) → (tallyFrom t cs).length ≡ t.length + length (linesOf cs)
-unfolding tallyFrom pass tallied withChange linesOf flat_map
-tally-lines t [] = omega arith
-tally-lines t (c ∷ cs) = omega (arith, tally-lines (tallied t c) cs, length-append (changeLine c) (linesOf cs))
+pub tally_lines : (t : Tally) (cs : List Change) → (tally_from t cs).length ≡ t.length + length (lines_of cs)
+unfolding tally_from pass tallied with_change lines_of flat_map
+tally_lines t [] = omega arith
+tally_lines t (c ∷ cs) = omega (arith, tally_lines (tallied t c) cs, length-append (change_line c) (lines_of cs))
 
-tally-changes : (t : Tally) (cs : List Change) → (tallyFrom t cs).changes ≡ t.changes + length cs
-unfolding tallyFrom pass tallied withChange
-tally-changes t [] = omega arith
-tally-changes t (c ∷ cs) = omega (arith, tally-changes (tallied t c) cs)
+tally_changes : (t : Tally) (cs : List Change) → (tally_from t cs).changes ≡ t.changes + length cs
+unfolding tally_from pass tallied with_change
+tally_changes t [] = omega arith
+tally_changes t (c ∷ cs) = omega (arith, tally_changes (tallied t c) cs)
 
-tally-bump : (t : Tally) (cs : List Change) → (tallyFrom t cs).bump.level ≡ max t.bump.level (bumpOf cs)
-unfolding tallyFrom pass tallied withChange bumpOf largest
-tally-bump t [] = omega arith
-tally-bump t (c ∷ cs) = omega (arith, tally-bump (tallied t c) cs)
+tally_bump : (t : Tally) (cs : List Change) → (tally_from t cs).bump.level ≡ max t.bump.level (bump_of cs)
+unfolding tally_from pass tallied with_change bump_of largest
+tally_bump t [] = omega arith
+tally_bump t (c ∷ cs) = omega (arith, tally_bump (tallied t c) cs)
 
-tally-kinds : (t : Tally) (cs : List Change) → length (tallyFrom t cs).counts ≡ length t.counts
-unfolding tallyFrom pass tallied withChange
-tally-kinds t [] = refl
-tally-kinds t (c ∷ cs) = tally-kinds (tallied t c) cs ∙ length-set t.counts c.kind (get_or t.counts c.kind 0 + 1)
+tally_kinds : (t : Tally) (cs : List Change) → length (tally_from t cs).counts ≡ length t.counts
+unfolding tally_from pass tallied with_change
+tally_kinds t [] = refl
+tally_kinds t (c ∷ cs) = tally_kinds (tallied t c) cs ∙ length-set t.counts c.kind (get_or t.counts c.kind 0 + 1)
 
 -- a count more at one place
-set-count : (l : List ℕ) (i k : ℕ) → k < length l → get_or (set l i (get_or l i 0 + 1)) k 0 ≡ get_or l k 0 + cond (eqb i k) 1 0
-set-count l i k h = go (eqb i k) refl
+set_count : (l : List ℕ) (i k : ℕ) → k < length l → get_or (set l i (get_or l i 0 + 1)) k 0 ≡ get_or l k 0 + cond (eqb i k) 1 0
+set_count l i k h = go (eqb i k) refl
   where
     go : (b : Bool) → eqb i k ≡ b → get_or (set l i (get_or l i 0 + 1)) k 0 ≡ get_or l k 0 + cond b 1 0
     go true e = let p : i ≡ k = eqb-true i k e in rw p (get_or-set_same l k (get_or l k 0 + 1) 0 h)
     go false e = get_or-set_other l i k (get_or l i 0 + 1) 0 (λ p. eqb-false i k e (sym p)) ∙ omega arith
 
-tally-count : (t : Tally) (cs : List Change) (k : ℕ) → k < length t.counts → get_or (tallyFrom t cs).counts k 0 ≡ get_or t.counts k 0 + countOf k cs
-unfolding tallyFrom pass tallied withChange countOf count total
-tally-count t [] k h = omega arith
-tally-count t (c ∷ cs) k h =
+tally_count : (t : Tally) (cs : List Change) (k : ℕ) → k < length t.counts → get_or (tally_from t cs).counts k 0 ≡ get_or t.counts k 0 + count_of k cs
+unfolding tally_from pass tallied with_change count_of count total
+tally_count t [] k h = omega arith
+tally_count t (c ∷ cs) k h =
     omega (
       arith,
-      tally-count (tallied t c) cs k (rw length-set h),
-      set-count t.counts c.kind k h,
+      tally_count (tallied t c) cs k (rw length-set h),
+      set_count t.counts c.kind k h,
     )
 
-counts-length : (n from : ℕ) (cs : List Change) → length (counts n from cs) ≡ n
+counts_length : (n from : ℕ) (cs : List Change) → length (counts n from cs) ≡ n
 unfolding counts
-counts-length zero from cs = refl
-counts-length (suc n) from cs = ap suc (counts-length n (suc from) cs)
+counts_length zero from cs = refl
+counts_length (suc n) from cs = ap suc (counts_length n (suc from) cs)
 
 -- ---- the tally of a list
 
-pub tally-of : (cs : List Change) → TallyOf cs (tallyFrom noChange cs)
-unfolding noChange
-tally-of cs = record {
-  kinds = ext_get_or 0 (tallyFrom noChange cs).counts (counts kindCount 0 cs) (tally-kinds noChange cs ∙ sym (counts-length kindCount 0 cs))
+pub tally_of : (cs : List Change) → TallyOf cs (tally_from no_change cs)
+unfolding no_change
+tally_of cs = record {
+  kinds = ext_get_or 0 (tally_from no_change cs).counts (counts kind_count 0 cs) (tally_kinds no_change cs ∙ sym (counts_length kind_count 0 cs))
       (λ k h.
-      let below : k < kindCount = omega (arith, tally-kinds noChange cs) in
-      tally-count noChange cs k below
-      ∙ omega (arith, get_or-replicate {A = ℕ} kindCount k 0 0 below, counts-at kindCount 0 k cs below, ap (λ (i : ℕ). countOf i cs) (zero-add k)));
-  bump = omega (arith, tally-bump noChange cs);
-  lines = omega (arith, tally-lines noChange cs);
-  changes = omega (arith, tally-changes noChange cs);
+      let below : k < kind_count = omega (arith, tally_kinds no_change cs) in
+      tally_count no_change cs k below
+      ∙ omega (arith, get_or-replicate {A = ℕ} kind_count k 0 0 below, counts_at kind_count 0 k cs below, ap (λ (i : ℕ). count_of i cs) (zero-add k)));
+  bump = omega (arith, tally_bump no_change cs);
+  lines = omega (arith, tally_lines no_change cs);
+  changes = omega (arith, tally_changes no_change cs);
 }
 
 -- ---- sound tallies
 
-pub none-sound : Sound noChange
-unfolding noChange
-none-sound = record { each = λ k. zeros kindCount k; few = omega arith }
+pub none_sound : Sound no_change
+unfolding no_change
+none_sound = record { each = λ k. zeros kind_count k; few = omega arith }
   where
     zeros : (n k : ℕ) → get_or {A = ℕ} (replicate n 0) k 0 ≤ 0
     zeros zero k = omega arith
     zeros (suc n) zero = omega arith
     zeros (suc n) (suc k) = zeros n k
 
-set-le : (l : List ℕ) (i v b : ℕ) → ((k : ℕ) → get_or l k 0 ≤ b) → v ≤ b → (k : ℕ) → get_or (set l i v) k 0 ≤ b
-set-le [] i v b h p k = h k
-set-le (x ∷ l) zero v b h p zero = p
-set-le (x ∷ l) zero v b h p (suc k) = h (suc k)
-set-le (x ∷ l) (suc i) v b h p zero = h zero
-set-le (x ∷ l) (suc i) v b h p (suc k) = set-le l i v b (λ j. h (suc j)) p k
+set_le : (l : List ℕ) (i v b : ℕ) → ((k : ℕ) → get_or l k 0 ≤ b) → v ≤ b → (k : ℕ) → get_or (set l i v) k 0 ≤ b
+set_le [] i v b h p k = h k
+set_le (x ∷ l) zero v b h p zero = p
+set_le (x ∷ l) zero v b h p (suc k) = h (suc k)
+set_le (x ∷ l) (suc i) v b h p zero = h zero
+set_le (x ∷ l) (suc i) v b h p (suc k) = set_le l i v b (λ j. h (suc j)) p k
 
-pub tally-sound : (t : Tally) (cs : List Change) → Sound t → Sound (tallyFrom t cs)
-unfolding tallyFrom pass tallied withChange
-tally-sound t [] s = s
-tally-sound t (c ∷ cs) s =
-    tally-sound (tallied t c) cs
+pub tally_sound : (t : Tally) (cs : List Change) → Sound t → Sound (tally_from t cs)
+unfolding tally_from pass tallied with_change
+tally_sound t [] s = s
+tally_sound t (c ∷ cs) s =
+    tally_sound (tallied t c) cs
     record {
-      each = set-le t.counts c.kind (get_or t.counts c.kind 0 + 1) (t.changes + 1) (λ k. omega (arith, s.each k)) (omega (arith, s.each c.kind));
-      few = omega (arith, s.few, line-some c);
+      each = set_le t.counts c.kind (get_or t.counts c.kind 0 + 1) (t.changes + 1) (λ k. omega (arith, s.each k)) (omega (arith, s.each c.kind));
+      few = omega (arith, s.few, line_some c);
     }

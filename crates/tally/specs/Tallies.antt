@@ -2,19 +2,19 @@
 use Rattle.std.specs.Prelude.{◌≡◌, ℕ, ◌+◌, ◌^◌, ◌≤◌, ◌<◌, max, length, get_or, set, replicate}
 use mathlib.Core.List.{List, flat_map}
 use Rattle.maps.specs.Lists.{pass}
-use Rattle.rules.specs.Changes.{level, kindCount, Change}
-use Rattle.rules.specs.Report.{changeLine}
-use Rattle.rules.specs.Verdict.{bumpOf}
+use Rattle.rules.specs.Changes.{level, kind_count, Change}
+use Rattle.rules.specs.Report.{change_line}
+use Rattle.rules.specs.Verdict.{bump_of}
 use Rattle.rules.specs.Answer.{counts}
 use Rattle.tally.specs.declared.Tally.{Tally}
 
 -- of no change
-unfoldable pub noChange : Tally
-noChange = record { counts = replicate kindCount 0; bump = record { level = 0 }; length = 0; changes = 0 }
+unfoldable pub no_change : Tally
+no_change = record { counts = replicate kind_count 0; bump = record { level = 0 }; length = 0; changes = 0 }
 
 -- with a change more, of a kind and a level, whose line has n bytes
-unfoldable pub withChange : Tally → ℕ → ℕ → ℕ → Tally
-withChange t kind l n = record {
+unfoldable pub with_change : Tally → ℕ → ℕ → ℕ → Tally
+with_change t kind l n = record {
   counts = set t.counts kind (get_or t.counts kind 0 + 1);
   bump = record { level = max t.bump.level l };
   length = t.length + n;
@@ -22,21 +22,21 @@ withChange t kind l n = record {
 }
 
 unfoldable pub tallied : Tally → Change → Tally
-tallied t c = withChange t c.kind (level c.bump) (length (changeLine c))
+tallied t c = with_change t c.kind (level c.bump) (length (change_line c))
 
 -- with the changes cs more
-unfoldable pub tallyFrom : Tally → List Change → Tally
-tallyFrom t cs = pass tallied t cs
+unfoldable pub tally_from : Tally → List Change → Tally
+tally_from t cs = pass tallied t cs
 
 -- the lines of changes
-unfoldable pub linesOf : List Change → List ℕ
-linesOf cs = flat_map changeLine cs
+unfoldable pub lines_of : List Change → List ℕ
+lines_of cs = flat_map change_line cs
 
 -- a tally is that of the changes cs
 pub record TallyOf (cs : List Change) (t : Tally) : Type 0 where
-  pub kinds : t.counts ≡ counts kindCount 0 cs
-  pub bump : t.bump.level ≡ bumpOf cs
-  pub lines : t.length ≡ length (linesOf cs)
+  pub kinds : t.counts ≡ counts kind_count 0 cs
+  pub bump : t.bump.level ≡ bump_of cs
+  pub lines : t.length ≡ length (lines_of cs)
   pub changes : t.changes ≡ length cs
 
 -- no count is above the number of changes, and each change has a byte or more
@@ -47,5 +47,5 @@ pub record Sound (t : Tally) : Type 0 where
 -- what is asked before a change is counted
 pub record Countable (t : Tally) (kind n : ℕ) : Type 0 where
   pub sound : Sound t
-  pub known : kind < kindCount
+  pub known : kind < kind_count
   pub small : t.length + n < 2 ^ 62

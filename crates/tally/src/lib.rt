@@ -2,8 +2,8 @@
 #![tactic(auto)]
 
 ghost use Rattle.std.specs.Prelude.{◌≡◌, max};
-ghost use Rattle.rules.specs.Verdict.{resultAt};
-ghost use Rattle.tally.specs.Tallies.{Countable, noChange, withChange};
+ghost use Rattle.rules.specs.Verdict.{result_at};
+ghost use Rattle.tally.specs.Tallies.{Countable, no_change, with_change};
 
 // How many kinds are counted.
 pub const KINDS: usize = 19;
@@ -34,7 +34,7 @@ impl Bump {
 
     // "the result (Breaking exactly at Major)": Breaking 1, Compatible 0, also the places of their words.
     pub fn result(self) -> usize
-        ensures { result ≡ resultAt self.level }
+        ensures { result ≡ result_at self.level }
     {
         if self.level == 2 {
             return 1;
@@ -55,7 +55,7 @@ pub struct Tally {
 impl Tally {
     // Of no change.
     pub fn empty() -> Tally
-        ensures { result ≡ noChange }
+        ensures { result ≡ no_change }
     {
         Tally {
             counts: [0u64; KINDS],
@@ -68,7 +68,7 @@ impl Tally {
     // With a change more, whose line has n bytes.
     pub fn with_change(self, kind: usize, bump: Bump, n: usize) -> Tally
         requires { Countable self kind n }
-        ensures { result ≡ withChange self kind bump.level n }
+        ensures { result ≡ with_change self kind bump.level n }
     {
         let mut counts = self.counts;
         counts[kind] += 1;

@@ -6,7 +6,7 @@ use native.Mathlib.Nat.{zero-add}
 use native.Mathlib.Omega.{arith}
 use lib.ListN.{length, take, drop, length-drop, drop_of_length-le, take-append-drop}
 use lib.Seq.{take_all, drop-drop}
-use Rattle.text.specs.Text.{put, putIn, Room, Space, Puts, startIn}
+use Rattle.text.specs.Text.{put, put_in, Room, Space, Puts, start_in}
 use Rattle.text.specs.declared.Mode.{Mode}
 use Rattle.text.specs.declared.Mode.TheVariants.{Measure, Write}
 
@@ -14,40 +14,40 @@ use Rattle.text.specs.declared.Mode.TheVariants.{Measure, Write}
 abbrev pub part : List ℕ → ℕ → List ℕ
 part d a = take (length d - a) (drop a d)
 
-abbrev pub withPart : List ℕ → ℕ → List ℕ → List ℕ
-withPart d a ys = take a d ++ (ys ++ drop (length d - a) (drop a d))
+abbrev pub with_part : List ℕ → ℕ → List ℕ → List ℕ
+with_part d a ys = take a d ++ (ys ++ drop (length d - a) (drop a d))
 
-part-drop : (d : List ℕ) (a : ℕ) → part d a ≡ drop a d
-part-drop d a = take_all (length d - a) (drop a d) (rw length-drop (omega arith))
+part_drop : (d : List ℕ) (a : ℕ) → part d a ≡ drop a d
+part_drop d a = take_all (length d - a) (drop a d) (rw length-drop (omega arith))
 
-with_part : (d : List ℕ) (a : ℕ) (ys : List ℕ) → withPart d a ys ≡ take a d ++ ys
-with_part d a ys = rw (drop_of_length-le (drop a d) {i = length d - a} (rw length-drop (omega arith)), append-nil ys)
+with_part_lem : (d : List ℕ) (a : ℕ) (ys : List ℕ) → with_part d a ys ≡ take a d ++ ys
+with_part_lem d a ys = rw (drop_of_length-le (drop a d) {i = length d - a} (rw length-drop (omega arith)), append-nil ys)
 
 -- What is known of the part from a on, where the text xs is to be written at `at`: writing from the part's start is writing into the
 -- whole at `at`.
 pub record Lent (m : Mode) (d : List ℕ) (at : ℕ) (xs : List ℕ) (a : ℕ) : Type 0 where
   pub within : a ≤ length d
   pub space : Space m (part d a) 0 (length xs)
-  pub whole : {n : ℕ} {ys : List ℕ} → Puts m (part d a) 0 xs n ys → Puts m d at xs (at + n) (withPart d a ys)
+  pub whole : {n : ℕ} {ys : List ℕ} → Puts m (part d a) 0 xs n ys → Puts m d at xs (at + n) (with_part d a ys)
 
-by_mode : (m : Mode) (d : List ℕ) (at : ℕ) (xs : List ℕ) (a : ℕ) → Space m d at (length xs) → a ≡ startIn m at → Lent m d at xs a
-unfolding startIn putIn put Room
+by_mode : (m : Mode) (d : List ℕ) (at : ℕ) (xs : List ℕ) (a : ℕ) → Space m d at (length xs) → a ≡ start_in m at → Lent m d at xs a
+unfolding start_in put_in put Room
 by_mode Measure d at xs a s e = record {
   within = omega arith;
   space = record { small = omega (arith, s.small); room = tt };
   whole = λ {n} {ys} p. record {
     end = omega (arith, p.end);
-    bytes = with_part d a ys ∙ ap (λ (l : List ℕ). take a d ++ l) (p.bytes ∙ part-drop d a) ∙ take-append-drop a d;
+    bytes = with_part_lem d a ys ∙ ap (λ (l : List ℕ). take a d ++ l) (p.bytes ∙ part_drop d a) ∙ take-append-drop a d;
   };
 }
 by_mode Write d at xs a s e = record {
   within = omega (arith, s.room);
-  space = record { small = omega (arith, s.small); room = rw (part-drop d a, length-drop) (omega (arith, s.room)) };
+  space = record { small = omega (arith, s.small); room = rw (part_drop d a, length-drop) (omega (arith, s.room)) };
   whole = λ {n} {ys} p. record {
     end = omega (arith, p.end);
-    bytes = with_part d a ys ∙ rw (p.bytes, part-drop d a, zero-add (length xs), drop-drop (length xs) a d, e);
+    bytes = with_part_lem d a ys ∙ rw (p.bytes, part_drop d a, zero-add (length xs), drop-drop (length xs) a d, e);
   };
 }
 
-pub lent : {m : Mode} {d : List ℕ} {at : ℕ} (xs : List ℕ) {a : ℕ} → Space m d at (length xs) → a ≡ startIn m at → Lent m d at xs a
+pub lent : {m : Mode} {d : List ℕ} {at : ℕ} (xs : List ℕ) {a : ℕ} → Space m d at (length xs) → a ≡ start_in m at → Lent m d at xs a
 lent {m} {d} {at} xs {a} s e = by_mode m d at xs a s e

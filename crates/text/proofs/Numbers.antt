@@ -13,13 +13,13 @@ use lib.Pow.{pow-add}
 use lib.Seq.{take_all}
 use Rattle.text.specs.Decimal.{digits, decimal, Spelled}
 
-drop-set : (l : List ℕ) (j v : ℕ) → j < length l → drop j (set l j v) ≡ v ∷ drop (suc j) l
-drop-set [] j v h = absurd (not-suc-le-zero h)
-drop-set (x ∷ xs) zero v h = refl
-drop-set (x ∷ xs) (suc j) v h = drop-set xs j v (le_of_suc-le-suc h)
+drop_set : (l : List ℕ) (j v : ℕ) → j < length l → drop j (set l j v) ≡ v ∷ drop (suc j) l
+drop_set [] j v h = absurd (not-suc-le-zero h)
+drop_set (x ∷ xs) zero v h = refl
+drop_set (x ∷ xs) (suc j) v h = drop_set xs j v (le_of_suc-le-suc h)
 
-ten-more : (j : ℕ) → 10 ^ suc j ≡ 10 ^ j * 10
-ten-more j = ap (λ (k : ℕ). 10 ^ k) (sym (add-one j)) ∙ pow-add 10 j 1
+ten_more : (j : ℕ) → 10 ^ suc j ≡ 10 ^ j * 10
+ten_more j = ap (λ (k : ℕ). 10 ^ k) (sym (add-one j)) ∙ pow-add 10 j 1
 
 -- the digits of what is left, in front of those that stand from i on, are x
 pub record Spells (x : List ℕ) (bytes : List ℕ) (i left : ℕ) : Type 0 where
@@ -28,39 +28,39 @@ pub record Spells (x : List ℕ) (bytes : List ℕ) (i left : ℕ) : Type 0 wher
   pub below : left < 10 ^ i
   pub rest : digits i left ++ drop i bytes ≡ x
 
-pub spells-turn : (x bytes : List ℕ) (i left : ℕ) → 10 ≤ left → Spells x bytes i left → Spells x (set bytes (i - 1) (48 + left % 10)) (i - 1) (left / 10)
+pub spells_turn : (x bytes : List ℕ) (i left : ℕ) → 10 ≤ left → Spells x bytes i left → Spells x (set bytes (i - 1) (48 + left % 10)) (i - 1) (left / 10)
 unfolding digits
-spells-turn x bytes zero left h s = absurd (not-suc-le-zero s.some)
-spells-turn x bytes (suc zero) left h s = absurd (omega (arith, s.below))
-spells-turn x bytes (suc (suc j)) left h s =
+spells_turn x bytes zero left h s = absurd (not-suc-le-zero s.some)
+spells_turn x bytes (suc zero) left h s = absurd (omega (arith, s.below))
+spells_turn x bytes (suc (suc j)) left h s =
     let e : suc (suc j) - 1 ≡ suc j = omega arith in
     rw e record {
       some = omega arith;
       within = simp length-set (omega arith);
-      below = omega (arith, s.below, ten-more (suc j));
-      rest = rw (drop-set bytes (suc j) (48 + left % 10) s.within) (rw (le-ltb left 10 h, append_assoc (digits (suc j) (left / 10))) at s.rest);
+      below = omega (arith, s.below, ten_more (suc j));
+      rest = rw (drop_set bytes (suc j) (48 + left % 10) s.within) (rw (le-ltb left 10 h, append_assoc (digits (suc j) (left / 10))) at s.rest);
     }
 
-pub spells-last : (x bytes : List ℕ) (i left : ℕ) → left < 10 → Spells x bytes i left → drop (i - 1) (set bytes (i - 1) (48 + left)) ≡ x
+pub spells_last : (x bytes : List ℕ) (i left : ℕ) → left < 10 → Spells x bytes i left → drop (i - 1) (set bytes (i - 1) (48 + left)) ≡ x
 unfolding digits
-spells-last x bytes zero left h s = absurd (not-suc-le-zero s.some)
-spells-last x bytes (suc j) left h s =
+spells_last x bytes zero left h s = absurd (not-suc-le-zero s.some)
+spells_last x bytes (suc j) left h s =
     let e : suc j - 1 ≡ j = omega arith in
-    rw (e, drop-set bytes j (48 + left) s.within) (rw (lt-ltb left 10 h) at s.rest)
+    rw (e, drop_set bytes j (48 + left) s.within) (rw (lt-ltb left 10 h) at s.rest)
 
-pub spelled-part : (n : ℕ) (bytes : List ℕ) (from : ℕ) → Spelled n bytes from → take (20 - from) (drop from bytes) ≡ decimal n
-spelled-part n bytes from s = take_all (20 - from) (drop from bytes) (rw length-drop (omega arith)) ∙ s.are
+pub spelled_part : (n : ℕ) (bytes : List ℕ) (from : ℕ) → Spelled n bytes from → take (20 - from) (drop from bytes) ≡ decimal n
+spelled_part n bytes from s = take_all (20 - from) (drop from bytes) (rw length-drop (omega arith)) ∙ s.are
 
 -- how many digits there are
-digits-length : (d n : ℕ) → length (digits d n) ≤ d
+digits_length : (d n : ℕ) → length (digits d n) ≤ d
 unfolding digits
-digits-length zero n = omega arith
-digits-length (suc d) n = go (ltb n 10) (digits-length d (n / 10))
+digits_length zero n = omega arith
+digits_length (suc d) n = go (ltb n 10) (digits_length d (n / 10))
   where
     go : (a : Bool) → length (digits d (n / 10)) ≤ d → length (cond a ((48 + n) ∷ []) (digits d (n / 10) ++ ((48 + n % 10) ∷ []))) ≤ suc d
     go true h = omega arith
     go false h = omega (arith, length-append (digits d (n / 10)) ((48 + n % 10) ∷ []))
 
-pub decimal-length : (n : ℕ) → length (decimal n) ≤ 20
+pub decimal_length : (n : ℕ) → length (decimal n) ≤ 20
 unfolding decimal
-decimal-length n = digits-length 20 n
+decimal_length n = digits_length 20 n

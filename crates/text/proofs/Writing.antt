@@ -6,26 +6,26 @@ use native.Mathlib.Nat.{add_assoc, zero-add, le_refl}
 use native.Mathlib.Omega.{arith}
 use lib.ListN.{length, take, drop, length-append}
 use lib.Seq.{length-take-le, take-length, take_at, drop_at, drop-drop, paste, length-paste, paste-zero}
-use Rattle.text.specs.Text.{put, putIn, Room, Space, Puts}
+use Rattle.text.specs.Text.{put, put_in, Room, Space, Puts}
 use Rattle.text.specs.declared.Mode.{Mode}
 use Rattle.text.specs.declared.Mode.TheVariants.{Measure, Write}
 
 -- ---- text at a place
 
 -- a copy of all is the text in its place
-pub paste-put : (d : List ℕ) (at : ℕ) (xs : List ℕ) → paste d at xs (length xs) ≡ put d at xs
+pub paste_put : (d : List ℕ) (at : ℕ) (xs : List ℕ) → paste d at xs (length xs) ≡ put d at xs
 unfolding put
-paste-put d at xs = rw (take-length, append_assoc)
+paste_put d at xs = rw (take-length, append_assoc)
 
-put-length : (d : List ℕ) (at : ℕ) (xs : List ℕ) → at + length xs ≤ length d → length (put d at xs) ≡ length d
-put-length d at xs h = rw (← paste-put d at xs) (length-paste d at xs (length xs) h (le_refl (length xs)))
+put_length : (d : List ℕ) (at : ℕ) (xs : List ℕ) → at + length xs ≤ length d → length (put d at xs) ≡ length d
+put_length d at xs h = rw (← paste_put d at xs) (length-paste d at xs (length xs) h (le_refl (length xs)))
 
-put-nil : (d : List ℕ) (at : ℕ) → put d at [] ≡ d
-put-nil d at = sym (paste-zero d at [] ∙ paste-put d at [])
+put_nil : (d : List ℕ) (at : ℕ) → put d at [] ≡ d
+put_nil d at = sym (paste-zero d at [] ∙ paste_put d at [])
 
-put-put : (d : List ℕ) (at : ℕ) (xs ys : List ℕ) → at ≤ length d → put (put d at xs) (at + length xs) ys ≡ put d at (xs ++ ys)
+put_put : (d : List ℕ) (at : ℕ) (xs ys : List ℕ) → at ≤ length d → put (put d at xs) (at + length xs) ys ≡ put d at (xs ++ ys)
 unfolding put
-put-put d at xs ys h =
+put_put d at xs ys h =
     let n : length (take at d ++ xs) ≡ at + length xs = length-append (take at d) xs ∙ ap (λ (k : ℕ). k + length xs) (length-take-le at d h) in
     let rest : List ℕ = drop (at + length xs) d in
     let front : take (at + length xs) ((take at d ++ xs) ++ rest) ≡ take at d ++ xs = take_at (take at d ++ xs) rest (at + length xs) n in
@@ -38,42 +38,42 @@ put-put d at xs ys h =
 
 -- ---- by the mode
 
-pub in-length : (m : Mode) (d : List ℕ) (at : ℕ) (xs : List ℕ) → Room m d (at + length xs) → length (putIn m d at xs) ≡ length d
-unfolding putIn Room
-in-length Measure d at xs r = refl
-in-length Write d at xs r = put-length d at xs r
+pub in_length : (m : Mode) (d : List ℕ) (at : ℕ) (xs : List ℕ) → Room m d (at + length xs) → length (put_in m d at xs) ≡ length d
+unfolding put_in Room
+in_length Measure d at xs r = refl
+in_length Write d at xs r = put_length d at xs r
 
-pub in-nil : (m : Mode) (d : List ℕ) (at : ℕ) → putIn m d at [] ≡ d
-unfolding putIn
-in-nil Measure d at = refl
-in-nil Write d at = put-nil d at
+pub in_nil : (m : Mode) (d : List ℕ) (at : ℕ) → put_in m d at [] ≡ d
+unfolding put_in
+in_nil Measure d at = refl
+in_nil Write d at = put_nil d at
 
 -- text after text is the two as one
-pub in-in : (m : Mode) (d : List ℕ) (at : ℕ) (xs ys : List ℕ) → Room m d (at + length xs) → putIn m (putIn m d at xs) (at + length xs) ys ≡ putIn m d at (xs ++ ys)
-unfolding putIn Room
-in-in Measure d at xs ys r = refl
-in-in Write d at xs ys r = put-put d at xs ys (omega arith)
+pub in_in : (m : Mode) (d : List ℕ) (at : ℕ) (xs ys : List ℕ) → Room m d (at + length xs) → put_in m (put_in m d at xs) (at + length xs) ys ≡ put_in m d at (xs ++ ys)
+unfolding put_in Room
+in_in Measure d at xs ys r = refl
+in_in Write d at xs ys r = put_put d at xs ys (omega arith)
 
-pub room-le : (m : Mode) (d d' : List ℕ) {n n' : ℕ} → length d' ≡ length d → n' ≤ n → Room m d n → Room m d' n'
+pub room_le : (m : Mode) (d d' : List ℕ) {n n' : ℕ} → length d' ≡ length d → n' ≤ n → Room m d n → Room m d' n'
 unfolding Room
-room-le Measure d d' e h r = tt
-room-le Write d d' e h r = omega arith
+room_le Measure d d' e h r = tt
+room_le Write d d' e h r = omega arith
 
 -- ---- spaces, and answers in each mode
 
-pub space-measure : {d : List ℕ} {at n : ℕ} → at + n < 2 ^ 62 → Space Measure d at n
+pub space_measure : {d : List ℕ} {at n : ℕ} → at + n < 2 ^ 62 → Space Measure d at n
 unfolding Room
-space-measure h = record { small = h; room = tt }
+space_measure h = record { small = h; room = tt }
 
-pub space-write : {d : List ℕ} {at n : ℕ} → at + n < 2 ^ 62 → at + n ≤ length d → Space Write d at n
+pub space_write : {d : List ℕ} {at n : ℕ} → at + n < 2 ^ 62 → at + n ≤ length d → Space Write d at n
 unfolding Room
-space-write h r = record { small = h; room = r }
+space_write h r = record { small = h; room = r }
 
 -- from the start of a buffer
-pub puts-written : {d : List ℕ} {xs : List ℕ} {r : ℕ} {d' : List ℕ} → Puts Write d 0 xs r d' → d' ≡ xs ++ drop (length xs) d
-unfolding putIn put
-puts-written {d} {xs} p = p.bytes ∙ ap (λ (k : ℕ). xs ++ drop k d) (zero-add (length xs))
+pub puts_written : {d : List ℕ} {xs : List ℕ} {r : ℕ} {d' : List ℕ} → Puts Write d 0 xs r d' → d' ≡ xs ++ drop (length xs) d
+unfolding put_in put
+puts_written {d} {xs} p = p.bytes ∙ ap (λ (k : ℕ). xs ++ drop k d) (zero-add (length xs))
 
 -- a writer keeps the buffer's length
-pub puts-length : {m : Mode} {d : List ℕ} {at : ℕ} (xs : List ℕ) {r : ℕ} {d' : List ℕ} → Space m d at (length xs) → Puts m d at xs r d' → length d' ≡ length d
-puts-length {m} {d} {at} xs s p = ap length p.bytes ∙ in-length m d at xs s.room
+pub puts_length : {m : Mode} {d : List ℕ} {at : ℕ} (xs : List ℕ) {r : ℕ} {d' : List ℕ} → Space m d at (length xs) → Puts m d at xs r d' → length d' ≡ length d
+puts_length {m} {d} {at} xs s p = ap length p.bytes ∙ in_length m d at xs s.room

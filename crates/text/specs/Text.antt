@@ -8,9 +8,9 @@ unfoldable pub put : List ℕ → ℕ → List ℕ → List ℕ
 put d at xs = take at d ++ (xs ++ drop (at + length xs) d)
 
 -- a buffer after xs: nothing is written where text is only measured
-unfoldable pub putIn : Mode → List ℕ → ℕ → List ℕ → List ℕ
-putIn Measure d at xs = d
-putIn Write d at xs = put d at xs
+unfoldable pub put_in : Mode → List ℕ → ℕ → List ℕ → List ℕ
+put_in Measure d at xs = d
+put_in Write d at xs = put d at xs
 
 -- a buffer has n bytes, where text is to be written into it
 unfoldable pub Room : Mode → List ℕ → ℕ → Type 0
@@ -25,9 +25,9 @@ pub record Space (mode : Mode) (d : List ℕ) (at n : ℕ) : Type 0 where
 -- what a writer of xs answers: the place after it, and the buffer
 pub record Puts (mode : Mode) (d : List ℕ) (at : ℕ) (xs : List ℕ) (r : ℕ) (d' : List ℕ) : Type 0 where
   pub end : r ≡ at + length xs
-  pub bytes : d' ≡ putIn mode d at xs
+  pub bytes : d' ≡ put_in mode d at xs
 
 -- where the part of a buffer starts that a writer at a place is lent: what only measures is lent the whole
-unfoldable pub startIn : Mode → ℕ → ℕ
-startIn Measure at = 0
-startIn Write at = at
+unfoldable pub start_in : Mode → ℕ → ℕ
+start_in Measure at = 0
+start_in Write at = at

@@ -3,7 +3,7 @@
 
 ghost use Rattle.std.specs.Prelude.{◌≡◌, [], ◌∷◌, ◌+◌, ◌≤◌, length};
 ghost use Rattle.text.specs.Decimal.{decimal, Spelled};
-ghost use Rattle.text.specs.Text.{put, Space, Puts, startIn};
+ghost use Rattle.text.specs.Text.{put, Space, Puts, start_in};
 
 // Whether text is only measured, or written too.
 #[derive(Clone, Copy)]
@@ -87,7 +87,7 @@ pub fn put_number(mode: Mode, out: &mut [u8], at: usize, n: u64) -> usize
 
 // Where the part of a buffer starts that a writer at a place is lent: what only measures is lent the whole.
 pub fn start_in(mode: Mode, at: usize) -> usize
-    ensures { result ≡ startIn mode at }
+    ensures { result ≡ start_in mode at }
 {
     match mode {
         Mode::Measure => 0,

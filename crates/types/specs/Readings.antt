@@ -1,17 +1,17 @@
 -- How two images are read, by the code's word for it. Assumes nothing.
 use Rattle.std.specs.Prelude.{Bool, true, false}
 use Rattle.rules.specs.Clauses.{Reading as Definition}
-use Rattle.rules.specs.Answer.{plainReading}
-use Rattle.rules.specs.Mended.{mendedReading}
+use Rattle.rules.specs.Answer.{plain_reading}
+use Rattle.rules.specs.Mended.{mended_reading}
 use Rattle.types.specs.declared.Reading.{Reading}
 use Rattle.types.specs.declared.Reading.TheVariants.{Plain, Mended}
 
 -- plain: as document 01 says; mended: as R-5 and R-6 do
-unfoldable pub readingOf : Reading → Definition
-readingOf Plain = plainReading
-readingOf Mended = mendedReading
+unfoldable pub reading_of : Reading → Definition
+reading_of Plain = plain_reading
+reading_of Mended = mended_reading
 
 -- whether types that are alike are read as equal
-unfoldable pub readsAlike : Reading → Bool
-readsAlike Plain = false
-readsAlike Mended = true
+unfoldable pub reads_alike : Reading → Bool
+reads_alike Plain = false
+reads_alike Mended = true

@@ -1,13 +1,13 @@
 // How alike two types are, each at its place in its own image, and whether they are read as equal.
 ghost use Rattle.std.specs.Prelude.{◌≡◌};
-ghost use Rattle.parts.specs.Codes.{number, subByteTag};
-ghost use Rattle.parts.specs.Promise.{Accepted, LabelHere, labelIn, TypeHere};
-ghost use Rattle.rules.specs.Equal.{sameNames};
-ghost use Rattle.rules.specs.Types.{sameLabel};
+ghost use Rattle.parts.specs.Codes.{number, sub_byte_tag};
+ghost use Rattle.parts.specs.Promise.{Accepted, LabelHere, label_in, TypeHere};
+ghost use Rattle.rules.specs.Equal.{same_names};
+ghost use Rattle.rules.specs.Types.{same_label};
 ghost use Rattle.rules.specs.Mended.{likeness};
-ghost use Rattle.types.specs.Resolved.{namedBy, nodeIn, typeIn};
-ghost use Rattle.types.specs.Likeness.{sameCodes, likenessOf, After, ComparedAt};
-ghost use Rattle.types.specs.Readings.{readsAlike, readingOf};
+ghost use Rattle.types.specs.Resolved.{named_by, node_in, type_in};
+ghost use Rattle.types.specs.Likeness.{same_codes, likeness_of, After, ComparedAt};
+ghost use Rattle.types.specs.Readings.{reads_alike, reading_of};
 
 use crate::Reading;
 use crate::likeness::{Likeness, joined, of_tag, read_as};
@@ -30,7 +30,7 @@ struct Compared {
 // Whether two ids stand for the same name, each in its own registry; two that are unresolvable are equal too.
 fn named_equal(a: &[u8], old: u32, b: &[u8], new: u32) -> bool
     requires { Accepted a.now × Accepted b.now }
-    ensures { result ≡ sameNames (namedBy a.now old) (namedBy b.now new) }
+    ensures { result ≡ same_names (named_by a.now old) (named_by b.now new) }
 {
     let Entry::Body(i) = entry(a, old) else {
         let Entry::Unresolvable = entry(b, new) else {
@@ -46,8 +46,8 @@ fn named_equal(a: &[u8], old: u32, b: &[u8], new: u32) -> bool
 
 // Whether two sub-bytes are both signed or both not, and have as many bits.
 fn sub_bytes_equal(a: &[u8], i: usize, b: &[u8], j: usize) -> bool
-    requires { LabelHere a.now i × LabelHere b.now j × ((labelIn a.now i).tag ≡ number subByteTag) × ((labelIn b.now j).tag ≡ number subByteTag) }
-    ensures { result ≡ sameCodes (labelIn a.now i) (labelIn b.now j) }
+    requires { LabelHere a.now i × LabelHere b.now j × ((label_in a.now i).tag ≡ number sub_byte_tag) × ((label_in b.now j).tag ≡ number sub_byte_tag) }
+    ensures { result ≡ same_codes (label_in a.now i) (label_in b.now j) }
 {
     if type_code(a, i) != type_code(b, j) {
         return false;
@@ -58,7 +58,7 @@ fn sub_bytes_equal(a: &[u8], i: usize, b: &[u8], j: usize) -> bool
 // Whether two nodes are the same but for their inner types. Vectors, quaternions and matrices are compared like the others.
 fn labels_equal(a: &[u8], i: usize, b: &[u8], j: usize) -> bool
     requires { Accepted a.now × Accepted b.now × LabelHere a.now i × LabelHere b.now j }
-    ensures { result ≡ sameLabel (nodeIn a.now i) (nodeIn b.now j) }
+    ensures { result ≡ same_label (node_in a.now i) (node_in b.now j) }
 {
     let tag = type_tag(a, i);
     if tag != type_tag(b, j) {
@@ -76,7 +76,7 @@ fn labels_equal(a: &[u8], i: usize, b: &[u8], j: usize) -> bool
 
 // What is compared after something else: both together.
 fn after(before: Likeness, rest: Compared) -> Compared
-    ensures { After (likenessOf before) rest result }
+    ensures { After (likeness_of before) rest result }
 {
     let likeness = rest.likeness;
     Compared {
@@ -128,14 +128,14 @@ fn compare_nodes(a: &[u8], i: usize, b: &[u8], j: usize, left: usize) -> Compare
 // How alike two types are: named types by their names, each from its own registry.
 pub fn types_likeness(a: &[u8], i: usize, b: &[u8], j: usize) -> Likeness
     requires { Accepted a.now × Accepted b.now × TypeHere 32 a.now i × TypeHere 32 b.now j }
-    ensures { likenessOf result ≡ likeness (typeIn a.now i) (typeIn b.now j) }
+    ensures { likeness_of result ≡ likeness (type_in a.now i) (type_in b.now j) }
 {
     compare_nodes(a, i, b, j, 32).likeness
 }
 
 // How the third answer is read. A reading more is a case more.
 fn reads_alike(reading: Reading) -> bool
-    ensures { result ≡ readsAlike reading }
+    ensures { result ≡ reads_alike reading }
 {
     match reading {
         Reading::Plain => false,
@@ -146,7 +146,7 @@ fn reads_alike(reading: Reading) -> bool
 // Whether two types are equal, as they are read.
 pub fn types_equal(reading: Reading, a: &[u8], i: usize, b: &[u8], j: usize) -> bool
     requires { Accepted a.now × Accepted b.now × TypeHere 32 a.now i × TypeHere 32 b.now j }
-    ensures { result ≡ (readingOf reading).same (typeIn a.now i) (typeIn b.now j) }
+    ensures { result ≡ (reading_of reading).same (type_in a.now i) (type_in b.now j) }
 {
     read_as(reads_alike(reading), types_likeness(a, i, b, j))
 }

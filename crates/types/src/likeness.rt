@@ -1,8 +1,8 @@
 // How alike two types are: the three answers of the comparison, of a node, of two parts together, and read as yes or no.
 ghost use Rattle.std.specs.Prelude.{true, ◌≡◌};
 ghost use Rattle.rules.specs.Types.{vector};
-ghost use Rattle.rules.specs.Mended.{alike, likenessBy, readAs};
-ghost use Rattle.types.specs.Likeness.{likenessOf, joint};
+ghost use Rattle.rules.specs.Mended.{alike, likeness_by, read_as};
+ghost use Rattle.types.specs.Likeness.{likeness_of, joint};
 
 use parts::tags::{MAT4, VEC2};
 
@@ -16,7 +16,7 @@ pub enum Likeness {
 
 // Two nodes that are the same but for their inner types, by their tag.
 pub(crate) fn of_tag(tag: u8) -> Likeness
-    ensures { likenessOf result ≡ likenessBy true (vector tag) }
+    ensures { likeness_of result ≡ likeness_by true (vector tag) }
 {
     if tag < VEC2 {
         return Likeness::Equal;
@@ -29,7 +29,7 @@ pub(crate) fn of_tag(tag: u8) -> Likeness
 
 // A part after one that is alike.
 fn after_alike(rest: Likeness) -> Likeness
-    ensures { likenessOf result ≡ joint alike (likenessOf rest) }
+    ensures { likeness_of result ≡ joint alike (likeness_of rest) }
 {
     match rest {
         Likeness::Equal => Likeness::Alike,
@@ -40,7 +40,7 @@ fn after_alike(rest: Likeness) -> Likeness
 
 // Two parts together.
 pub(crate) fn joined(first: Likeness, rest: Likeness) -> Likeness
-    ensures { likenessOf result ≡ joint (likenessOf first) (likenessOf rest) }
+    ensures { likeness_of result ≡ joint (likeness_of first) (likeness_of rest) }
 {
     match first {
         Likeness::Equal => rest,
@@ -51,7 +51,7 @@ pub(crate) fn joined(first: Likeness, rest: Likeness) -> Likeness
 
 // Whether types are read as equal; `third` says how the third answer is read.
 pub(crate) fn read_as(third: bool, likeness: Likeness) -> bool
-    ensures { result ≡ readAs third (likenessOf likeness) }
+    ensures { result ≡ read_as third (likeness_of likeness) }
 {
     match likeness {
         Likeness::Equal => true,

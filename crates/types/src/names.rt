@@ -1,14 +1,14 @@
 // Names: whether two are equal, and whether two lists of them are.
 ghost use Rattle.std.specs.Prelude.{◌≡◌};
-ghost use Rattle.rules.specs.Equal.{sameName, sameNames};
-ghost use Rattle.types.specs.Names.{NamesIn, namesIn};
+ghost use Rattle.rules.specs.Equal.{same_name, same_names};
+ghost use Rattle.types.specs.Names.{NamesIn, names_in};
 
 use parts::Run;
 use parts::names::{name_at, name_end};
 
 // Whether two names are the same bytes.
 pub fn same_name(a: &[u8], b: &[u8]) -> bool
-    ensures { result ≡ sameName a.now b.now }
+    ensures { result ≡ same_name a.now b.now }
 {
     if a.len() != b.len() {
         return false;
@@ -26,7 +26,7 @@ pub fn same_name(a: &[u8], b: &[u8]) -> bool
 // The names of a run in one image and those of a run in another.
 pub(crate) fn same_names(a: &[u8], old: Run, b: &[u8], new: Run) -> bool
     requires { NamesIn a.now old × NamesIn b.now new }
-    ensures { result ≡ sameNames (namesIn a.now old) (namesIn b.now new) }
+    ensures { result ≡ same_names (names_in a.now old) (names_in b.now new) }
 {
     if old.count != new.count {
         return false;

@@ -5,23 +5,23 @@ use Prim.Native.Nat.{ℕ, zero, suc, ◌+◌, ◌-◌, ◌≤◌}
 use native.Mathlib.Omega.{arith}
 use lib.ListN.{length, get_or, replicate, get_or-eq_default}
 use lib.Seq.{get_or-append-add}
-use Rattle.rules.specs.Changes.{kindCount}
-use Rattle.rules.specs.Outcome.{Outcome, refused, answered, selected, select, textLength}
-use Rattle.verdicts.specs.Verdicts.{refusedBy, verdictIs, selectIn}
+use Rattle.rules.specs.Changes.{kind_count}
+use Rattle.rules.specs.Outcome.{Outcome, refused, answered, selected, select, text_length}
+use Rattle.verdicts.specs.Verdicts.{refused_by, verdict_is, select_in}
 use Rattle.verdicts.specs.declared.Verdict.{Verdict}
 
 -- ---- from 5 on the counts
 
 module _ (v : Verdict) (n : ℕ) where
-  pub select-count : 5 ≤ n → get_or v.counts (n - 5) 0 ≡ selectIn v n
-  unfolding selectIn
-  select-count h =
+  pub select_count : 5 ≤ n → get_or v.counts (n - 5) 0 ≡ select_in v n
+  unfolding select_in
+  select_count h =
       let e : 5 + (n - 5) ≡ n = omega arith in
-      sym (get_or-append-add (v.number ∷ v.side ∷ v.bump.level ∷ v.result ∷ v.length ∷ []) v.counts (n - 5) 0) ∙ ap (selectIn v) e
+      sym (get_or-append-add (v.number ∷ v.side ∷ v.bump.level ∷ v.result ∷ v.length ∷ []) v.counts (n - 5) 0) ∙ ap (select_in v) e
 
   -- beyond them
-  pub select-beyond : 5 + length v.counts ≤ n → 0 ≡ selectIn v n
-  select-beyond h = sym (get_or-eq_default v.counts 0 (omega arith)) ∙ select-count (omega arith)
+  pub select_beyond : 5 + length v.counts ≤ n → 0 ≡ select_in v n
+  select_beyond h = sym (get_or-eq_default v.counts 0 (omega arith)) ∙ select_count (omega arith)
 
 -- ---- of an outcome
 
@@ -30,20 +30,20 @@ zeros zero k = refl
 zeros (suc n) zero = refl
 zeros (suc n) (suc k) = zeros n k
 
-refused-selected : (number side n : ℕ) → selectIn (refusedBy number side) n ≡ select (refused number side) n
-unfolding selectIn refusedBy select selected
-refused-selected number side zero = refl
-refused-selected number side (suc zero) = refl
-refused-selected number side (suc (suc zero)) = refl
-refused-selected number side (suc (suc (suc zero))) = refl
-refused-selected number side (suc (suc (suc (suc n)))) = zeros (suc kindCount) n
+refused_selected : (number side n : ℕ) → select_in (refused_by number side) n ≡ select (refused number side) n
+unfolding select_in refused_by select selected
+refused_selected number side zero = refl
+refused_selected number side (suc zero) = refl
+refused_selected number side (suc (suc zero)) = refl
+refused_selected number side (suc (suc (suc zero))) = refl
+refused_selected number side (suc (suc (suc (suc n)))) = zeros (suc kind_count) n
 
-pub outcome-selected : (o : Outcome) (n : ℕ) → selectIn (verdictIs o) n ≡ select o n
-unfolding verdictIs selectIn select selected
-outcome-selected (refused number side) n = refused-selected number side n
-outcome-selected (answered a) n = refl
+pub outcome_selected : (o : Outcome) (n : ℕ) → select_in (verdict_is o) n ≡ select o n
+unfolding verdict_is select_in select selected
+outcome_selected (refused number side) n = refused_selected number side n
+outcome_selected (answered a) n = refl
 
-pub outcome-length : (o : Outcome) → (verdictIs o).length ≡ textLength o
-unfolding verdictIs refusedBy textLength
-outcome-length (refused number side) = refl
-outcome-length (answered a) = refl
+pub outcome_length : (o : Outcome) → (verdict_is o).length ≡ text_length o
+unfolding verdict_is refused_by text_length
+outcome_length (refused number side) = refl
+outcome_length (answered a) = refl

@@ -2,7 +2,7 @@
 #![tactic(auto)]
 
 ghost use Rattle.std.specs.Prelude.{◌≡◌};
-ghost use Rattle.verdicts.specs.Verdicts.{refusedBy, ofTally, selectIn};
+ghost use Rattle.verdicts.specs.Verdicts.{refused_by, of_tally, select_in};
 
 use tally::{Bump, KINDS, Tally};
 
@@ -20,7 +20,7 @@ pub struct Verdict {
 impl Verdict {
     // "with bump Major, result Breaking, all counts and length 0"
     pub fn refused(number: u8, side: u8) -> Verdict
-        ensures { result ≡ refusedBy number side }
+        ensures { result ≡ refused_by number side }
     {
         Verdict {
             number: number,
@@ -34,7 +34,7 @@ impl Verdict {
 
     // Of a tally, and the length of the whole text.
     pub fn of_tally(t: Tally, length: usize) -> Verdict
-        ensures { result ≡ ofTally t length }
+        ensures { result ≡ of_tally t length }
     {
         let bump = t.bump;
         let result = bump.result();
@@ -52,7 +52,7 @@ impl Verdict {
     // "0 the number, 1 the side .., 2 the bump .., 3 the result .., 4 the length, from 5 the counts in the order of `ChangeKind`; a
     // selector beyond them gives 0."
     pub fn select(self, selector: u64) -> u64
-        ensures { result ≡ selectIn self selector }
+        ensures { result ≡ select_in self selector }
     {
         match selector {
             0 => self.number as u64,

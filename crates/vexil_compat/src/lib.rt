@@ -3,13 +3,13 @@
 #![tactic(auto)]
 
 ghost use Rattle.std.specs.Prelude.{◌≡◌, length};
-ghost use Rattle.rules.specs.Answer.{verdictBy, plain, verdictOf};
+ghost use Rattle.rules.specs.Answer.{verdict_by, plain, verdict_of};
 ghost use Rattle.rules.specs.Imports.{imports};
 ghost use Rattle.rules.specs.Mended.{mended};
-ghost use Rattle.verdicts.specs.Verdicts.{selectIn};
-ghost use Rattle.compat.specs.Policies.{policyOf};
-ghost use Rattle.listing.specs.Listing.{listingVerdict, Wrote};
-ghost use Rattle.vexil_compat.specs.Calls.{valuesOf, Valued, Reported};
+ghost use Rattle.verdicts.specs.Verdicts.{select_in};
+ghost use Rattle.compat.specs.Policies.{policy_of};
+ghost use Rattle.listing.specs.Listing.{listing_verdict, Wrote};
+ghost use Rattle.vexil_compat.specs.Calls.{values_of, Valued, Reported};
 
 use compat::policies::Policy;
 use compat::{report, verdict};
@@ -19,14 +19,14 @@ use verdicts::Verdict;
 // One value of the verdict, by its selector.
 #[unsafe(no_mangle)]
 pub extern "C" fn vexil_compat_verdict(old: &[u8], new: &[u8], selector: u64) -> u64
-    ensures { result ≡ verdictOf old.now new.now selector }
+    ensures { result ≡ verdict_of old.now new.now selector }
 {
     verdict(Policy::Plain, old, new).select(selector)
 }
 
 // The values of a verdict, from selector 0 on, one for each place of a buffer.
 fn put_values(v: Verdict, values: &mut [u64])
-    ensures { values.new ≡ valuesOf (selectIn v) (length values.old) }
+    ensures { values.new ≡ values_of (select_in v) (length values.old) }
 {
     let mut i: usize = 0;
     while i < values.len() {
@@ -37,7 +37,7 @@ fn put_values(v: Verdict, values: &mut [u64])
 
 // The number; each place of the buffer holds the value of the verdict that has its index as selector, all of one comparison.
 fn values_by(policy: Policy, old: &[u8], new: &[u8], values: &mut [u64]) -> u64
-    ensures { Valued (verdictBy (policyOf policy) old.now new.now) values.old result values.new }
+    ensures { Valued (verdict_by (policy_of policy) old.now new.now) values.old result values.new }
 {
     let v = verdict(policy, old, new);
     put_values(v, values);
@@ -47,14 +47,14 @@ fn values_by(policy: Policy, old: &[u8], new: &[u8], values: &mut [u64]) -> u64
 // All values of the verdict; the number is returned.
 #[unsafe(no_mangle)]
 pub extern "C" fn vexil_compat_values(old: &[u8], new: &[u8], values: &mut [u64]) -> u64
-    ensures { Valued (verdictOf old.now new.now) values.old result values.new }
+    ensures { Valued (verdict_of old.now new.now) values.old result values.new }
 {
     values_by(Policy::Plain, old, new, values)
 }
 
 // The report's length, 0 if refused; the report stands at the start of the buffer.
 fn report_by(policy: Policy, old: &[u8], new: &[u8], out: &mut [u8]) -> u64
-    ensures { Reported (policyOf policy) old.now new.now out.old result out.new }
+    ensures { Reported (policy_of policy) old.now new.now out.old result out.new }
 {
     let v = report(policy, old, new, out);
     v.length as u64
@@ -70,14 +70,14 @@ pub extern "C" fn vexil_compat_report(old: &[u8], new: &[u8], out: &mut [u8]) ->
 // The same three with imports.
 #[unsafe(no_mangle)]
 pub extern "C" fn vexil_compat_imports_verdict(old: &[u8], new: &[u8], selector: u64) -> u64
-    ensures { result ≡ verdictBy imports old.now new.now selector }
+    ensures { result ≡ verdict_by imports old.now new.now selector }
 {
     verdict(Policy::Imports, old, new).select(selector)
 }
 
 #[unsafe(no_mangle)]
 pub extern "C" fn vexil_compat_imports_values(old: &[u8], new: &[u8], values: &mut [u64]) -> u64
-    ensures { Valued (verdictBy imports old.now new.now) values.old result values.new }
+    ensures { Valued (verdict_by imports old.now new.now) values.old result values.new }
 {
     values_by(Policy::Imports, old, new, values)
 }
@@ -92,14 +92,14 @@ pub extern "C" fn vexil_compat_imports_report(old: &[u8], new: &[u8], out: &mut 
 // The same three mended.
 #[unsafe(no_mangle)]
 pub extern "C" fn vexil_compat_mended_verdict(old: &[u8], new: &[u8], selector: u64) -> u64
-    ensures { result ≡ verdictBy mended old.now new.now selector }
+    ensures { result ≡ verdict_by mended old.now new.now selector }
 {
     verdict(Policy::Mended, old, new).select(selector)
 }
 
 #[unsafe(no_mangle)]
 pub extern "C" fn vexil_compat_mended_values(old: &[u8], new: &[u8], values: &mut [u64]) -> u64
-    ensures { Valued (verdictBy mended old.now new.now) values.old result values.new }
+    ensures { Valued (verdict_by mended old.now new.now) values.old result values.new }
 {
     values_by(Policy::Mended, old, new, values)
 }
@@ -122,7 +122,7 @@ pub extern "C" fn vexil_compat_listing(image: &[u8], out: &mut [u8]) -> u64
 // One value of the listing's answer for a buffer of so many bytes, by its selector.
 #[unsafe(no_mangle)]
 pub extern "C" fn vexil_compat_listing_verdict(image: &[u8], out_len: u64, selector: u64) -> u64
-    ensures { result ≡ listingVerdict image.now out_len selector }
+    ensures { result ≡ listing_verdict image.now out_len selector }
 {
     checked(image, out_len as usize).select(selector)
 }

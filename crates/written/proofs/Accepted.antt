@@ -12,84 +12,84 @@ use borrow.Author.Tests.{leb-true, eqb-true, eqb-false}
 use lib.ListN.{length}
 use Rattle.image.specs.Schema.{Name, Decl, Schema}
 use Rattle.image.specs.Parse.{ok, part}
-use Rattle.image.specs.Names.{nameAt, namesAt}
-use Rattle.image.specs.Image.{u16At, format, entryCount, idCount, segmentCount, entryOffset, entryLength, idsAt, segmentsAt, idsFrom, headOf, tablesOf, entryOf, entriesOf, readImage}
-use Rattle.refusals.specs.Refusals.{Head, bodyStart, Placed}
-use Rattle.written.specs.Writer.{digits, writeEach, writeName, writeBody, writeEntry, writeContents, writeHead, bodiesAt, write}
+use Rattle.image.specs.Names.{name_at, names_at}
+use Rattle.image.specs.Image.{u16_at, format, entry_count, id_count, segment_count, entry_offset, entry_length, ids_at, segments_at, ids_from, head_of, tables_of, entry_of, entries_of, read_image}
+use Rattle.refusals.specs.Refusals.{Head, body_start, Placed}
+use Rattle.written.specs.Writer.{digits, write_each, write_name, write_body, write_entry, write_contents, write_head, bodies_at, write}
 use Rattle.written.specs.Limits.{Each, end, also, Byte, U32, NameWithin, DeclWithin, EntryWithin, empty, full, Within}
 use Rattle.maps.proofs.Tests.{no_both}
-use Rattle.refusals.proofs.Told.{Told, told-ok, told-no, told-bind, told-pick, told-both}
-use Rattle.refusals.proofs.Places.{Laid, good, wrong, placed-empty, placed-full}
-use Rattle.refusals.proofs.Refusals.{head-told, names-told, fits_told}
-use Rattle.written.proofs.Runs.{Run, run_none, run_join, run-whole, Free, Keeps, each_part, part_length, part-run, number-run, number_is, name-keeps, each_keeps}
-use Rattle.written.proofs.ItemRuns.{body-keeps}
+use Rattle.refusals.proofs.Told.{Told, told_ok, told_no, told_bind, told_pick, told_both}
+use Rattle.refusals.proofs.Places.{Laid, good, wrong, placed_empty, placed_full}
+use Rattle.refusals.proofs.Refusals.{head_told, names_told, fits_told}
+use Rattle.written.proofs.Runs.{Run, run_none, run_join, run_whole, Free, Keeps, each_part, part_length, part_run, number_run, number_is, name_keeps, each_keeps}
+use Rattle.written.proofs.ItemRuns.{body_keeps}
 use Rattle.written.proofs.Whole.{written_read}
 
 -- an entry as the contents have it
 data Entry (s : List ℕ) (i : ℕ) : Option Decl → Type 0 where
-  none_here : entryOffset s i ≡ 0 → entryLength s i ≡ 0 → Entry s i none
-  some-here : {d : Decl} → DeclWithin (format s) d → entryOffset s i ≡ bodyStart s i → entryLength s i ≡ length (writeBody d)
-      → Run s (bodyStart s i) (bodyStart s (suc i)) (writeBody d) → Entry s i (some d)
+  none_here : entry_offset s i ≡ 0 → entry_length s i ≡ 0 → Entry s i none
+  some_here : {d : Decl} → DeclWithin (format s) d → entry_offset s i ≡ body_start s i → entry_length s i ≡ length (write_body d)
+      → Run s (body_start s i) (body_start s (suc i)) (write_body d) → Entry s i (some d)
 
 -- the entries from the i-th on
 record Entries (s : List ℕ) (i : ℕ) (es : List (Option Decl)) : Type 0 where
-  pub count : i + length es ≡ entryCount s
+  pub count : i + length es ≡ entry_count s
   pub within : Each (EntryWithin (format s)) es
-  pub contents : Run s (8 + 4 * i) (8 + 4 * entryCount s) (writeContents es (bodyStart s i))
-  pub bodies : Run s (bodyStart s i) (bodyStart s (entryCount s)) (writeEach writeEntry es)
+  pub contents : Run s (8 + 4 * i) (8 + 4 * entry_count s) (write_contents es (body_start s i))
+  pub bodies : Run s (body_start s i) (body_start s (entry_count s)) (write_each write_entry es)
 
 -- what is known of an image that is accepted: its names xs and its entries es
 record Parts (s : List ℕ) (xs : List Name) (es : List (Option Decl)) : Type 0 where
   pub head : Head s
-  pub inside : segmentsAt s ≤ length s
-  pub count : length xs ≡ segmentCount s
+  pub inside : segments_at s ≤ length s
+  pub count : length xs ≡ segment_count s
   pub within : Each NameWithin xs
-  pub names : Run s (segmentsAt s) (bodyStart s 0) (writeEach writeName xs)
-  pub ends : bodyStart s (entryCount s) ≡ length s
+  pub names : Run s (segments_at s) (body_start s 0) (write_each write_name xs)
+  pub ends : body_start s (entry_count s) ≡ length s
   pub entries : Entries s 0 es
 
 all_placed : {s : List ℕ} {b : Bool} → Laid s 0 b → b ≡ true
-    → ((j : ℕ) → 0 ≤ j → j < entryCount s → Placed s j) × (bodyStart s (entryCount s) ≡ length s)
+    → ((j : ℕ) → 0 ≤ j → j < entry_count s → Placed s j) × (body_start s (entry_count s) ≡ length s)
 all_placed (good h e) t = (h, e)
 all_placed (wrong m) t = no_both t refl
 
 module _ (s : List ℕ) (bytes : Each Byte s) where
-  entry-keeps : (i : ℕ) → Placed s i → Told (λ e n. Entry s i e) Free (entryOf (format s) s i)
-  unfolding entryOf bodyStart
-  entry-keeps i p =
-      told-pick _
-      (λ h. let z = eqb-true _ _ h in told-ok (none_here (placed-empty p z) z))
-      (λ h. told-bind _ (body-keeps body (each_part (entryOffset s i) (entryLength s i) s bytes) (format s)) (λ d n q.
-      told-ok (there d (eqb-false _ _ h) q)))
+  entry_keeps : (i : ℕ) → Placed s i → Told (λ e n. Entry s i e) Free (entry_of (format s) s i)
+  unfolding entry_of body_start
+  entry_keeps i p =
+      told_pick _
+      (λ h. let z = eqb-true _ _ h in told_ok (none_here (placed_empty p z) z))
+      (λ h. told_bind _ (body_keeps body (each_part (entry_offset s i) (entry_length s i) s bytes) (format s)) (λ d n q.
+      told_ok (there d (eqb-false _ _ h) q)))
     where
       body : List ℕ
-      body = part (entryOffset s i) (entryLength s i) s
+      body = part (entry_offset s i) (entry_length s i) s
 
-      there : (d : Decl) → ¬ (entryLength s i ≡ 0) → DeclWithin (format s) d × (body ≡ writeBody d) → Entry s i (some d)
+      there : (d : Decl) → ¬ (entry_length s i ≡ 0) → DeclWithin (format s) d × (body ≡ write_body d) → Entry s i (some d)
       there d z q =
-          let f = placed-full p z in
-          let fits : bodyStart s i + entryLength s i ≤ length s = f.1 in
-          let b : part (bodyStart s i) (entryLength s i) s ≡ writeBody d = rw f.0 at q.1 in
-          let size : entryLength s i ≡ length (writeBody d) = sym (part_length (bodyStart s i) (entryLength s i) s fits) ∙ ap length b in
-          some-here q.0 f.0 size (rw b at (part-run (bodyStart s i) (entryLength s i) s fits))
+          let f = placed_full p z in
+          let fits : body_start s i + entry_length s i ≤ length s = f.1 in
+          let b : part (body_start s i) (entry_length s i) s ≡ write_body d = rw f.0 at q.1 in
+          let size : entry_length s i ≡ length (write_body d) = sym (part_length (body_start s i) (entry_length s i) s fits) ∙ ap length b in
+          some_here q.0 f.0 size (rw b at (part_run (body_start s i) (entry_length s i) s fits))
 
   -- an offset and a length of the contents
-  offset-run : (i : ℕ) → 10 + 4 * i ≤ length s → Run s (8 + 4 * i) (10 + 4 * i) (digits 2 (entryOffset s i))
-  unfolding entryOffset u16At
-  offset-run i h = let e : 8 + 4 * i + 2 ≡ 10 + 4 * i = omega arith in rw e at (number-run s bytes 2 (8 + 4 * i) (omega arith))
+  offset_run : (i : ℕ) → 10 + 4 * i ≤ length s → Run s (8 + 4 * i) (10 + 4 * i) (digits 2 (entry_offset s i))
+  unfolding entry_offset u16_at
+  offset_run i h = let e : 8 + 4 * i + 2 ≡ 10 + 4 * i = omega arith in rw e at (number_run s bytes 2 (8 + 4 * i) (omega arith))
 
-  length_run : (i : ℕ) → 8 + 4 * (i + 1) ≤ length s → Run s (10 + 4 * i) (8 + 4 * (i + 1)) (digits 2 (entryLength s i))
-  unfolding entryLength u16At
-  length_run i h = let e : 10 + 4 * i + 2 ≡ 8 + 4 * (i + 1) = omega arith in rw e at (number-run s bytes 2 (10 + 4 * i) (omega arith))
+  length_run : (i : ℕ) → 8 + 4 * (i + 1) ≤ length s → Run s (10 + 4 * i) (8 + 4 * (i + 1)) (digits 2 (entry_length s i))
+  unfolding entry_length u16_at
+  length_run i h = let e : 10 + 4 * i + 2 ≡ 8 + 4 * (i + 1) = omega arith in rw e at (number_run s bytes 2 (10 + 4 * i) (omega arith))
 
-  entries-more : (i : ℕ) (e : Option Decl) (es : List (Option Decl)) → Entry s i e → Entries s (i + 1) es → Entries s i (e ∷ es)
-  unfolding bodyStart writeContents writeEach writeEntry
-  entries-more i _ es (none_here o n) r =
+  entries_more : (i : ℕ) (e : Option Decl) (es : List (Option Decl)) → Entry s i e → Entries s (i + 1) es → Entries s i (e ∷ es)
+  unfolding body_start write_contents write_each write_entry
+  entries_more i _ es (none_here o n) r =
       record {
         count = omega (arith, r.count);
         within = also empty r.within;
         contents =
-            run_join (digits 2 0) _ (rw o at (offset-run i (omega (arith, inside))))
+            run_join (digits 2 0) _ (rw o at (offset_run i (omega (arith, inside))))
             (run_join (digits 2 0) _ (rw n at (length_run i inside)) (rw same at r.contents));
         bodies = rw same at r.bodies;
       }
@@ -97,142 +97,142 @@ module _ (s : List ℕ) (bytes : Each Byte s) where
       inside : 8 + 4 * (i + 1) ≤ length s
       inside = r.contents.here.from
 
-      same : bodyStart s (i + 1) ≡ bodyStart s i
-      same = ap (bodyStart s) (add-one i) ∙ ap (λ (k : ℕ). bodyStart s i + k) n ∙ add-zero (bodyStart s i)
-  entries-more i _ es (some-here {d = d} q o n b) r =
+      same : body_start s (i + 1) ≡ body_start s i
+      same = ap (body_start s) (add-one i) ∙ ap (λ (k : ℕ). body_start s i + k) n ∙ add-zero (body_start s i)
+  entries_more i _ es (some_here {d = d} q o n b) r =
       record {
         count = omega (arith, r.count);
         within = also (full q) r.within;
         contents =
-            run_join (digits 2 (bodyStart s i)) _ (rw o at (offset-run i (omega (arith, inside))))
-            (run_join (digits 2 (length (writeBody d))) _ (rw n at (length_run i inside)) (rw next at r.contents));
-        bodies = run_join (writeBody d) (writeEach writeEntry es) b (rw (ap (bodyStart s) (add-one i)) at r.bodies);
+            run_join (digits 2 (body_start s i)) _ (rw o at (offset_run i (omega (arith, inside))))
+            (run_join (digits 2 (length (write_body d))) _ (rw n at (length_run i inside)) (rw next at r.contents));
+        bodies = run_join (write_body d) (write_each write_entry es) b (rw (ap (body_start s) (add-one i)) at r.bodies);
       }
     where
       inside : 8 + 4 * (i + 1) ≤ length s
       inside = r.contents.here.from
 
-      next : bodyStart s (i + 1) ≡ bodyStart s i + length (writeBody d)
-      next = ap (bodyStart s) (add-one i) ∙ ap (λ (k : ℕ). bodyStart s i + k) n
+      next : body_start s (i + 1) ≡ body_start s i + length (write_body d)
+      next = ap (body_start s) (add-one i) ∙ ap (λ (k : ℕ). body_start s i + k) n
 
-  entries_none : 8 + 4 * entryCount s ≤ length s → bodyStart s (entryCount s) ≤ length s → Entries s (entryCount s) []
-  unfolding writeContents writeEach
-  entries_none h g = record { count = add-zero (entryCount s); within = end; contents = run_none h; bodies = run_none g }
+  entries_none : 8 + 4 * entry_count s ≤ length s → body_start s (entry_count s) ≤ length s → Entries s (entry_count s) []
+  unfolding write_contents write_each
+  entries_none h g = record { count = add-zero (entry_count s); within = end; contents = run_none h; bodies = run_none g }
 
-  entries-keep : (count i : ℕ) → i + count ≡ entryCount s → 8 + 4 * entryCount s ≤ length s → bodyStart s (entryCount s) ≤ length s
-      → ((j : ℕ) → i ≤ j → j < entryCount s → Placed s j) → Told (λ es n. Entries s i es × (n ≡ length s)) Free (entriesOf (format s) count s i)
-  unfolding entriesOf
-  entries-keep zero i e h g placed = let z : i ≡ entryCount s = omega arith in let r : Entries s i [] = rw z (entries_none h g) in told-ok (r, refl)
-  entries-keep (suc count) i e h g placed =
-      told-bind _ (entry-keeps i (placed i (omega arith) (omega arith))) (λ x n q.
-      told-bind _ (entries-keep count (i + 1) (omega arith) h g (λ j low high. placed j (omega arith) high)) (λ es m r.
-      told-ok (entries-more i x es q r.0, r.1)))
+  entries_keep : (count i : ℕ) → i + count ≡ entry_count s → 8 + 4 * entry_count s ≤ length s → body_start s (entry_count s) ≤ length s
+      → ((j : ℕ) → i ≤ j → j < entry_count s → Placed s j) → Told (λ es n. Entries s i es × (n ≡ length s)) Free (entries_of (format s) count s i)
+  unfolding entries_of
+  entries_keep zero i e h g placed = let z : i ≡ entry_count s = omega arith in let r : Entries s i [] = rw z (entries_none h g) in told_ok (r, refl)
+  entries_keep (suc count) i e h g placed =
+      told_bind _ (entry_keeps i (placed i (omega arith) (omega arith))) (λ x n q.
+      told_bind _ (entries_keep count (i + 1) (omega arith) h g (λ j low high. placed j (omega arith) high)) (λ es m r.
+      told_ok (entries_more i x es q r.0, r.1)))
 
   -- the ids
-  ids-below : (count at : ℕ) → Each U32 (idsFrom count s at)
-  unfolding idsFrom
-  ids-below zero at = end
-  ids-below (suc count) at = also (number_is s bytes 4 at) (ids-below count (at + 4))
+  ids_below : (count at : ℕ) → Each U32 (ids_from count s at)
+  unfolding ids_from
+  ids_below zero at = end
+  ids_below (suc count) at = also (number_is s bytes 4 at) (ids_below count (at + 4))
 
-  ids-count : (count at : ℕ) → length (idsFrom count s at) ≡ count
-  unfolding idsFrom
-  ids-count zero at = refl
-  ids-count (suc count) at = ap suc (ids-count count (at + 4))
+  ids_count : (count at : ℕ) → length (ids_from count s at) ≡ count
+  unfolding ids_from
+  ids_count zero at = refl
+  ids_count (suc count) at = ap suc (ids_count count (at + 4))
 
-  ids-run : (count at : ℕ) → at + 4 * count ≤ length s → Run s at (at + 4 * count) (writeEach (digits 4) (idsFrom count s at))
-  unfolding idsFrom writeEach
-  ids-run zero at h = rw (add-zero at) (run_none (omega arith))
-  ids-run (suc count) at h =
+  ids_run : (count at : ℕ) → at + 4 * count ≤ length s → Run s at (at + 4 * count) (write_each (digits 4) (ids_from count s at))
+  unfolding ids_from write_each
+  ids_run zero at h = rw (add-zero at) (run_none (omega arith))
+  ids_run (suc count) at h =
       let e : at + 4 + 4 * count ≡ at + 4 * suc count = omega arith in
-      run_join (digits 4 _) _ (number-run s bytes 4 at (omega arith)) (rw e at (ids-run count (at + 4) (omega arith)))
+      run_join (digits 4 _) _ (number_run s bytes 4 at (omega arith)) (rw e at (ids_run count (at + 4) (omega arith)))
 
   -- the head
-  head-run : Head s → Run s 0 8 (digits 2 (format s) ++ (digits 2 (entryCount s) ++ (digits 2 (idCount s) ++ digits 2 (segmentCount s))))
-  unfolding format entryCount idCount segmentCount u16At
-  head-run h =
+  head_run : Head s → Run s 0 8 (digits 2 (format s) ++ (digits 2 (entry_count s) ++ (digits 2 (id_count s) ++ digits 2 (segment_count s))))
+  unfolding format entry_count id_count segment_count u16_at
+  head_run h =
       let l = h.eight.there in
-      run_join (digits 2 (format s)) _ (number-run s bytes 2 0 (omega arith))
-      (run_join (digits 2 (entryCount s)) _ (number-run s bytes 2 2 (omega arith))
-      (run_join (digits 2 (idCount s)) (digits 2 (segmentCount s)) (number-run s bytes 2 4 (omega arith)) (number-run s bytes 2 6 (omega arith))))
+      run_join (digits 2 (format s)) _ (number_run s bytes 2 0 (omega arith))
+      (run_join (digits 2 (entry_count s)) _ (number_run s bytes 2 2 (omega arith))
+      (run_join (digits 2 (id_count s)) (digits 2 (segment_count s)) (number_run s bytes 2 4 (omega arith)) (number_run s bytes 2 6 (omega arith))))
 
-  head-gives : Told (λ f n. f ≡ format s) Free (headOf s)
-  unfolding headOf
-  head-gives =
-      told-pick _
-      (λ a. told-pick _
-      (λ b. told-pick _
-      (λ c. told-pick _ (λ d. told-ok refl) (λ d. told-no tt))
-      (λ c. told-no tt))
-      (λ b. told-no tt))
-      (λ a. told-no tt)
+  head_gives : Told (λ f n. f ≡ format s) Free (head_of s)
+  unfolding head_of
+  head_gives =
+      told_pick _
+      (λ a. told_pick _
+      (λ b. told_pick _
+      (λ c. told_pick _ (λ d. told_ok refl) (λ d. told_no tt))
+      (λ c. told_no tt))
+      (λ b. told_no tt))
+      (λ a. told_no tt)
 
-  names-keep : (count at : ℕ) → at ≤ length s
-      → Keeps (λ xs. (length xs ≡ count) × Each NameWithin xs) (writeEach writeName) s at (namesAt 2 count s at)
-  unfolding namesAt
-  names-keep count at h = each_keeps s bytes (nameAt 2) writeName NameWithin (name-keeps s bytes 2) count at h
+  names_keep : (count at : ℕ) → at ≤ length s
+      → Keeps (λ xs. (length xs ≡ count) × Each NameWithin xs) (write_each write_name) s at (names_at 2 count s at)
+  unfolding names_at
+  names_keep count at h = each_keeps s bytes (name_at 2) write_name NameWithin (name_keeps s bytes 2) count at h
 
-  tables-keep : Told (λ is n. (segmentsAt s ≤ length s) × (is ≡ idsFrom (idCount s) s (idsAt s)) × (n ≡ segmentsAt s)) Free (tablesOf s)
-  unfolding tablesOf
-  tables-keep = told-pick _ (λ e. told-ok (leb-true _ _ e, refl, refl)) (λ e. told-no tt)
+  tables_keep : Told (λ is n. (segments_at s ≤ length s) × (is ≡ ids_from (id_count s) s (ids_at s)) × (n ≡ segments_at s)) Free (tables_of s)
+  unfolding tables_of
+  tables_keep = told_pick _ (λ e. told_ok (leb-true _ _ e, refl, refl)) (λ e. told_no tt)
 
   -- All that was read stands one after the other, and is the whole image.
   module _ (xs : List Name) (es : List (Option Decl)) (r : Parts s xs es) where
     held : Schema
-    held = record { format = format s; registry = es; ids = idsFrom (idCount s) s (idsAt s); namespace = xs }
+    held = record { format = format s; registry = es; ids = ids_from (id_count s) s (ids_at s); namespace = xs }
 
-    entries-all : length es ≡ entryCount s
-    entries-all = omega (arith, r.entries.count)
+    entries_all : length es ≡ entry_count s
+    entries_all = omega (arith, r.entries.count)
 
-    bodies-start : bodiesAt held ≡ bodyStart s 0
-    unfolding held bodiesAt segmentsAt idsAt
-    bodies-start = omega (arith, r.names.next, entries-all, ids-count (idCount s) (idsAt s))
+    bodies_start : bodies_at held ≡ body_start s 0
+    unfolding held bodies_at segments_at ids_at
+    bodies_start = omega (arith, r.names.next, entries_all, ids_count (id_count s) (ids_at s))
 
-    front : Run s 0 8 (writeHead held)
-    unfolding held writeHead
-    front = rw (entries-all, ids-count (idCount s) (idsAt s), r.count) (head-run r.head)
+    front : Run s 0 8 (write_head held)
+    unfolding held write_head
+    front = rw (entries_all, ids_count (id_count s) (ids_at s), r.count) (head_run r.head)
 
-    contents : Run s 8 (idsAt s) (writeContents es (bodiesAt held))
-    unfolding idsAt
-    contents = rw bodies-start r.entries.contents
+    contents : Run s 8 (ids_at s) (write_contents es (bodies_at held))
+    unfolding ids_at
+    contents = rw bodies_start r.entries.contents
 
-    is-written : s ≡ write held
-    unfolding held write segmentsAt
-    is-written =
-        run-whole r.ends
-        (run_join (writeHead held) _ front
-        (run_join (writeContents es (bodiesAt held)) _ contents
-        (run_join (writeEach (digits 4) held.ids) _ (ids-run (idCount s) (idsAt s) r.inside)
-        (run_join (writeEach writeName xs) (writeEach writeEntry es) r.names r.entries.bodies))))
+    is_written : s ≡ write held
+    unfolding held write segments_at
+    is_written =
+        run_whole r.ends
+        (run_join (write_head held) _ front
+        (run_join (write_contents es (bodies_at held)) _ contents
+        (run_join (write_each (digits 4) held.ids) _ (ids_run (id_count s) (ids_at s) r.inside)
+        (run_join (write_each write_name xs) (write_each write_entry es) r.names r.entries.bodies))))
 
     is_within : Within held
     unfolding held
     is_within =
         record {
           format = r.head.known;
-          entryCount = rw entries-all r.head.entries;
-          idCount = rw (ids-count (idCount s) (idsAt s)) r.head.ids;
-          segmentCount = rw r.count r.head.segments;
+          entry_count = rw entries_all r.head.entries;
+          id_count = rw (ids_count (id_count s) (ids_at s)) r.head.ids;
+          segment_count = rw r.count r.head.segments;
           entries = r.entries.within;
-          ids = ids-below (idCount s) (idsAt s);
+          ids = ids_below (id_count s) (ids_at s);
           segments = r.within;
-          whole = rw (← is-written) r.head.eight.fits;
+          whole = rw (← is_written) r.head.eight.fits;
         }
 
   Holds : Schema → ℕ → Type 0
   Holds x n = Within x × (s ≡ write x) × (n ≡ length s)
 
-  image-keeps : Told Holds Free (readImage s)
-  unfolding Holds readImage bodyStart held segmentsAt idsAt
-  image-keeps =
-      told-bind _ (told-both (head-told s) head-gives) (λ f n₁ h.
-      told-bind _ tables-keep (λ is n₂ t.
-      told-bind _ (told-both (names-told s n₂ t.2) (names-keep (segmentCount s) n₂ (rw t.2 t.0))) (λ xs n₃ e.
-      told-pick _
+  image_keeps : Told Holds Free (read_image s)
+  unfolding Holds read_image body_start held segments_at ids_at
+  image_keeps =
+      told_bind _ (told_both (head_told s) head_gives) (λ f n₁ h.
+      told_bind _ tables_keep (λ is n₂ t.
+      told_bind _ (told_both (names_told s n₂ t.2) (names_keep (segment_count s) n₂ (rw t.2 t.0))) (λ xs n₃ e.
+      told_pick _
       (λ l.
       let p = all_placed (fits_told s (record { head = h.0; inside = t.0; segments = e.0.0 })) (rw e.0.1 at l) in
-      let last : bodyStart s (entryCount s) ≤ length s = omega (arith, p.1) in
-      told-bind {P = λ es n. Entries s 0 es × (n ≡ length s)} _
-      (rw h.1 (entries-keep (entryCount s) 0 (omega arith) (omega (arith, t.0)) last p.0)) (λ es n₄ k.
+      let last : body_start s (entry_count s) ≤ length s = omega (arith, p.1) in
+      told_bind {P = λ es n. Entries s 0 es × (n ≡ length s)} _
+      (rw h.1 (entries_keep (entry_count s) 0 (omega arith) (omega (arith, t.0)) last p.0)) (λ es n₄ k.
       let r : Parts s xs es =
       record {
         head = h.0;
@@ -243,16 +243,16 @@ module _ (s : List ℕ) (bytes : Each Byte s) where
         ends = p.1;
         entries = k.0;
       } in
-      told-ok (rw (t.1, h.1) (is_within xs es r, is-written xs es r, k.1))))
-      (λ l. told-no tt))))
+      told_ok (rw (t.1, h.1) (is_within xs es r, is_written xs es r, k.1))))
+      (λ l. told_no tt))))
 
 -- A list of bytes is accepted and holds x exactly if x is within the limits and the list is what is written of x.
-pub accepted-exactly : (s : List ℕ) → Each Byte s → (x : Schema) (n : ℕ) → (readImage s ≡ ok x n) ↔ (Within x × (s ≡ write x) × (n ≡ length s))
+pub accepted_exactly : (s : List ℕ) → Each Byte s → (x : Schema) (n : ℕ) → (read_image s ≡ ok x n) ↔ (Within x × (s ≡ write x) × (n ≡ length s))
 unfolding Holds
-accepted-exactly s bytes x n = (λ e. told (rw e at (image-keeps s bytes)), back)
+accepted_exactly s bytes x n = (λ e. told (rw e at (image_keeps s bytes)), back)
   where
     told : Told (Holds s bytes) Free (ok x n) → Within x × (s ≡ write x) × (n ≡ length s)
-    told (told-ok h) = h
+    told (told_ok h) = h
 
-    back : Within x × (s ≡ write x) × (n ≡ length s) → readImage s ≡ ok x n
+    back : Within x × (s ≡ write x) × (n ≡ length s) → read_image s ≡ ok x n
     back h = rw (h.2, h.1) (written_read x h.0)

@@ -15,35 +15,35 @@ pub record Here (s : List ℕ) (at : ℕ) (w : List ℕ) : Type 0 where
   pub from : at ≤ length s
 
 -- the whole at its start
-pub here-all : (s : List ℕ) → Here s 0 s
-here-all s = record { rest = []; is = sym (append-nil s); from = omega arith }
+pub here_all : (s : List ℕ) → Here s 0 s
+here_all s = record { rest = []; is = sym (append-nil s); from = omega arith }
 
-pub here-fits : {s : List ℕ} {at : ℕ} {w : List ℕ} → Here s at w → at + length w ≤ length s
-here-fits {s} {at} {w} h =
+pub here_fits : {s : List ℕ} {at : ℕ} {w : List ℕ} → Here s at w → at + length w ≤ length s
+here_fits {s} {at} {w} h =
     let l = h.from in
     let d : length s ≡ at + (length w + length h.rest) = omega (arith, length-drop at s, ap length h.is, length-append w h.rest) in
     omega arith
 
 -- of two that stand together: the first, and the second after it
-pub here-first : {s : List ℕ} {at : ℕ} (w v : List ℕ) → Here s at (w ++ v) → Here s at w
-here-first w v h = record { rest = v ++ h.rest; is = h.is ∙ append_assoc w v h.rest; from = h.from }
+pub here_first : {s : List ℕ} {at : ℕ} (w v : List ℕ) → Here s at (w ++ v) → Here s at w
+here_first w v h = record { rest = v ++ h.rest; is = h.is ∙ append_assoc w v h.rest; from = h.from }
 
-pub here-next : {s : List ℕ} {at : ℕ} (w v : List ℕ) → Here s at (w ++ v) → Here s (at + length w) v
-here-next {s} {at} w v h =
+pub here_next : {s : List ℕ} {at : ℕ} (w v : List ℕ) → Here s at (w ++ v) → Here s (at + length w) v
+here_next {s} {at} w v h =
     record {
       rest = h.rest;
       is = sym (drop-drop (length w) at s) ∙ ap (drop (length w)) (h.is ∙ append_assoc w v h.rest) ∙ drop-append_seam w (v ++ h.rest);
-      from = here-fits (here-first w v h);
+      from = here_fits (here_first w v h);
     }
 
 -- as bytes
-pub here-byte : {s : List ℕ} {at b : ℕ} {v : List ℕ} → Here s at (b ∷ v) → get_or s at 0 ≡ b
-here-byte {s} {at} {b} h = rw (← (add-zero at), ← (get_or-drop at s 0 0)) (ap (λ (l : List ℕ). get_or l 0 0) h.is)
+pub here_byte : {s : List ℕ} {at b : ℕ} {v : List ℕ} → Here s at (b ∷ v) → get_or s at 0 ≡ b
+here_byte {s} {at} {b} h = rw (← (add-zero at), ← (get_or-drop at s 0 0)) (ap (λ (l : List ℕ). get_or l 0 0) h.is)
 
-pub here-part : {s : List ℕ} {at : ℕ} {w : List ℕ} → Here s at w → part at (length w) s ≡ w
+pub here_part : {s : List ℕ} {at : ℕ} {w : List ℕ} → Here s at w → part at (length w) s ≡ w
 unfolding part
-here-part {w = w} h = ap (take (length w)) h.is ∙ take-append_seam w h.rest
+here_part {w = w} h = ap (take (length w)) h.is ∙ take-append_seam w h.rest
 
 -- at the start of the part from there on
-pub here-drop : {s : List ℕ} {at : ℕ} {w : List ℕ} → Here s at w → Here (drop at s) 0 w
-here-drop h = record { rest = h.rest; is = h.is; from = omega arith }
+pub here_drop : {s : List ℕ} {at : ℕ} {w : List ℕ} → Here s at w → Here (drop at s) 0 w
+here_drop h = record { rest = h.rest; is = h.is; from = omega arith }

@@ -6,18 +6,18 @@ use mathlib.Core.Option.{none, some}
 use mathlib.Core.List.{List, [], ◌∷◌, ◌++◌, map}
 use Prim.Native.Nat.{ℕ}
 use lib.ListN.{take, set, replicate}
-use Rattle.image.specs.Schema.{Field, Variant, Schema, Marks, unmarked, label, leaf, noType, decl}
-use Rattle.image.specs.Parse.{Parsed, ok, no, bind, pick, shift, within, part, byteAt, codeAt, littleEndian, numberAt, many, counted}
-use Rattle.image.specs.Names.{nameByte, nameBytes, nameAt, namesAt}
-use Rattle.image.specs.Types.{followsTag, innerTypes, afterTag, labelOf, innerAt, typeOf, typeAt}
-use Rattle.image.specs.Fields.{marksOf, marksAt, plain, delta, encodingOf, encodingAt, limitAt, fieldAt, bareAt}
-use Rattle.image.specs.Kinds.{kindOf}
-use Rattle.image.specs.Formats.{known, hasWidths}
-use Rattle.image.specs.Widths.{wireBitsAt, wireBytes, wireBytesAt, widthAt}
-use Rattle.image.specs.Bodies.{messageAt, enumAt, flagsAt, declAt, bodyOf}
-use Rattle.image.specs.Image.{u16At, format, entryCount, idCount, segmentCount, entryOffset, entryLength, idsAt, segmentsAt, idsFrom, headOf, tablesOf, laid, entryOf, entriesOf, readImage}
+use Rattle.image.specs.Schema.{Field, Variant, Schema, Marks, unmarked, label, leaf, no_type, decl}
+use Rattle.image.specs.Parse.{Parsed, ok, no, bind, pick, shift, within, part, byte_at, code_at, little_endian, number_at, many, counted}
+use Rattle.image.specs.Names.{name_byte, name_bytes, name_at, names_at}
+use Rattle.image.specs.Types.{follows_tag, inner_types, after_tag, label_of, inner_at, type_of, type_at}
+use Rattle.image.specs.Fields.{marks_of, marks_at, plain, delta, encoding_of, encoding_at, limit_at, field_at, bare_at}
+use Rattle.image.specs.Kinds.{kind_of}
+use Rattle.image.specs.Formats.{known, has_widths}
+use Rattle.image.specs.Widths.{wire_bits_at, wire_bytes, wire_bytes_at, width_at}
+use Rattle.image.specs.Bodies.{message_at, enum_at, flags_at, decl_at, body_of}
+use Rattle.image.specs.Image.{u16_at, format, entry_count, id_count, segment_count, entry_offset, entry_length, ids_at, segments_at, ids_from, head_of, tables_of, laid, entry_of, entries_of, read_image}
 use Rattle.image.specs.Reads.{refusal}
-use Rattle.written.specs.Writer.{digits, writeEach, writeCounted, writeName, bit, marksByte, writeEncoding, writeLimit, writeAfter, writeLabel, writeType, writeField, writeBare, writeWidth, writeDecl, writeBody, writeEntry, writeContents, writeHead, bodiesAt, write}
+use Rattle.written.specs.Writer.{digits, write_each, write_counted, write_name, bit, marks_byte, write_encoding, write_limit, write_after, write_label, write_type, write_field, write_bare, write_width, write_decl, write_body, write_entry, write_contents, write_head, bodies_at, write}
 use Rattle.image.specs.Words.{bytes}
 
 -- the bytes as 01 prints them
@@ -34,12 +34,12 @@ speed =
     record { ordinal = 0; name = bytes "speed"; marks = unmarked; encoding = plain 0; limit = none; type = leaf (label 0 2 0 []) }
 
 -- "Image of `ride`, message `Drive`"
-pub rideSchema : Schema
+pub ride_schema : Schema
 unfolding bytes
-rideSchema =
+ride_schema =
     record {
       format = 1;
-      registry = some (decl 0 (bytes "Drive") unmarked none (speed ∷ []) [] noType) ∷ [];
+      registry = some (decl 0 (bytes "Drive") unmarked none (speed ∷ []) [] no_type) ∷ [];
       ids = 0 ∷ [];
       namespace = bytes "ride" ∷ [];
     }
@@ -55,17 +55,17 @@ park =
 item : ℕ → List ℕ → Variant
 item o x = record { ordinal = o; name = x; fields = [] }
 
-openMarks : Marks
-openMarks = record { deprecated = false; nonExhaustive = true }
+open_marks : Marks
+open_marks = record { deprecated = false; non_exhaustive = true }
 
-pub parkSchema : Schema
-unfolding bytes item openMarks
-parkSchema =
+pub park_schema : Schema
+unfolding bytes item open_marks
+park_schema =
     record {
       format = 2;
       registry =
-          some (decl 1 (bytes "Gear") openMarks (some 8) [] (item 0 (bytes "park") ∷ []) noType)
-          ∷ some (decl 2 (bytes "Lamps") unmarked (some 2) [] (item 0 (bytes "low") ∷ item 8 (bytes "fog") ∷ []) noType)
+          some (decl 1 (bytes "Gear") open_marks (some 8) [] (item 0 (bytes "park") ∷ []) no_type)
+          ∷ some (decl 2 (bytes "Lamps") unmarked (some 2) [] (item 0 (bytes "low") ∷ item 8 (bytes "fog") ∷ []) no_type)
           ∷ [];
       ids = 0 ∷ 1 ∷ [];
       namespace = bytes "ride" ∷ [];
@@ -73,25 +73,25 @@ parkSchema =
 
 -- What is unfolded where an image is computed: whoever unfolds this unfolds all that its line names.
 whole : List ℕ → Parsed Schema
-unfolding readImage entriesOf entryOf laid tablesOf headOf idsFrom segmentsAt idsAt entryLength entryOffset segmentCount idCount entryCount format u16At known bodyOf kindOf declAt messageAt enumAt flagsAt widthAt hasWidths wireBitsAt wireBytesAt wireBytes bareAt fieldAt limitAt encodingAt encodingOf delta plain marksAt marksOf typeAt typeOf innerAt labelOf afterTag innerTypes followsTag namesAt nameAt nameBytes nameByte counted many numberAt littleEndian codeAt byteAt part within shift pick bind bytes speed rideSchema item openMarks parkSchema
-whole s = readImage s
+unfolding read_image entries_of entry_of laid tables_of head_of ids_from segments_at ids_at entry_length entry_offset segment_count id_count entry_count format u16_at known body_of kind_of decl_at message_at enum_at flags_at width_at has_widths wire_bits_at wire_bytes_at wire_bytes bare_at field_at limit_at encoding_at encoding_of delta plain marks_at marks_of type_at type_of inner_at label_of after_tag inner_types follows_tag names_at name_at name_bytes name_byte counted many number_at little_endian code_at byte_at part within shift pick bind bytes speed ride_schema item open_marks park_schema
+whole s = read_image s
 
-pub ride-accepted : readImage ride ≡ ok rideSchema 46
+pub ride_accepted : read_image ride ≡ ok ride_schema 46
 unfolding whole
-ride-accepted = refl
+ride_accepted = refl
 
 -- and it is what is written of it
-pub ride-written : write rideSchema ≡ ride
-unfolding write writeHead writeContents writeEntry writeBody kindOf writeDecl writeField writeType writeLabel writeAfter followsTag writeLimit writeEncoding marksByte bit writeName writeCounted writeEach digits bodiesAt plain bytes speed rideSchema
-ride-written = refl
+pub ride_written : write ride_schema ≡ ride
+unfolding write write_head write_contents write_entry write_body kind_of write_decl write_field write_type write_label write_after follows_tag write_limit write_encoding marks_byte bit write_name write_counted write_each digits bodies_at plain bytes speed ride_schema
+ride_written = refl
 
-pub park-accepted : readImage park ≡ ok parkSchema 74
+pub park_accepted : read_image park ≡ ok park_schema 74
 unfolding whole
-park-accepted = refl
+park_accepted = refl
 
-pub park-written : write parkSchema ≡ park
-unfolding write writeHead writeContents writeEntry writeBody kindOf writeDecl writeBare writeWidth marksByte bit writeName writeCounted writeEach digits bodiesAt bytes item openMarks parkSchema
-park-written = refl
+pub park_written : write park_schema ≡ park
+unfolding write write_head write_contents write_entry write_body kind_of write_decl write_bare write_width marks_byte bit write_name write_counted write_each digits bodies_at bytes item open_marks park_schema
+park_written = refl
 
 -- damaged copies, each with the number that it gives
 pub damaged : List (List ℕ × ℕ)
@@ -124,13 +124,13 @@ damaged =
     ∷ (set (take 44 ride) 10 55 ++ replicate 32 4, 10)
     ∷ []
 
-pub damaged-refused : map (λ c. readImage c.0) damaged ≡ map (λ c. no c.1) damaged
+pub damaged_refused : map (λ c. read_image c.0) damaged ≡ map (λ c. no c.1) damaged
 unfolding whole damaged
-damaged-refused = refl
+damaged_refused = refl
 
 -- and of the image with widths
-pub damaged-widths : List (List ℕ × ℕ)
-damaged-widths =
+pub damaged_widths : List (List ℕ × ℕ)
+damaged_widths =
     -- an enum and flags that end before the width
     (set (set (set (take 36 park) 10 7) 12 0) 14 0, 8)
     ∷ (set (take 55 park) 14 7, 8)
@@ -143,19 +143,19 @@ damaged-widths =
     ∷ (set park 0 1, 8)
     ∷ []
 
-pub damaged-widths-refused : map (λ c. readImage c.0) damaged-widths ≡ map (λ c. no c.1) damaged-widths
-unfolding whole damaged-widths
-damaged-widths-refused = refl
+pub damaged_widths_refused : map (λ c. read_image c.0) damaged_widths ≡ map (λ c. no c.1) damaged_widths
+unfolding whole damaged_widths
+damaged_widths_refused = refl
 
 -- any wire bits of an enum; and `ride`, which has no width, as an image of format 2
 pub others : List (List ℕ)
 others = set park 36 0 ∷ set park 36 255 ∷ set ride 0 2 ∷ []
 
-pub others-accepted : map (λ s. refusal (readImage s)) others ≡ 0 ∷ 0 ∷ 0 ∷ []
+pub others_accepted : map (λ s. refusal (read_image s)) others ≡ 0 ∷ 0 ∷ 0 ∷ []
 unfolding whole refusal others
-others-accepted = refl
+others_accepted = refl
 
 -- 31 optionals around a void are 32 nodes
-pub nodes-32 : refusal (readImage (set (take 44 ride) 10 56 ++ replicate 31 4 ++ 0 ∷ 13 ∷ [])) ≡ 0
+pub nodes_32 : refusal (read_image (set (take 44 ride) 10 56 ++ replicate 31 4 ++ 0 ∷ 13 ∷ [])) ≡ 0
 unfolding whole refusal
-nodes-32 = refl
+nodes_32 = refl

@@ -1,10 +1,10 @@
 -- The schemas within the limits of documents 01 and 02: those that an image can hold, in its format. Assumes nothing.
 use Rattle.std.specs.Prelude.{◌≡◌, true, false, List, [], ◌∷◌, ℕ, suc, ◌^◌, max, ◌≤◌, ◌<◌, length}
 use Rattle.std.proofs.Math.Option.{Option, none, some}
-use Rattle.image.specs.Codes.{number, messageKind, enumKind, flagsKind, unionKind, newtypeKind, configKind, aliasKind, traitKind, implKind, primitiveTag, subByteTag, semanticTag, namedTag, optionalTag, arrayTag, fixedArrayTag, setTag, mapTag, resultTag, vec2Tag, mat4Tag, bitsTag}
-use Rattle.image.specs.Schema.{Name, Marks, unmarked, Encoding, Label, label, Ty, leaf, one, two, Field, Variant, Decl, decl, noType, Schema}
-use Rattle.image.specs.Formats.{hasWidths}
-use Rattle.image.specs.Names.{nameBytes}
+use Rattle.image.specs.Codes.{number, message_kind, enum_kind, flags_kind, union_kind, newtype_kind, config_kind, alias_kind, trait_kind, impl_kind, primitive_tag, sub_byte_tag, semantic_tag, named_tag, optional_tag, array_tag, fixed_array_tag, set_tag, map_tag, result_tag, vec2_tag, mat4_tag, bits_tag}
+use Rattle.image.specs.Schema.{Name, Marks, unmarked, Encoding, Label, label, Ty, leaf, one, two, Field, Variant, Decl, decl, no_type, Schema}
+use Rattle.image.specs.Formats.{has_widths}
+use Rattle.image.specs.Names.{name_bytes}
 use Rattle.refusals.specs.Refusals.{Known}
 use Rattle.written.specs.Writer.{write}
 
@@ -29,26 +29,26 @@ U64 v = v < 2 ^ 64
 -- "0 to 255, and that many letters, digits or `_`"
 pub record NameWithin (x : Name) : Type 0 where
   pub short : length x ≤ 255
-  pub allowed : nameBytes x ≡ true
+  pub allowed : name_bytes x ≡ true
 
 -- optional, array and set; vec2 vec3 vec4 quat mat3 mat4
 pub data Wrapping (tag : ℕ) : Type 0 where
-  optional : tag ≡ number optionalTag → Wrapping tag
-  array : tag ≡ number arrayTag → Wrapping tag
-  set : tag ≡ number setTag → Wrapping tag
-  vector : (number vec2Tag) ≤ tag → tag ≤ number mat4Tag → Wrapping tag
+  optional : tag ≡ number optional_tag → Wrapping tag
+  array : tag ≡ number array_tag → Wrapping tag
+  set : tag ≡ number set_tag → Wrapping tag
+  vector : (number vec2_tag) ≤ tag → tag ≤ number mat4_tag → Wrapping tag
 
 -- the labels of types, by their number of inner types
 pub data LabelWithin : ℕ → Label → Type 0 where
-  primitive : {a : ℕ} → a ≤ 13 → LabelWithin 0 (label (number primitiveTag) a 0 [])
-  subByte : {signed width : ℕ} → signed ≤ 1 → 1 ≤ width → width ≤ 64 → LabelWithin 0 (label (number subByteTag) signed width [])
-  semantic : {a : ℕ} → a ≤ 5 → LabelWithin 0 (label (number semanticTag) a 0 [])
-  named : {id : ℕ} → U32 id → LabelWithin 0 (label (number namedTag) id 0 [])
-  bits : {names : List Name} → length names ≤ 255 → Each NameWithin names → LabelWithin 0 (label (number bitsTag) 0 0 names)
+  primitive : {a : ℕ} → a ≤ 13 → LabelWithin 0 (label (number primitive_tag) a 0 [])
+  sub_byte : {signed width : ℕ} → signed ≤ 1 → 1 ≤ width → width ≤ 64 → LabelWithin 0 (label (number sub_byte_tag) signed width [])
+  semantic : {a : ℕ} → a ≤ 5 → LabelWithin 0 (label (number semantic_tag) a 0 [])
+  named : {id : ℕ} → U32 id → LabelWithin 0 (label (number named_tag) id 0 [])
+  bits : {names : List Name} → length names ≤ 255 → Each NameWithin names → LabelWithin 0 (label (number bits_tag) 0 0 names)
   wrapping : {tag : ℕ} → Wrapping tag → LabelWithin 1 (label tag 0 0 [])
-  fixedArray : {k : ℕ} → U64 k → LabelWithin 1 (label (number fixedArrayTag) k 0 [])
-  map : LabelWithin 2 (label (number mapTag) 0 0 [])
-  result : LabelWithin 2 (label (number resultTag) 0 0 [])
+  fixed_array : {k : ℕ} → U64 k → LabelWithin 1 (label (number fixed_array_tag) k 0 [])
+  map : LabelWithin 2 (label (number map_tag) 0 0 [])
+  result : LabelWithin 2 (label (number result_tag) 0 0 [])
 
 pub data Typed : Ty → Type 0 where
   bare : {l : Label} → LabelWithin 0 l → Typed (leaf l)
@@ -97,31 +97,31 @@ pub record VariantWithin (v : Variant) : Type 0 where
 
 -- "Image format 2 stores the width": there is one exactly in a format that stores it
 pub data WidthWithin (format : ℕ) (P : ℕ → Type 0) : Option ℕ → Type 0 where
-  absent : hasWidths format ≡ false → WidthWithin format P none
-  stored : {w : ℕ} → hasWidths format ≡ true → P w → WidthWithin format P (some w)
+  absent : has_widths format ≡ false → WidthWithin format P none
+  stored : {w : ℕ} → has_widths format ≡ true → P w → WidthWithin format P (some w)
 
 -- "1, 2, 4 or 8"
 pub data WireBytes : ℕ → Type 0 where
-  inOne : WireBytes 1
-  inTwo : WireBytes 2
-  inFour : WireBytes 4
-  inEight : WireBytes 8
+  in_one : WireBytes 1
+  in_two : WireBytes 2
+  in_four : WireBytes 4
+  in_eight : WireBytes 8
 
 -- a declaration of each kind, what the kind has not at its default
 pub data DeclWithin (f : ℕ) : Decl → Type 0 where
   message : {x : Name} {m : Marks} {fs : List Field} → NameWithin x → Few fs → Each FieldWithin fs
-      → DeclWithin f (decl (number messageKind) x m none fs [] noType)
+      → DeclWithin f (decl (number message_kind) x m none fs [] no_type)
   enum : {x : Name} {m : Marks} {w : Option ℕ} {vs : List Variant} → NameWithin x → WidthWithin f Byte w → Few vs → Each BareWithin vs
-      → DeclWithin f (decl (number enumKind) x m w [] vs noType)
+      → DeclWithin f (decl (number enum_kind) x m w [] vs no_type)
   flags : {x : Name} {w : Option ℕ} {vs : List Variant} → NameWithin x → WidthWithin f WireBytes w → Few vs → Each BareWithin vs
-      → DeclWithin f (decl (number flagsKind) x unmarked w [] vs noType)
+      → DeclWithin f (decl (number flags_kind) x unmarked w [] vs no_type)
   union : {x : Name} {vs : List Variant} → NameWithin x → Few vs → Each VariantWithin vs
-      → DeclWithin f (decl (number unionKind) x unmarked none [] vs noType)
-  newtype : {x : Name} {t : Ty} → NameWithin x → TypeWithin t → DeclWithin f (decl (number newtypeKind) x unmarked none [] [] t)
-  config : {x : Name} → NameWithin x → DeclWithin f (decl (number configKind) x unmarked none [] [] noType)
-  alias : {x : Name} → NameWithin x → DeclWithin f (decl (number aliasKind) x unmarked none [] [] noType)
-  trait : {x : Name} → NameWithin x → DeclWithin f (decl (number traitKind) x unmarked none [] [] noType)
-  impl : DeclWithin f (decl (number implKind) [] unmarked none [] [] noType)
+      → DeclWithin f (decl (number union_kind) x unmarked none [] vs no_type)
+  newtype : {x : Name} {t : Ty} → NameWithin x → TypeWithin t → DeclWithin f (decl (number newtype_kind) x unmarked none [] [] t)
+  config : {x : Name} → NameWithin x → DeclWithin f (decl (number config_kind) x unmarked none [] [] no_type)
+  alias : {x : Name} → NameWithin x → DeclWithin f (decl (number alias_kind) x unmarked none [] [] no_type)
+  trait : {x : Name} → NameWithin x → DeclWithin f (decl (number trait_kind) x unmarked none [] [] no_type)
+  impl : DeclWithin f (decl (number impl_kind) [] unmarked none [] [] no_type)
 
 pub data EntryWithin (f : ℕ) : Option Decl → Type 0 where
   empty : EntryWithin f none
@@ -130,9 +130,9 @@ pub data EntryWithin (f : ℕ) : Option Decl → Type 0 where
 -- "N or M over 512, S over 16" is crowded; "image over 32,768 bytes" is long
 pub record Within (s : Schema) : Type 0 where
   pub format : Known s.format
-  pub entryCount : length s.registry ≤ 512
-  pub idCount : length s.ids ≤ 512
-  pub segmentCount : length s.namespace ≤ 16
+  pub entry_count : length s.registry ≤ 512
+  pub id_count : length s.ids ≤ 512
+  pub segment_count : length s.namespace ≤ 16
   pub entries : Each (EntryWithin s.format) s.registry
   pub ids : Each U32 s.ids
   pub segments : Each NameWithin s.namespace

@@ -145,7 +145,7 @@ fn said<'a>(field: &[&'a str]) -> Result<Vec<([&'a str; 2], Verdict, Said)>, Str
             let distance = Said::Distance(number(distance)?);
             ([*old, *new], asked(OF, call)?, distance)
         }
-        ["countBetween", call, "(", "kindAt", name, ")", old, new, "≡", count] => {
+        ["count_between", call, "(", "kind_at", name, ")", old, new, "≡", count] => {
             let count = Said::Count(kind(name)?, number(count)?);
             ([*old, *new], asked(OF, call)?, count)
         }
@@ -164,9 +164,9 @@ fn said<'a>(field: &[&'a str]) -> Result<Vec<([&'a str; 2], Verdict, Said)>, Str
 
 /// How the verdicts are named, in their order: by their reports, by their values (those
 /// of 01 have a form of their own), and in all else.
-const TOLD: [&str; 3] = ["told", "importsTold", "mendedTold"];
+const TOLD: [&str; 3] = ["told", "imports_told", "mended_told"];
 const OUTCOME: [&str; 3] = ["", "imports", "mended"];
-const OF: [&str; 3] = ["verdictOf", "importsOf", "mendedOf"];
+const OF: [&str; 3] = ["verdict_of", "imports_of", "mended_of"];
 
 /// The verdict that a call names.
 fn asked(calls: [&str; 3], call: &str) -> Result<Verdict, String> {

@@ -1,11 +1,11 @@
 -- `compat::verdict` meets its contract: the old image's fault, or what the new one gives. Assumes nothing.
 use Rattle.std.proofs.Common.{◌∙◌}
-use Rattle.parts.specs.Codes.{number, oldSide}
-use Rattle.compat.proofs.Outcomes.{passing, old-refused}
+use Rattle.parts.specs.Codes.{number, old_side}
+use Rattle.compat.proofs.Outcomes.{passing, old_refused_lem}
 use Rattle.compat.proofs.verdict.Goals as goal
 
 pub verdict_new-requires : goal.verdict_new-requires
-verdict_new-requires c = passing c.args.policy c.args.old.now c.args.new.now (number oldSide) c.args.old.now c.accept.ensures c.in-Passes.is
+verdict_new-requires c = passing c.args.policy c.args.old.now c.args.new.now (number old_side) c.args.old.now c.accept.ensures c.in-Passes.is
 
 pub returns-in-Fault : goal.returns-in-Fault
-returns-in-Fault c = c.refused.ensures ∙ old-refused c.args.policy c.args.old.now c.args.new.now c.accept.ensures c.in-Fault.is
+returns-in-Fault c = c.refused.ensures ∙ old_refused_lem c.args.policy c.args.old.now c.args.new.now c.accept.ensures c.in-Fault.is

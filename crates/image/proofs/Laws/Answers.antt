@@ -45,16 +45,16 @@ unfolding bind
 next f g h = rw g.is (h g.value)
 
 -- or what it says of the one value that it can be
-pub next-is : {A B : Type 0} {p : Parsed A} (f : A → ℕ → Parsed B) {r : Read} {a : A} {n : ℕ} → p ≡ ok a n → r ≡ skip (f a n)
+pub next_is : {A B : Type 0} {p : Parsed A} (f : A → ℕ → Parsed B) {r : Read} {a : A} {n : ℕ} → p ≡ ok a n → r ≡ skip (f a n)
     → r ≡ skip (bind p f)
 unfolding bind
-next-is f e h = rw e h
+next_is f e h = rw e h
 
 -- what is made of the value does not matter to the answer
-pub skip-ok : {A B : Type 0} (p : Parsed A) (g : A → B) → skip (bind p (λ a m. ok (g a) m)) ≡ skip p
+pub skip_ok : {A B : Type 0} (p : Parsed A) (g : A → B) → skip (bind p (λ a m. ok (g a) m)) ≡ skip p
 unfolding skip bind
-skip-ok (ok a m) g = refl
-skip-ok (no k) g = refl
+skip_ok (ok a m) g = refl
+skip_ok (no k) g = refl
 
 -- a test between two reads
 module _ {A : Type 0} (b : Bool) (p q : Parsed A) {x : Read} where
@@ -62,23 +62,23 @@ module _ {A : Type 0} (b : Bool) (p q : Parsed A) {x : Read} where
   unfolding pick
   pick_true e h = rw e h
 
-  pub pick-false : b ≡ false → x ≡ skip q → x ≡ skip (pick b p q)
+  pub pick_false : b ≡ false → x ≡ skip q → x ≡ skip (pick b p q)
   unfolding pick
-  pick-false e h = rw e h
+  pick_false e h = rw e h
 
 -- a part's answer as the whole's
 module _ {A : Type 0} (p : List ℕ → Parsed A) (s : List ℕ) (at : ℕ) {x : Read} where
-  pub within-at : {n : ℕ} → x ≡ At n → x ≡ skip (p (drop at s)) → At (at + n) ≡ skip (within p s at)
+  pub within_at : {n : ℕ} → x ≡ At n → x ≡ skip (p (drop at s)) → At (at + n) ≡ skip (within p s at)
   unfolding within skip shift
-  within-at {n} h e = go (p (drop at s)) e
+  within_at {n} h e = go (p (drop at s)) e
     where
       go : (q : Parsed A) → x ≡ skip q → At (at + n) ≡ skip (shift at q)
       go (ok a m) e = let d : n ≡ m = cc in rw d
       go (no k) e = apart (sym h ∙ e)
 
-  pub within-no : {k : ℕ} → x ≡ Refused k → x ≡ skip (p (drop at s)) → x ≡ skip (within p s at)
+  pub within_no : {k : ℕ} → x ≡ Refused k → x ≡ skip (p (drop at s)) → x ≡ skip (within p s at)
   unfolding within skip shift
-  within-no h e = go (p (drop at s)) e
+  within_no h e = go (p (drop at s)) e
     where
       go : (q : Parsed A) → x ≡ skip q → x ≡ skip (shift at q)
       go (ok a m) e = apart (sym e ∙ h)

@@ -9,7 +9,7 @@ use mir.Facts.{Fits-below}
 use lib.ListN.{length}
 use Rattle.image.specs.Parse.{Parsed}
 use Rattle.image.proofs.Laws.Answers.{Got}
-use Rattle.image.proofs.Laws.Sure.{Sure, In, sure-got}
+use Rattle.image.proofs.Laws.Sure.{Sure, In, sure_got}
 
 -- where a read holds its positions so
 pub record Narrow (s : List ℕ) (at : ℕ) : Type 0 where
@@ -24,5 +24,5 @@ module _ {s : List ℕ} {at : ℕ} (h : Narrow s at) where
   -- and each that it reads to
   pub narrow : {A : Type 0} {p : Parsed A} {n : ℕ} → Sure (In s) p → Got p n → Fits w16 n
   narrow {n = n} q g =
-      let l : n ≤ length s = sure-got q g in
+      let l : n ≤ length s = sure_got q g in
       Fits-below tt (let m : n ≤ 65535 = omega arith in m)

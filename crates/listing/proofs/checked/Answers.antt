@@ -1,8 +1,8 @@
 -- `listing::checked` meets its contract: the image's refusal, or what is measured. Assumes nothing.
 use Rattle.std.proofs.Common.{◌∙◌}
-use Rattle.parts.proofs.Promise.{accepted, rejected-read}
+use Rattle.parts.proofs.Promise.{accepted, rejected_read}
 use Rattle.rules.specs.Outcome.{fit}
-use Rattle.verdicts.specs.Verdicts.{verdictIs}
+use Rattle.verdicts.specs.Verdicts.{verdict_is}
 use Rattle.listing.specs.Listing.{accept, outcome}
 use Rattle.listing.proofs.checked.Goals as goal
 
@@ -10,5 +10,5 @@ pub measured-requires : goal.measured-requires
 measured-requires c = accepted _ c.read_image.ensures c.in-Accepted.is
 
 pub returns-in-Rejected : goal.returns-in-Rejected
-unfolding outcome accept fit verdictIs
-returns-in-Rejected c = c.refused.ensures ∙ rw (rejected-read c.args.image.now c.read_image.ensures c.in-Rejected.is)
+unfolding outcome accept fit verdict_is
+returns-in-Rejected c = c.refused.ensures ∙ rw (rejected_read c.args.image.now c.read_image.ensures c.in-Rejected.is)

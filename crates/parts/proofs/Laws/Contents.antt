@@ -6,203 +6,203 @@ use Prim.Native.Nat.{ℕ, zero, suc, ◌+◌, ◌*◌, ◌≤◌, ◌<◌}
 use native.Mathlib.Omega.{arith}
 use borrow.Author.Tests.{leb-true, ne_eqb}
 use lib.ListN.{length, get_or, take, drop, get_or-eq_default}
-use Rattle.image.specs.Schema.{Decl, Schema, noSchema}
-use Rattle.image.specs.Parse.{ok, bind, pick, part, littleEndian, byteAt}
-use Rattle.image.specs.Names.{nameAt, namesAt}
-use Rattle.image.specs.Bodies.{bodyOf}
-use Rattle.image.specs.Image.{format, entryCount, idCount, segmentCount, entryOffset, entryLength, idsAt, segmentsAt, idsFrom, headOf, tablesOf, entryOf, entriesOf, readImage}
-use Rattle.image.specs.WellFormed.{Good, valueOr, endOf}
-use Rattle.image.proofs.Laws.Sure.{head-sure}
-use Rattle.image.proofs.Laws.Good.{sure-good, good-first}
-use Rattle.image.proofs.Laws.Repeats.{ids-length}
+use Rattle.image.specs.Schema.{Decl, Schema, no_schema}
+use Rattle.image.specs.Parse.{ok, bind, pick, part, little_endian, byte_at}
+use Rattle.image.specs.Names.{name_at, names_at}
+use Rattle.image.specs.Bodies.{body_of}
+use Rattle.image.specs.Image.{format, entry_count, id_count, segment_count, entry_offset, entry_length, ids_at, segments_at, ids_from, head_of, tables_of, entry_of, entries_of, read_image}
+use Rattle.image.specs.WellFormed.{Good, value_or, end_of}
+use Rattle.image.proofs.Laws.Sure.{head_sure}
+use Rattle.image.proofs.Laws.Good.{sure_good, good_first}
+use Rattle.image.proofs.Laws.Repeats.{ids_length}
 use Rattle.image.proofs.Laws.Names.{part_length}
-use Rattle.parts.specs.Promise.{noDecl, Accepted, schemaOf, NamesHere, NamesListed, namePlaces, nameIn, nameEnd, DeclHere, declIn, segmentsIn}
-use Rattle.parts.proofs.Laws.Kept.{kept-good, kept-value, part_of, part-self, names-kept, body_kept}
-use Rattle.parts.proofs.Laws.Steps.{good-is, then_is, then-good, need-is, need-true, byte-is}
-use Rattle.parts.proofs.Laws.Places.{many-places}
+use Rattle.parts.specs.Promise.{no_decl, Accepted, schema_of, NamesHere, NamesListed, name_places, name_in, name_end, DeclHere, decl_in, segments_in}
+use Rattle.parts.proofs.Laws.Kept.{kept_good, kept_value, part_of, part_self, names_kept, body_kept}
+use Rattle.parts.proofs.Laws.Steps.{good_is, then_is, then_good, need_is, need_true, byte_is}
+use Rattle.parts.proofs.Laws.Places.{many_places}
 
 -- what an accepted image consists of
 pub record Whole (s : List ℕ) : Type 0 where
   pub most : length s ≤ 32768
   pub least : 8 ≤ length s
-  pub tables : segmentsAt s ≤ length s
-  pub names : Good (namesAt 2 (segmentCount s) s (segmentsAt s))
-  pub entries : Good (entriesOf (format s) (entryCount s) s 0)
-  pub is : schemaOf s ≡ record {
+  pub tables : segments_at s ≤ length s
+  pub names : Good (names_at 2 (segment_count s) s (segments_at s))
+  pub entries : Good (entries_of (format s) (entry_count s) s 0)
+  pub is : schema_of s ≡ record {
     format = format s;
-    registry = valueOr [] (entriesOf (format s) (entryCount s) s 0);
-    ids = idsFrom (idCount s) s (idsAt s);
-    namespace = valueOr [] (namesAt 2 (segmentCount s) s (segmentsAt s));
+    registry = value_or [] (entries_of (format s) (entry_count s) s 0);
+    ids = ids_from (id_count s) s (ids_at s);
+    namespace = value_or [] (names_at 2 (segment_count s) s (segments_at s));
   }
 
 pub whole : (s : List ℕ) → Accepted s → Whole s
-unfolding Accepted schemaOf readImage tablesOf valueOr
+unfolding Accepted schema_of read_image tables_of value_or
 whole s g =
-    let b₁ = good-first 0 (headOf s) _ g in
-    let h = sure-good 0 (head-sure s) b₁ in
-    let e₁ = good-is 0 (headOf s) b₁ ∙ ap (λ (f : ℕ). ok f (endOf (headOf s))) h.format in
-    let g₂ = then-good _ e₁ g in
-    let b₂ = good-first [] (tablesOf s) _ g₂ in
-    let e₂ = need-is 2 _ _ b₂ in
-    let g₃ = then-good _ e₂ g₂ in
-    let b₃ = good-first [] (namesAt 2 (segmentCount s) s (segmentsAt s)) _ g₃ in
-    let e₃ = good-is [] _ b₃ in
-    let g₄ = then-good _ e₃ g₃ in
-    let e₄ = need-is 5 _ _ g₄ in
+    let b₁ = good_first 0 (head_of s) _ g in
+    let h = sure_good 0 (head_sure s) b₁ in
+    let e₁ = good_is 0 (head_of s) b₁ ∙ ap (λ (f : ℕ). ok f (end_of (head_of s))) h.format in
+    let g₂ = then_good _ e₁ g in
+    let b₂ = good_first [] (tables_of s) _ g₂ in
+    let e₂ = need_is 2 _ _ b₂ in
+    let g₃ = then_good _ e₂ g₂ in
+    let b₃ = good_first [] (names_at 2 (segment_count s) s (segments_at s)) _ g₃ in
+    let e₃ = good_is [] _ b₃ in
+    let g₄ = then_good _ e₃ g₃ in
+    let e₄ = need_is 5 _ _ g₄ in
     let g₅ = rw e₄ at g₄ in
-    let b₅ = good-first [] (entriesOf (format s) (entryCount s) s 0) _ g₅ in
+    let b₅ = good_first [] (entries_of (format s) (entry_count s) s 0) _ g₅ in
     record {
       most = h.most;
       least = h.least;
-      tables = leb-true (segmentsAt s) (length s) (need-true 2 _ _ b₂);
+      tables = leb-true (segments_at s) (length s) (need_true 2 _ _ b₂);
       names = b₃;
       entries = b₅;
-      is = ap (valueOr noSchema) (then_is _ e₁ ∙ then_is _ e₂ ∙ then_is _ e₃ ∙ e₄ ∙ then_is _ (good-is [] _ b₅));
+      is = ap (value_or no_schema) (then_is _ e₁ ∙ then_is _ e₂ ∙ then_is _ e₃ ∙ e₄ ∙ then_is _ (good_is [] _ b₅));
     }
 
 -- the ids
 module _ (s : List ℕ) where
-  ids_at : (c at k : ℕ) → k < c → get_or (idsFrom c s at) k 0 ≡ littleEndian 4 (drop (at + 4 * k) s)
-  unfolding idsFrom
-  ids_at zero at k l = absurd (omega arith)
-  ids_at (suc c) at zero l =
+  ids_at_lem : (c at k : ℕ) → k < c → get_or (ids_from c s at) k 0 ≡ little_endian 4 (drop (at + 4 * k) s)
+  unfolding ids_from
+  ids_at_lem zero at k l = absurd (omega arith)
+  ids_at_lem (suc c) at zero l =
       let z : at ≡ at + 4 * 0 = omega arith in
-      ap (λ (i : ℕ). littleEndian 4 (drop i s)) z
-  ids_at (suc c) at (suc k) l =
+      ap (λ (i : ℕ). little_endian 4 (drop i s)) z
+  ids_at_lem (suc c) at (suc k) l =
       let z : at + 4 + 4 * k ≡ at + 4 * suc k = omega arith in
-      ids_at c (at + 4) k (omega arith) ∙ ap (λ (i : ℕ). littleEndian 4 (drop i s)) z
+      ids_at_lem c (at + 4) k (omega arith) ∙ ap (λ (i : ℕ). little_endian 4 (drop i s)) z
 
 -- the entries, one by one, in a format
 module _ (f : ℕ) (s : List ℕ) where
-  entries-more : (c i : ℕ) → Good (entriesOf f (suc c) s i)
-      → Good (entryOf f s i) × Good (entriesOf f c s (i + 1)) × (valueOr [] (entriesOf f (suc c) s i) ≡ valueOr none (entryOf f s i) ∷ valueOr [] (entriesOf f c s (i + 1)))
-  unfolding entriesOf valueOr
-  entries-more c i g =
-      let a = good-first none (entryOf f s i) _ g in
-      let e = good-is none (entryOf f s i) a in
-      let b = good-first [] (entriesOf f c s (i + 1)) _ (then-good _ e g) in
-      (a, b, ap (valueOr []) (then_is _ e ∙ then_is _ (good-is [] _ b)))
+  entries_more : (c i : ℕ) → Good (entries_of f (suc c) s i)
+      → Good (entry_of f s i) × Good (entries_of f c s (i + 1)) × (value_or [] (entries_of f (suc c) s i) ≡ value_or none (entry_of f s i) ∷ value_or [] (entries_of f c s (i + 1)))
+  unfolding entries_of value_or
+  entries_more c i g =
+      let a = good_first none (entry_of f s i) _ g in
+      let e = good_is none (entry_of f s i) a in
+      let b = good_first [] (entries_of f c s (i + 1)) _ (then_good _ e g) in
+      (a, b, ap (value_or []) (then_is _ e ∙ then_is _ (good_is [] _ b)))
 
-  entries_none : (i : ℕ) → valueOr [] (entriesOf f 0 s i) ≡ []
-  unfolding entriesOf valueOr
+  entries_none : (i : ℕ) → value_or [] (entries_of f 0 s i) ≡ []
+  unfolding entries_of value_or
   entries_none i = refl
 
-  entries-count : (c i : ℕ) → Good (entriesOf f c s i) → length (valueOr [] (entriesOf f c s i)) ≡ c
-  entries-count zero i g = ap length (entries_none i)
-  entries-count (suc c) i g =
-      let (a, b, e) = entries-more c i g in
-      ap length e ∙ ap suc (entries-count c (i + 1) b)
+  entries_count : (c i : ℕ) → Good (entries_of f c s i) → length (value_or [] (entries_of f c s i)) ≡ c
+  entries_count zero i g = ap length (entries_none i)
+  entries_count (suc c) i g =
+      let (a, b, e) = entries_more c i g in
+      ap length e ∙ ap suc (entries_count c (i + 1) b)
 
-  entries_at : (c i j : ℕ) → j < c → Good (entriesOf f c s i) → Good (entryOf f s (i + j)) × (get_or (valueOr [] (entriesOf f c s i)) j none ≡ valueOr none (entryOf f s (i + j)))
+  entries_at : (c i j : ℕ) → j < c → Good (entries_of f c s i) → Good (entry_of f s (i + j)) × (get_or (value_or [] (entries_of f c s i)) j none ≡ value_or none (entry_of f s (i + j)))
   entries_at zero i j l g = absurd (omega arith)
   entries_at (suc c) i zero l g =
-      let (a, b, e) = entries-more c i g in
+      let (a, b, e) = entries_more c i g in
       let z : i + 0 ≡ i = omega arith in
       rw z (a, ap (λ (r : List (Option Decl)). get_or r 0 none) e)
   entries_at (suc c) i (suc j) l g =
-      let (a, b, e) = entries-more c i g in
+      let (a, b, e) = entries_more c i g in
       let z : i + suc j ≡ i + 1 + j = omega arith in
       let r = entries_at c (i + 1) j (omega arith) b in
       rw z (r.0, ap (λ (r : List (Option Decl)). get_or r (suc j) none) e ∙ r.1)
 
   -- an empty one, and one with a body
-  entry-empty : (i : ℕ) → entryLength s i ≡ 0 → valueOr none (entryOf f s i) ≡ none
-  unfolding entryOf pick valueOr
-  entry-empty i z = rw z
+  entry_empty : (i : ℕ) → entry_length s i ≡ 0 → value_or none (entry_of f s i) ≡ none
+  unfolding entry_of pick value_or
+  entry_empty i z = rw z
 
-  entry-is : (i : ℕ) → (entryLength s i ≡ 0 → ⊥) → entryOf f s i ≡ bind (bodyOf f (part (entryOffset s i) (entryLength s i) s)) (λ d n. ok (some d) n)
-  unfolding entryOf pick
-  entry-is i n = rw (ne_eqb (entryLength s i) 0 n)
+  entry_is : (i : ℕ) → (entry_length s i ≡ 0 → ⊥) → entry_of f s i ≡ bind (body_of f (part (entry_offset s i) (entry_length s i) s)) (λ d n. ok (some d) n)
+  unfolding entry_of pick
+  entry_is i n = rw (ne_eqb (entry_length s i) 0 n)
 
-  body-there : (from count : ℕ) → Good (bodyOf f (part from count s)) → from ≤ length s
-  unfolding bodyOf part
-  body-there from count g =
-      let l = (byte-is (take count (drop from s)) 0 8 (good-first 0 (byteAt 8 (take count (drop from s)) 0) _ g)).1 in
+  body_there : (from count : ℕ) → Good (body_of f (part from count s)) → from ≤ length s
+  unfolding body_of part
+  body_there from count g =
+      let l = (byte_is (take count (drop from s)) 0 8 (good_first 0 (byte_at 8 (take count (drop from s)) 0) _ g)).1 in
       omega (arith, (part_length from count s).1)
 
 -- a body's declaration stands in the image at the body's place
 module _ (s : List ℕ) where
-  entry-body : (i : ℕ) → (entryLength s i ≡ 0 → ⊥) → Good (entryOf (format s) s i)
-      → DeclHere s (entryOffset s i) × (valueOr none (entryOf (format s) s i) ≡ some (declIn s (entryOffset s i)))
-  unfolding DeclHere declIn valueOr
-  entry-body i n g =
-      let t = part (entryOffset s i) (entryLength s i) s in
-      let e = entry-is (format s) s i n in
-      let b = good-first noDecl (bodyOf (format s) t) _ (rw e at g) in
-      let k = body_kept (entryOffset s i) t s (part_of (entryOffset s i) (entryLength s i) s (body-there (format s) s (entryOffset s i) (entryLength s i) b)) in
-      (kept-good k b, ap (valueOr none) (e ∙ then_is _ (good-is noDecl (bodyOf (format s) t) b)) ∙ ap some (sym (kept-value noDecl k b)))
+  entry_body : (i : ℕ) → (entry_length s i ≡ 0 → ⊥) → Good (entry_of (format s) s i)
+      → DeclHere s (entry_offset s i) × (value_or none (entry_of (format s) s i) ≡ some (decl_in s (entry_offset s i)))
+  unfolding DeclHere decl_in value_or
+  entry_body i n g =
+      let t = part (entry_offset s i) (entry_length s i) s in
+      let e = entry_is (format s) s i n in
+      let b = good_first no_decl (body_of (format s) t) _ (rw e at g) in
+      let k = body_kept (entry_offset s i) t s (part_of (entry_offset s i) (entry_length s i) s (body_there (format s) s (entry_offset s i) (entry_length s i) b)) in
+      (kept_good k b, ap (value_or none) (e ∙ then_is _ (good_is no_decl (body_of (format s) t) b)) ∙ ap some (sym (kept_value no_decl k b)))
 
 -- what an accepted image says of its tables
 module _ (s : List ℕ) (g : Accepted s) where
-  pub accepted-most : length s ≤ 32768
-  accepted-most = (whole s g).most
+  pub accepted_most : length s ≤ 32768
+  accepted_most = (whole s g).most
 
-  pub head-there : 8 ≤ length s
-  head-there = (whole s g).least
+  pub head_there : 8 ≤ length s
+  head_there = (whole s g).least
 
-  tables-there : 8 + 4 * entryCount s + 4 * idCount s ≤ length s
-  unfolding segmentsAt idsAt
-  tables-there = (whole s g).tables
+  tables_there : 8 + 4 * entry_count s + 4 * id_count s ≤ length s
+  unfolding segments_at ids_at
+  tables_there = (whole s g).tables
 
-  pub format-is : format s ≡ (schemaOf s).format
-  format-is = sym (ap (λ (c : Schema). c.format) (whole s g).is)
+  pub format_is : format s ≡ (schema_of s).format
+  format_is = sym (ap (λ (c : Schema). c.format) (whole s g).is)
 
-  ids-are : (schemaOf s).ids ≡ idsFrom (idCount s) s (idsAt s)
-  ids-are = ap (λ (c : Schema). c.ids) (whole s g).is
+  ids_are : (schema_of s).ids ≡ ids_from (id_count s) s (ids_at s)
+  ids_are = ap (λ (c : Schema). c.ids) (whole s g).is
 
-  pub id-count-is : idCount s ≡ length (schemaOf s).ids
-  id-count-is = sym (ap length ids-are ∙ ids-length (idCount s) s (idsAt s))
+  pub id_count_is : id_count s ≡ length (schema_of s).ids
+  id_count_is = sym (ap length ids_are ∙ ids_length (id_count s) s (ids_at s))
 
-  pub id-is : (k : ℕ) → k < length (schemaOf s).ids
-      → (littleEndian 4 (drop (8 + 4 * entryCount s + 4 * k) s) ≡ get_or (schemaOf s).ids k 0) × (8 + 4 * entryCount s + 4 * k + 4 ≤ length s)
-  unfolding idsAt
-  id-is k l =
-      let c = id-count-is in
-      let t = tables-there in
-      (sym (ap (λ (i : List ℕ). get_or i k 0) ids-are ∙ ids_at s (idCount s) (idsAt s) k (omega arith)), omega arith)
+  pub id_is : (k : ℕ) → k < length (schema_of s).ids
+      → (little_endian 4 (drop (8 + 4 * entry_count s + 4 * k) s) ≡ get_or (schema_of s).ids k 0) × (8 + 4 * entry_count s + 4 * k + 4 ≤ length s)
+  unfolding ids_at
+  id_is k l =
+      let c = id_count_is in
+      let t = tables_there in
+      (sym (ap (λ (i : List ℕ). get_or i k 0) ids_are ∙ ids_at_lem s (id_count s) (ids_at s) k (omega arith)), omega arith)
 
-  entries-are : (schemaOf s).registry ≡ valueOr [] (entriesOf (format s) (entryCount s) s 0)
-  entries-are = ap (λ (c : Schema). c.registry) (whole s g).is
+  entries_are : (schema_of s).registry ≡ value_or [] (entries_of (format s) (entry_count s) s 0)
+  entries_are = ap (λ (c : Schema). c.registry) (whole s g).is
 
-  pub entry-count-is : entryCount s ≡ length (schemaOf s).registry
-  entry-count-is = sym (ap length entries-are ∙ entries-count (format s) s (entryCount s) 0 (whole s g).entries)
+  pub entry_count_is : entry_count s ≡ length (schema_of s).registry
+  entry_count_is = sym (ap length entries_are ∙ entries_count (format s) s (entry_count s) 0 (whole s g).entries)
 
   -- each has a pair in the contents
-  pub entries-most : length (schemaOf s).registry ≤ length s
-  entries-most = omega (arith, entry-count-is, tables-there)
+  pub entries_most : length (schema_of s).registry ≤ length s
+  entries_most = omega (arith, entry_count_is, tables_there)
 
   -- and each listed id a place after them
-  pub ids-most : length (schemaOf s).ids ≤ length s
-  ids-most = omega (arith, id-count-is, tables-there)
+  pub ids_most : length (schema_of s).ids ≤ length s
+  ids_most = omega (arith, id_count_is, tables_there)
 
-  pub entry_past : (id : ℕ) → entryCount s ≤ id → get_or (schemaOf s).registry id none ≡ none
-  entry_past id l = get_or-eq_default (schemaOf s).registry none (let e = entry-count-is in omega arith)
+  pub entry_past : (id : ℕ) → entry_count s ≤ id → get_or (schema_of s).registry id none ≡ none
+  entry_past id l = get_or-eq_default (schema_of s).registry none (let e = entry_count_is in omega arith)
 
-  module _ (id : ℕ) (l : id < entryCount s) where
-    pub pair-there : 8 + 4 * id + 4 ≤ length s
-    pair-there = let t = tables-there in omega arith
+  module _ (id : ℕ) (l : id < entry_count s) where
+    pub pair_there : 8 + 4 * id + 4 ≤ length s
+    pair_there = let t = tables_there in omega arith
 
-    found : Good (entryOf (format s) s id) × (get_or (schemaOf s).registry id none ≡ valueOr none (entryOf (format s) s id))
+    found : Good (entry_of (format s) s id) × (get_or (schema_of s).registry id none ≡ value_or none (entry_of (format s) s id))
     found =
         let z : 0 + id ≡ id = omega arith in
-        let r = entries_at (format s) s (entryCount s) 0 id l (whole s g).entries in
-        (rw z at r.0, ap (λ (r : List (Option Decl)). get_or r id none) entries-are ∙ r.1 ∙ ap (λ (i : ℕ). valueOr none (entryOf (format s) s i)) z)
+        let r = entries_at (format s) s (entry_count s) 0 id l (whole s g).entries in
+        (rw z at r.0, ap (λ (r : List (Option Decl)). get_or r id none) entries_are ∙ r.1 ∙ ap (λ (i : ℕ). value_or none (entry_of (format s) s i)) z)
 
-    pub empty-entry : entryLength s id ≡ 0 → get_or (schemaOf s).registry id none ≡ none
-    empty-entry e = found.1 ∙ entry-empty (format s) s id e
+    pub empty_entry : entry_length s id ≡ 0 → get_or (schema_of s).registry id none ≡ none
+    empty_entry e = found.1 ∙ entry_empty (format s) s id e
 
-    pub body_entry : (entryLength s id ≡ 0 → ⊥) → DeclHere s (entryOffset s id) × (get_or (schemaOf s).registry id none ≡ some (declIn s (entryOffset s id)))
-    body_entry f = let r = entry-body s id f found.0 in (r.0, found.1 ∙ r.1)
+    pub body_entry : (entry_length s id ≡ 0 → ⊥) → DeclHere s (entry_offset s id) × (get_or (schema_of s).registry id none ≡ some (decl_in s (entry_offset s id)))
+    body_entry f = let r = entry_body s id f found.0 in (r.0, found.1 ∙ r.1)
 
   -- the namespace
-  names-again : Good (namesAt 8 (segmentCount s) s (segmentsAt s)) × ((schemaOf s).namespace ≡ valueOr [] (namesAt 8 (segmentCount s) s (segmentsAt s)))
-  names-again =
-      let z : 0 + segmentsAt s ≡ segmentsAt s = omega arith in
-      let k = rw z at (names-kept (part-self s) 2 8 (segmentCount s) (segmentsAt s)) in
-      (kept-good k (whole s g).names, ap (λ (c : Schema). c.namespace) (whole s g).is ∙ sym (kept-value [] k (whole s g).names))
+  names_again : Good (names_at 8 (segment_count s) s (segments_at s)) × ((schema_of s).namespace ≡ value_or [] (names_at 8 (segment_count s) s (segments_at s)))
+  names_again =
+      let z : 0 + segments_at s ≡ segments_at s = omega arith in
+      let k = rw z at (names_kept (part_self s) 2 8 (segment_count s) (segments_at s)) in
+      (kept_good k (whole s g).names, ap (λ (c : Schema). c.namespace) (whole s g).is ∙ sym (kept_value [] k (whole s g).names))
 
-  pub segments-listed : NamesListed s (segmentsIn s) (schemaOf s).namespace
-  unfolding NamesHere segmentsIn namePlaces nameIn nameEnd namesAt
-  segments-listed =
-      let h = names-again in
-      record { here = h.0; are = h.1 ∙ many-places [] (nameAt 8) s (segmentCount s) (segmentsAt s) h.0 }
+  pub segments_listed : NamesListed s (segments_in s) (schema_of s).namespace
+  unfolding NamesHere segments_in name_places name_in name_end names_at
+  segments_listed =
+      let h = names_again in
+      record { here = h.0; are = h.1 ∙ many_places [] (name_at 8) s (segment_count s) (segments_at s) h.0 }

@@ -8,66 +8,66 @@ use native.Mathlib.Omega.{arith}
 use borrow.Author.Tests.{eqb-true, eqb-false}
 use lib.Dec.{eqb}
 use lib.ListN.{length, get_or}
-use Rattle.image.specs.Kinds.{Kind, kindOf}
-use Rattle.image.specs.Codes.{number, messageKind, enumKind, flagsKind, unionKind, newtypeKind, configKind, aliasKind, traitKind, implKind}
-use Rattle.image.specs.Schema.{Name, Marks, unmarked, Ty, noType, Field, Variant, Decl, decl}
-use Rattle.image.specs.Parse.{ok, byteAt, counted}
-use Rattle.image.specs.Names.{nameAt}
-use Rattle.image.specs.Types.{typeAt}
-use Rattle.image.specs.Fields.{marksOf, marksAt, fieldAt, bareAt, variantAt}
-use Rattle.image.specs.Formats.{hasWidths}
-use Rattle.image.specs.Widths.{wireBitsAt, wireBytesAt}
+use Rattle.image.specs.Kinds.{Kind, kind_of}
+use Rattle.image.specs.Codes.{number, message_kind, enum_kind, flags_kind, union_kind, newtype_kind, config_kind, alias_kind, trait_kind, impl_kind}
+use Rattle.image.specs.Schema.{Name, Marks, unmarked, Ty, no_type, Field, Variant, Decl, decl}
+use Rattle.image.specs.Parse.{ok, byte_at, counted}
+use Rattle.image.specs.Names.{name_at}
+use Rattle.image.specs.Types.{type_at}
+use Rattle.image.specs.Fields.{marks_of, marks_at, field_at, bare_at, variant_at}
+use Rattle.image.specs.Formats.{has_widths}
+use Rattle.image.specs.Widths.{wire_bits_at, wire_bytes_at}
 use Rattle.image.specs.Image.{format}
-use Rattle.image.specs.Bodies.{messageAt, enumAt, flagsAt, unionAt, newtypeAt, otherAt, implAt, declAt}
-use Rattle.image.specs.WellFormed.{Good, valueOr}
-use Rattle.image.proofs.Laws.Sure.{Sure, sure-ok, sure-no, sure-bind, code-sure}
-use Rattle.image.proofs.Laws.Good.{sure-good, good-first}
+use Rattle.image.specs.Bodies.{message_at, enum_at, flags_at, union_at, newtype_at, other_at, impl_at, decl_at}
+use Rattle.image.specs.WellFormed.{Good, value_or}
+use Rattle.image.proofs.Laws.Sure.{Sure, sure_ok, sure_no, sure_bind, code_sure}
+use Rattle.image.proofs.Laws.Good.{sure_good, good_first}
 use Rattle.image.proofs.Laws.Kinds.{Says, message, enum, flags, union, newtype, config, alias, trait, impl, other, says}
-use Rattle.parts.specs.Promise.{noDecl, NameHere, nameIn, nameEnd, bodyAt, DeclHere, declIn, marksSize, widthPlace, measured, storesWidth, startKind, startName}
-use Rattle.parts.proofs.Laws.Steps.{then_is, byte-is, wire-bits-is, wire-bytes-is, itself, name-stands}
-use Rattle.parts.proofs.Laws.Starts.{Started, start-nameless, start-named}
-use Rattle.parts.proofs.Laws.Widths.{measured-most, stores, stores-not, stored-most, Stored, width-sure-here, no-width, its-width}
+use Rattle.parts.specs.Promise.{no_decl, NameHere, name_in, name_end, body_at, DeclHere, decl_in, marks_size, width_place, measured, stores_width, start_kind, start_name}
+use Rattle.parts.proofs.Laws.Steps.{then_is, byte_is, wire_bits_is, wire_bytes_is, itself, name_stands}
+use Rattle.parts.proofs.Laws.Starts.{Started, start_nameless, start_named}
+use Rattle.parts.proofs.Laws.Widths.{measured_most, stores, stores_not, stored_most, Stored, width_sure_here, no_width_lem, its_width}
 
 -- the head of a declaration in a format: its kind, and by the kind a name, marks and a width, from `at` on
 pub record Headed (f kind : ℕ) (s : List ℕ) (at : ℕ) (d : Decl) : Type 0 where
   pub is : d.kind ≡ kind
-  pub most : kind ≤ number implKind
-  pub nameless : (number traitKind) < kind → d.name ≡ []
-  pub named : kind < number implKind → NameHere s at × (d.name ≡ nameIn s at)
-  pub marked : kind ≤ number enumKind → (nameEnd s at < length s) × (d.marks ≡ marksOf (get_or s (nameEnd s at) 0))
-  pub plain : (number enumKind) < kind → d.marks ≡ unmarked
-  pub width : Stored (storesWidth f kind) s (nameEnd s at + marksSize kind) d.width
+  pub most : kind ≤ number impl_kind
+  pub nameless : (number trait_kind) < kind → d.name ≡ []
+  pub named : kind < number impl_kind → NameHere s at × (d.name ≡ name_in s at)
+  pub marked : kind ≤ number enum_kind → (name_end s at < length s) × (d.marks ≡ marks_of (get_or s (name_end s at) 0))
+  pub plain : (number enum_kind) < kind → d.marks ≡ unmarked
+  pub width : Stored (stores_width f kind) s (name_end s at + marks_size kind) d.width
 
 -- what is known of every answer
-marks-sure-here : (s : List ℕ) (at : ℕ) → Sure (λ m n. (at < length s) × (m ≡ marksOf (get_or s at 0)) × (n ≡ at + 1)) (marksAt s at)
-unfolding marksAt
-marks-sure-here s at =
-    sure-bind _ (code-sure 0 3 s at) (λ b n q. sure-ok ((let i = q.byte.inside in let j = q.byte.next in omega arith), ap marksOf q.byte.value, q.byte.next))
+marks_sure_here : (s : List ℕ) (at : ℕ) → Sure (λ m n. (at < length s) × (m ≡ marks_of (get_or s at 0)) × (n ≡ at + 1)) (marks_at s at)
+unfolding marks_at
+marks_sure_here s at =
+    sure_bind _ (code_sure 0 3 s at) (λ b n q. sure_ok ((let i = q.byte.inside in let j = q.byte.next in omega arith), ap marks_of q.byte.value, q.byte.next))
 
 module _ (f : ℕ) (s : List ℕ) (at : ℕ) where
   abbrev Name-at : Name → ℕ → Type 0
-  Name-at x n = NameHere s at × (x ≡ nameIn s at) × (n ≡ nameEnd s at)
+  Name-at x n = NameHere s at × (x ≡ name_in s at) × (n ≡ name_end s at)
 
   abbrev Marks-at : ℕ → Marks → ℕ → Type 0
-  Marks-at n m k = (n < length s) × (m ≡ marksOf (get_or s n 0)) × (k ≡ n + 1)
+  Marks-at n m k = (n < length s) × (m ≡ marks_of (get_or s n 0)) × (k ≡ n + 1)
 
-  name-sure-here : Sure Name-at (nameAt 8 s at)
-  unfolding NameHere nameIn nameEnd
-  name-sure-here = itself [] (nameAt 8 s at)
+  name_sure_here : Sure Name-at (name_at 8 s at)
+  unfolding NameHere name_in name_end
+  name_sure_here = itself [] (name_at 8 s at)
 
-  with-marks : (kind : ℕ) → kind ≤ 1 → {x : Name} {n : ℕ} → Name-at x n → {m : Marks} {k : ℕ} → Marks-at n m k → {w : Option ℕ}
-      → Stored (storesWidth f kind) s (nameEnd s at + marksSize kind) w → (fs : List Field) (vs : List Variant) → Headed f kind s at (decl kind x m w fs vs noType)
-  with-marks kind l (h, e, q) (i, r, _) v fs vs = record {
+  with_marks : (kind : ℕ) → kind ≤ 1 → {x : Name} {n : ℕ} → Name-at x n → {m : Marks} {k : ℕ} → Marks-at n m k → {w : Option ℕ}
+      → Stored (stores_width f kind) s (name_end s at + marks_size kind) w → (fs : List Field) (vs : List Variant) → Headed f kind s at (decl kind x m w fs vs no_type)
+  with_marks kind l (h, e, q) (i, r, _) v fs vs = record {
     is = refl;
     most = omega arith;
     nameless = λ z. absurd (omega arith);
     named = λ _. (h, e);
-    marked = λ _. (rw q at i, r ∙ ap (λ (k : ℕ). marksOf (get_or s k 0)) q);
+    marked = λ _. (rw q at i, r ∙ ap (λ (k : ℕ). marks_of (get_or s k 0)) q);
     plain = λ z. absurd (omega arith);
     width = v;
   }
 
-  without : (kind : ℕ) → 1 < kind → kind < 8 → {x : Name} {n : ℕ} → Name-at x n → {w : Option ℕ} → Stored (storesWidth f kind) s (nameEnd s at + marksSize kind) w
+  without : (kind : ℕ) → 1 < kind → kind < 8 → {x : Name} {n : ℕ} → Name-at x n → {w : Option ℕ} → Stored (stores_width f kind) s (name_end s at + marks_size kind) w
       → (fs : List Field) (vs : List Variant) (t : Ty) → Headed f kind s at (decl kind x unmarked w fs vs t)
   without kind l m (h, e, q) v fs vs t = record {
     is = refl;
@@ -79,48 +79,48 @@ module _ (f : ℕ) (s : List ℕ) (at : ℕ) where
     width = v;
   }
 
-  pub head-sure : {kind : ℕ} {k : Kind} → Says kind k → Sure (λ d n. Headed f kind s at d) (declAt f k s at)
-  unfolding declAt messageAt enumAt flagsAt unionAt newtypeAt otherAt implAt measured marksSize
-  head-sure message =
-      sure-bind _ name-sure-here (λ x n q.
-      sure-bind _ (marks-sure-here s n) (λ m k r.
-      sure-bind _ (itself [] (counted fieldAt s k)) (λ fs i _.
-      sure-ok (with-marks (number messageKind) (omega arith) q r (no-width f s _ _ refl) fs []))))
-  head-sure enum =
-      sure-bind _ name-sure-here (λ x n q.
-      sure-bind _ (marks-sure-here s n) (λ m k r.
-      sure-bind _ (width-sure-here f wireBitsAt s k (wire-bits-is s k)) (λ w j v.
-      sure-bind _ (itself [] (counted bareAt s j)) (λ vs i _.
-      sure-ok (with-marks (number enumKind) (omega arith) q r (its-width f s _ refl (r.2 ∙ ap (λ (i : ℕ). i + 1) q.2) v) [] vs)))))
-  head-sure flags =
-      sure-bind _ name-sure-here (λ x n q.
-      sure-bind _ (width-sure-here f wireBytesAt s n (wire-bytes-is s n)) (λ w j v.
-      sure-bind _ (itself [] (counted bareAt s j)) (λ vs i _.
-      sure-ok (without (number flagsKind) (omega arith) (omega arith) q (its-width f s _ refl (let z : nameEnd s at ≡ nameEnd s at + 0 = omega arith in q.2 ∙ z) v) [] vs noType))))
-  head-sure union =
-      sure-bind _ name-sure-here (λ x n q.
-      sure-bind _ (itself [] (counted variantAt s n)) (λ vs i _. sure-ok (without (number unionKind) (omega arith) (omega arith) q (no-width f s _ _ refl) [] vs noType)))
-  head-sure newtype =
-      sure-bind _ name-sure-here (λ x n q.
-      sure-bind _ (itself noType (typeAt s n)) (λ t i _. sure-ok (without (number newtypeKind) (omega arith) (omega arith) q (no-width f s _ _ refl) [] [] t)))
-  head-sure config = sure-bind _ name-sure-here (λ x n q. sure-ok (without (number configKind) (omega arith) (omega arith) q (no-width f s _ _ refl) [] [] noType))
-  head-sure alias = sure-bind _ name-sure-here (λ x n q. sure-ok (without (number aliasKind) (omega arith) (omega arith) q (no-width f s _ _ refl) [] [] noType))
-  head-sure trait = sure-bind _ name-sure-here (λ x n q. sure-ok (without (number traitKind) (omega arith) (omega arith) q (no-width f s _ _ refl) [] [] noType))
-  head-sure impl = sure-ok (record {
+  pub head_sure : {kind : ℕ} {k : Kind} → Says kind k → Sure (λ d n. Headed f kind s at d) (decl_at f k s at)
+  unfolding decl_at message_at enum_at flags_at union_at newtype_at other_at impl_at measured marks_size
+  head_sure message =
+      sure_bind _ name_sure_here (λ x n q.
+      sure_bind _ (marks_sure_here s n) (λ m k r.
+      sure_bind _ (itself [] (counted field_at s k)) (λ fs i _.
+      sure_ok (with_marks (number message_kind) (omega arith) q r (no_width_lem f s _ _ refl) fs []))))
+  head_sure enum =
+      sure_bind _ name_sure_here (λ x n q.
+      sure_bind _ (marks_sure_here s n) (λ m k r.
+      sure_bind _ (width_sure_here f wire_bits_at s k (wire_bits_is s k)) (λ w j v.
+      sure_bind _ (itself [] (counted bare_at s j)) (λ vs i _.
+      sure_ok (with_marks (number enum_kind) (omega arith) q r (its_width f s _ refl (r.2 ∙ ap (λ (i : ℕ). i + 1) q.2) v) [] vs)))))
+  head_sure flags =
+      sure_bind _ name_sure_here (λ x n q.
+      sure_bind _ (width_sure_here f wire_bytes_at s n (wire_bytes_is s n)) (λ w j v.
+      sure_bind _ (itself [] (counted bare_at s j)) (λ vs i _.
+      sure_ok (without (number flags_kind) (omega arith) (omega arith) q (its_width f s _ refl (let z : name_end s at ≡ name_end s at + 0 = omega arith in q.2 ∙ z) v) [] vs no_type))))
+  head_sure union =
+      sure_bind _ name_sure_here (λ x n q.
+      sure_bind _ (itself [] (counted variant_at s n)) (λ vs i _. sure_ok (without (number union_kind) (omega arith) (omega arith) q (no_width_lem f s _ _ refl) [] vs no_type)))
+  head_sure newtype =
+      sure_bind _ name_sure_here (λ x n q.
+      sure_bind _ (itself no_type (type_at s n)) (λ t i _. sure_ok (without (number newtype_kind) (omega arith) (omega arith) q (no_width_lem f s _ _ refl) [] [] t)))
+  head_sure config = sure_bind _ name_sure_here (λ x n q. sure_ok (without (number config_kind) (omega arith) (omega arith) q (no_width_lem f s _ _ refl) [] [] no_type))
+  head_sure alias = sure_bind _ name_sure_here (λ x n q. sure_ok (without (number alias_kind) (omega arith) (omega arith) q (no_width_lem f s _ _ refl) [] [] no_type))
+  head_sure trait = sure_bind _ name_sure_here (λ x n q. sure_ok (without (number trait_kind) (omega arith) (omega arith) q (no_width_lem f s _ _ refl) [] [] no_type))
+  head_sure impl = sure_ok (record {
     is = refl;
     most = omega arith;
     nameless = λ _. refl;
     named = λ z. absurd (omega arith);
     marked = λ z. absurd (omega arith);
     plain = λ _. refl;
-    width = no-width f s _ _ refl;
+    width = no_width_lem f s _ _ refl;
   })
-  head-sure (other _ _) = sure-no
+  head_sure (other _ _) = sure_no
 
 -- it is what starts a declaration
-pub headed-start : {f : ℕ} (s : List ℕ) (at : ℕ) {d : Decl} → at < length s → Headed f (get_or s at 0) s (at + 1) d → Started s at d
-unfolding startKind
-headed-start s at {d} l h = record {
+pub headed_start : {f : ℕ} (s : List ℕ) (at : ℕ) {d : Decl} → at < length s → Headed f (get_or s at 0) s (at + 1) d → Started s at d
+unfolding start_kind
+headed_start s at {d} l h = record {
   here = record { there = l; kind = h.most; name = λ n. (h.named (below n)).0 };
   kind = sym h.is;
   name = go (eqb (get_or s at 0) 8) refl;
@@ -129,75 +129,75 @@ headed-start s at {d} l h = record {
     below : (get_or s at 0 ≡ 8 → ⊥) → get_or s at 0 < 8
     below n = omega (arith, h.most, n)
 
-    go : (b : Bool) → eqb (get_or s at 0) 8 ≡ b → startName s at ≡ d.name
+    go : (b : Bool) → eqb (get_or s at 0) 8 ≡ b → start_name s at ≡ d.name
     go true e =
         let i = eqb-true (get_or s at 0) 8 e in
-        start-nameless s at i ∙ sym (h.nameless (omega arith))
+        start_nameless s at i ∙ sym (h.nameless (omega arith))
     go false e =
         let n : get_or s at 0 ≡ 8 → ⊥ = eqb-false (get_or s at 0) 8 e in
-        start-named s at n ∙ sym (h.named (below n)).1
+        start_named s at n ∙ sym (h.named (below n)).1
 
 -- a declaration is its kind, and what follows it
 module _ (s : List ℕ) (at : ℕ) (g : DeclHere s at) where
-  kind-byte : (byteAt 8 s at ≡ ok (get_or s at 0) (at + 1)) × (at < length s)
-  unfolding DeclHere bodyAt
-  kind-byte = byte-is s at 8 (good-first 0 (byteAt 8 s at) _ g)
+  kind_byte : (byte_at 8 s at ≡ ok (get_or s at 0) (at + 1)) × (at < length s)
+  unfolding DeclHere body_at
+  kind_byte = byte_is s at 8 (good_first 0 (byte_at 8 s at) _ g)
 
-  pub kind-there : at < length s
-  kind-there = kind-byte.1
+  pub kind_there : at < length s
+  kind_there = kind_byte.1
 
-  body_is : bodyAt s at ≡ declAt (format s) (kindOf (get_or s at 0)) s (at + 1)
-  unfolding bodyAt
-  body_is = then_is _ kind-byte.0
+  body_is : body_at s at ≡ decl_at (format s) (kind_of (get_or s at 0)) s (at + 1)
+  unfolding body_at
+  body_is = then_is _ kind_byte.0
 
-  pub decl-head : Headed (format s) (get_or s at 0) s (at + 1) (declIn s at)
-  unfolding DeclHere declIn
-  decl-head = rw body_is (sure-good noDecl (head-sure (format s) s (at + 1) (says (get_or s at 0))) (rw body_is at g))
+  pub decl_head : Headed (format s) (get_or s at 0) s (at + 1) (decl_in s at)
+  unfolding DeclHere decl_in
+  decl_head = rw body_is (sure_good no_decl (head_sure (format s) s (at + 1) (says (get_or s at 0))) (rw body_is at g))
 
-  pub decl-kind : (declIn s at).kind ≡ get_or s at 0
-  decl-kind = decl-head.is
+  pub decl_kind : (decl_in s at).kind ≡ get_or s at 0
+  decl_kind = decl_head.is
 
-  pub decl-started : Started s at (declIn s at)
-  decl-started = headed-start s at kind-there decl-head
+  pub decl_started : Started s at (decl_in s at)
+  decl_started = headed_start s at kind_there decl_head
 
   -- what has a name has two bytes, so that the format can be read
-  pub name-there : (declIn s at).kind < number implKind → NameHere s (at + 1) × (2 ≤ length s)
-  name-there l =
-      let n = (decl-head.named (omega (arith, decl-kind))).0 in
-      let h = name-stands s (at + 1) n in
+  pub name_there : (decl_in s at).kind < number impl_kind → NameHere s (at + 1) × (2 ≤ length s)
+  name_there l =
+      let n = (decl_head.named (omega (arith, decl_kind))).0 in
+      let h = name_stands s (at + 1) n in
       (n, omega arith)
 
   -- whether a width is stored, by the kind's byte
-  pub width-never : measured (get_or s at 0) ≡ false → storesWidth (format s) (declIn s at).kind ≡ false
-  width-never e = stores-not (format s) _ (ap measured decl-kind ∙ e)
+  pub width_never : measured (get_or s at 0) ≡ false → stores_width (format s) (decl_in s at).kind ≡ false
+  width_never e = stores_not (format s) _ (ap measured decl_kind ∙ e)
 
-  pub width-by-format : measured (get_or s at 0) ≡ true → (2 ≤ length s) × (storesWidth (format s) (declIn s at).kind ≡ hasWidths (format s))
-  width-by-format e =
-      let m = measured-most (get_or s at 0) e in
-      ((name-there (omega (arith, decl-kind))).1, stores (format s) _ (ap measured decl-kind ∙ e))
+  pub width_by_format : measured (get_or s at 0) ≡ true → (2 ≤ length s) × (stores_width (format s) (decl_in s at).kind ≡ has_widths (format s))
+  width_by_format e =
+      let m = measured_most (get_or s at 0) e in
+      ((name_there (omega (arith, decl_kind))).1, stores (format s) _ (ap measured decl_kind ∙ e))
 
-  pub width-named : storesWidth (format s) (declIn s at).kind ≡ true → (declIn s at).kind < number implKind
-  width-named e = let m = stored-most (format s) (declIn s at).kind e in omega arith
+  pub width_named : stores_width (format s) (decl_in s at).kind ≡ true → (decl_in s at).kind < number impl_kind
+  width_named e = let m = stored_most (format s) (decl_in s at).kind e in omega arith
 
   -- the width
-  width-stored : Stored (storesWidth (format s) (declIn s at).kind) s (widthPlace s at) (declIn s at).width
-  unfolding widthPlace
-  width-stored = rw decl-kind decl-head.width
+  width_stored : Stored (stores_width (format s) (decl_in s at).kind) s (width_place s at) (decl_in s at).width
+  unfolding width_place
+  width_stored = rw decl_kind decl_head.width
 
-  pub width-absent : storesWidth (format s) (declIn s at).kind ≡ false → (declIn s at).width ≡ none
-  width-absent e = width-stored.is ∙ rw e
+  pub width_absent : stores_width (format s) (decl_in s at).kind ≡ false → (decl_in s at).width ≡ none
+  width_absent e = width_stored.is ∙ rw e
 
-  pub width-at : storesWidth (format s) (declIn s at).kind ≡ true → (widthPlace s at < length s) × ((declIn s at).width ≡ some (get_or s (widthPlace s at) 0))
-  width-at e = (width-stored.there e, width-stored.is ∙ rw e)
+  pub width_at_lem : stores_width (format s) (decl_in s at).kind ≡ true → (width_place s at < length s) × ((decl_in s at).width ≡ some (get_or s (width_place s at) 0))
+  width_at_lem e = (width_stored.there e, width_stored.is ∙ rw e)
 
-  module _ (k : ℕ) (e : (declIn s at).kind ≡ k) where
-    of-kind : bodyAt s at ≡ declAt (format s) (kindOf k) s (at + 1)
-    of-kind = body_is ∙ ap (λ (n : ℕ). declAt (format s) (kindOf n) s (at + 1)) (sym decl-kind ∙ e)
+  module _ (k : ℕ) (e : (decl_in s at).kind ≡ k) where
+    of_kind_lem : body_at s at ≡ decl_at (format s) (kind_of k) s (at + 1)
+    of_kind_lem = body_is ∙ ap (λ (n : ℕ). decl_at (format s) (kind_of n) s (at + 1)) (sym decl_kind ∙ e)
 
-    pub kind-good : Good (declAt (format s) (kindOf k) s (at + 1))
+    pub kind_good : Good (decl_at (format s) (kind_of k) s (at + 1))
     unfolding DeclHere
-    kind-good = rw of-kind at g
+    kind_good = rw of_kind_lem at g
 
-    pub kind-value : declIn s at ≡ valueOr noDecl (declAt (format s) (kindOf k) s (at + 1))
-    unfolding declIn
-    kind-value = ap (valueOr noDecl) of-kind
+    pub kind_value : decl_in s at ≡ value_or no_decl (decl_at (format s) (kind_of k) s (at + 1))
+    unfolding decl_in
+    kind_value = ap (value_or no_decl) of_kind_lem

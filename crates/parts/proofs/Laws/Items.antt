@@ -5,226 +5,226 @@ use mathlib.Core.List.{List, []}
 use Prim.Native.Nat.{ℕ, ◌+◌, ◌-◌, ◌≤◌, ◌<◌}
 use native.Mathlib.Omega.{arith}
 use lib.ListN.{length, get_or, drop}
-use Rattle.image.specs.Schema.{Name, noType, Field, Variant}
-use Rattle.image.specs.Parse.{Parsed, ok, bind, littleEndian, numberAt, many, counted}
-use Rattle.image.specs.Names.{nameAt}
-use Rattle.image.specs.Types.{typeOf, typeAt}
-use Rattle.image.specs.Fields.{marksOf, marksAt, plain, encodingAt, limitAt, fieldAt, bareAt, variantAt}
-use Rattle.image.specs.WellFormed.{Good, valueOr, endOf}
-use Rattle.image.proofs.Laws.Good.{good-first, within-good, within-value, within_end, many-first, many-rest}
-use Rattle.parts.specs.Promise.{noField, noVariant, NameHere, nameIn, nameEnd, TypeHere, treeIn, typeEnd, ItemOf, itemAt, ItemHere, itemEnd, ItemsHere, ItemsListed, itemsEnd, placesFrom, itemsAt, bareIn, ordinalIn, itemName, variantIn, variantItems, fieldIn, marksPlace, encodingPlace, limitPlace, typePlace}
+use Rattle.image.specs.Schema.{Name, no_type, Field, Variant}
+use Rattle.image.specs.Parse.{Parsed, ok, bind, little_endian, number_at, many, counted}
+use Rattle.image.specs.Names.{name_at}
+use Rattle.image.specs.Types.{type_of, type_at}
+use Rattle.image.specs.Fields.{marks_of, marks_at, plain, encoding_at, limit_at, field_at, bare_at, variant_at}
+use Rattle.image.specs.WellFormed.{Good, value_or, end_of}
+use Rattle.image.proofs.Laws.Good.{good_first, within_good, within_value, within_end, many_first, many_rest}
+use Rattle.parts.specs.Promise.{no_field, no_variant, NameHere, name_in, name_end, TypeHere, tree_in, type_end, ItemOf, item_at, ItemHere, item_end, ItemsHere, ItemsListed, items_end, places_from, items_at, bare_in, ordinal_in, item_name, variant_in, variant_items, field_in, marks_place, encoding_place, limit_place, type_place}
 use Rattle.parts.specs.declared.Shape.{Shape}
 use Rattle.parts.specs.declared.Shape.TheVariants as shape
-use Rattle.parts.proofs.Laws.Steps.{good-is, then_is, then-good, number_is, number-there, marks-is, name-is}
-use Rattle.parts.proofs.Laws.Places.{many-places, many-turn, many-done}
+use Rattle.parts.proofs.Laws.Steps.{good_is, then_is, then_good, number_is, number_there, marks_is, name_is}
+use Rattle.parts.proofs.Laws.Places.{many_places, many_turn, many_done}
 
 -- a type at a place
-module _ (s : List ℕ) (at : ℕ) (g : Good (typeAt s at)) where
-  pub type-here : TypeHere 32 s at
-  unfolding typeAt
-  type-here = record { few = omega arith; good = within-good noType (typeOf 32) s at g }
+module _ (s : List ℕ) (at : ℕ) (g : Good (type_at s at)) where
+  pub type_here : TypeHere 32 s at
+  unfolding type_at
+  type_here = record { few = omega arith; good = within_good no_type (type_of 32) s at g }
 
-  pub type-at-is : typeAt s at ≡ ok (treeIn s at) (typeEnd s at)
-  unfolding typeAt treeIn typeEnd
-  type-at-is = good-is noType (typeAt s at) g ∙ ap₂ ok (within-value noType (typeOf 32) s at) (within_end noType (typeOf 32) s at g)
+  pub type_at_is : type_at s at ≡ ok (tree_in s at) (type_end s at)
+  unfolding type_at tree_in type_end
+  type_at_is = good_is no_type (type_at s at) g ∙ ap₂ ok (within_value no_type (type_of 32) s at) (within_end no_type (type_of 32) s at g)
 
 -- an ordinal and a name, and what follows them
 module _ {A : Type 0} (s : List ℕ) (at : ℕ) (f : ℕ → Name → ℕ → Parsed A) where
   keyed : Parsed A
-  keyed = bind (numberAt 4 s at) (λ o n. bind (nameAt 8 s n) (λ x m. f o x m))
+  keyed = bind (number_at 4 s at) (λ o n. bind (name_at 8 s n) (λ x m. f o x m))
 
   module _ (g : Good keyed) where
-    key-inside : at + 4 ≤ length s
+    key_inside : at + 4 ≤ length s
     unfolding keyed
-    key-inside = (number_is s at 4 (good-first 0 (numberAt 4 s at) _ g)).1
+    key_inside = (number_is s at 4 (good_first 0 (number_at 4 s at) _ g)).1
 
-    key-name : NameHere s (at + 4)
+    key_name : NameHere s (at + 4)
     unfolding keyed NameHere
-    key-name = good-first [] (nameAt 8 s (at + 4)) _ (then-good _ (number_is s at 4 (good-first 0 (numberAt 4 s at) _ g)).0 g)
+    key_name = good_first [] (name_at 8 s (at + 4)) _ (then_good _ (number_is s at 4 (good_first 0 (number_at 4 s at) _ g)).0 g)
 
-    key-is : keyed ≡ f (littleEndian 4 (drop at s)) (nameIn s (at + 4)) (nameEnd s (at + 4))
+    key_is : keyed ≡ f (little_endian 4 (drop at s)) (name_in s (at + 4)) (name_end s (at + 4))
     unfolding keyed
-    key-is = then_is _ (number_is s at 4 (good-first 0 (numberAt 4 s at) _ g)).0 ∙ then_is _ (name-is s (at + 4) key-name)
+    key_is = then_is _ (number_is s at 4 (good_first 0 (number_at 4 s at) _ g)).0 ∙ then_is _ (name_is s (at + 4) key_name)
 
 -- the parts of a field
 pub record FieldParts (s : List ℕ) (at : ℕ) : Type 0 where
   pub inside : at + 4 ≤ length s
   pub name : NameHere s (at + 4)
-  pub marks : marksPlace s at < length s
-  pub encoding : Good (encodingAt s (encodingPlace s at))
-  pub limit : Good (limitAt s (limitPlace s at))
-  pub type : TypeHere 32 s (typePlace s at)
-  pub value : fieldIn s at ≡ record {
-    ordinal = littleEndian 4 (drop at s);
-    name = nameIn s (at + 4);
-    marks = marksOf (get_or s (marksPlace s at) 0);
-    encoding = valueOr (plain 0) (encodingAt s (encodingPlace s at));
-    limit = valueOr none (limitAt s (limitPlace s at));
-    type = treeIn s (typePlace s at);
+  pub marks : marks_place s at < length s
+  pub encoding : Good (encoding_at s (encoding_place s at))
+  pub limit : Good (limit_at s (limit_place s at))
+  pub type : TypeHere 32 s (type_place s at)
+  pub value : field_in s at ≡ record {
+    ordinal = little_endian 4 (drop at s);
+    name = name_in s (at + 4);
+    marks = marks_of (get_or s (marks_place s at) 0);
+    encoding = value_or (plain 0) (encoding_at s (encoding_place s at));
+    limit = value_or none (limit_at s (limit_place s at));
+    type = tree_in s (type_place s at);
   }
-  pub end : itemEnd shape.Field s at ≡ typeEnd s (typePlace s at)
+  pub end : item_end shape.Field s at ≡ type_end s (type_place s at)
 
-afterName : List ℕ → ℕ → Name → ℕ → Parsed Field
-afterName s o x n₂ =
-    bind (marksAt s n₂) (λ m n₃.
-    bind (encodingAt s n₃) (λ e n₄.
-    bind (limitAt s n₄) (λ l n₅.
-    bind (typeAt s n₅) (λ t n₆.
+after_name : List ℕ → ℕ → Name → ℕ → Parsed Field
+after_name s o x n₂ =
+    bind (marks_at s n₂) (λ m n₃.
+    bind (encoding_at s n₃) (λ e n₄.
+    bind (limit_at s n₄) (λ l n₅.
+    bind (type_at s n₅) (λ t n₆.
     ok (record { ordinal = o; name = x; marks = m; encoding = e; limit = l; type = t }) n₆))))
 
-pub field-parts : (s : List ℕ) (at : ℕ) → ItemHere shape.Field s at → FieldParts s at
-unfolding ItemHere itemAt itemEnd fieldIn valueOr endOf fieldAt keyed afterName marksPlace encodingPlace limitPlace typePlace
-field-parts s at g =
-    let k = key-is s at (afterName s) g in
-    let g₂ : Good (afterName s (littleEndian 4 (drop at s)) (nameIn s (at + 4)) (nameEnd s (at + 4))) = rw k at g in
-    let m = marks-is s (marksPlace s at) (good-first (marksOf 0) (marksAt s (marksPlace s at)) _ g₂) in
-    let g₃ = then-good _ m.0 g₂ in
-    let e = good-first (plain 0) (encodingAt s (encodingPlace s at)) _ g₃ in
-    let g₄ = then-good _ (good-is (plain 0) _ e) g₃ in
-    let l = good-first none (limitAt s (limitPlace s at)) _ g₄ in
-    let g₅ = then-good _ (good-is none _ l) g₄ in
-    let t = good-first noType (typeAt s (typePlace s at)) _ g₅ in
-    let e₆ = k ∙ then_is _ m.0 ∙ then_is _ (good-is (plain 0) _ e) ∙ then_is _ (good-is none _ l) ∙ then_is _ (type-at-is s (typePlace s at) t) in
+pub field_parts_lem : (s : List ℕ) (at : ℕ) → ItemHere shape.Field s at → FieldParts s at
+unfolding ItemHere item_at item_end field_in value_or end_of field_at keyed after_name marks_place encoding_place limit_place type_place
+field_parts_lem s at g =
+    let k = key_is s at (after_name s) g in
+    let g₂ : Good (after_name s (little_endian 4 (drop at s)) (name_in s (at + 4)) (name_end s (at + 4))) = rw k at g in
+    let m = marks_is s (marks_place s at) (good_first (marks_of 0) (marks_at s (marks_place s at)) _ g₂) in
+    let g₃ = then_good _ m.0 g₂ in
+    let e = good_first (plain 0) (encoding_at s (encoding_place s at)) _ g₃ in
+    let g₄ = then_good _ (good_is (plain 0) _ e) g₃ in
+    let l = good_first none (limit_at s (limit_place s at)) _ g₄ in
+    let g₅ = then_good _ (good_is none _ l) g₄ in
+    let t = good_first no_type (type_at s (type_place s at)) _ g₅ in
+    let e₆ = k ∙ then_is _ m.0 ∙ then_is _ (good_is (plain 0) _ e) ∙ then_is _ (good_is none _ l) ∙ then_is _ (type_at_is s (type_place s at) t) in
     record {
-      inside = key-inside s at (afterName s) g;
-      name = key-name s at (afterName s) g;
+      inside = key_inside s at (after_name s) g;
+      name = key_name s at (after_name s) g;
       marks = m.1;
       encoding = e;
       limit = l;
-      type = type-here s (typePlace s at) t;
-      value = ap (valueOr noField) e₆;
-      end = ap endOf e₆;
+      type = type_here s (type_place s at) t;
+      value = ap (value_or no_field) e₆;
+      end = ap end_of e₆;
     }
 
 -- a count, and as many
 module _ {A : Type 0} (p : List ℕ → ℕ → Parsed A) (s : List ℕ) (at : ℕ) (g : Good (counted p s at)) where
-  number : (numberAt 2 s at ≡ ok (littleEndian 2 (drop at s)) (at + 2)) × (at + 2 ≤ length s)
+  number : (number_at 2 s at ≡ ok (little_endian 2 (drop at s)) (at + 2)) × (at + 2 ≤ length s)
   unfolding counted
-  number = number_is s at 2 (good-first 0 (numberAt 2 s at) _ g)
+  number = number_is s at 2 (good_first 0 (number_at 2 s at) _ g)
 
-  pub count-inside : at + 2 ≤ length s
-  count-inside = number.1
+  pub count_inside : at + 2 ≤ length s
+  count_inside = number.1
 
-  pub counted_is : counted p s at ≡ many p (itemsAt s at).count s (itemsAt s at).start
-  unfolding counted itemsAt
+  pub counted_is : counted p s at ≡ many p (items_at s at).count s (items_at s at).start
+  unfolding counted items_at
   counted_is = then_is _ number.0
 
-  pub counted-good : Good (many p (itemsAt s at).count s (itemsAt s at).start)
-  counted-good = rw counted_is at g
+  pub counted_good : Good (many p (items_at s at).count s (items_at s at).start)
+  counted_good = rw counted_is at g
 
 -- a bare item
 pub record BareParts (s : List ℕ) (at : ℕ) : Type 0 where
   pub inside : at + 4 ≤ length s
   pub name : NameHere s (at + 4)
-  pub value : bareIn s at ≡ record { ordinal = littleEndian 4 (drop at s); name = nameIn s (at + 4); fields = [] }
-  pub end : itemEnd shape.Bare s at ≡ nameEnd s (at + 4)
+  pub value : bare_in s at ≡ record { ordinal = little_endian 4 (drop at s); name = name_in s (at + 4); fields = [] }
+  pub end : item_end shape.Bare s at ≡ name_end s (at + 4)
 
 pub bare_parts : (s : List ℕ) (at : ℕ) → ItemHere shape.Bare s at → BareParts s at
-unfolding ItemHere itemAt itemEnd bareIn valueOr endOf bareAt keyed
+unfolding ItemHere item_at item_end bare_in value_or end_of bare_at keyed
 bare_parts s at g =
-    let e = key-is s at _ g in
-    record { inside = key-inside s at _ g; name = key-name s at _ g; value = ap (valueOr noVariant) e; end = ap endOf e }
+    let e = key_is s at _ g in
+    record { inside = key_inside s at _ g; name = key_name s at _ g; value = ap (value_or no_variant) e; end = ap end_of e }
 
 -- an ordinal and a name are all that it needs
-bare-there : (s : List ℕ) (at : ℕ) → at + 4 ≤ length s → NameHere s (at + 4)
-    → bareAt s at ≡ ok (record { ordinal = littleEndian 4 (drop at s); name = nameIn s (at + 4); fields = [] }) (nameEnd s (at + 4))
-unfolding bareAt
-bare-there s at l n = then_is _ (number-there s at 4 l) ∙ then_is _ (name-is s (at + 4) n)
+bare_there : (s : List ℕ) (at : ℕ) → at + 4 ≤ length s → NameHere s (at + 4)
+    → bare_at s at ≡ ok (record { ordinal = little_endian 4 (drop at s); name = name_in s (at + 4); fields = [] }) (name_end s (at + 4))
+unfolding bare_at
+bare_there s at l n = then_is _ (number_there s at 4 l) ∙ then_is _ (name_is s (at + 4) n)
 
-bare-good : (s : List ℕ) (at : ℕ) → at + 4 ≤ length s → NameHere s (at + 4) → Good (bareAt s at)
+bare_good : (s : List ℕ) (at : ℕ) → at + 4 ≤ length s → NameHere s (at + 4) → Good (bare_at s at)
 unfolding Good
-bare-good s at l n = rw (bare-there s at l n) tt
+bare_good s at l n = rw (bare_there s at l n) tt
 
 -- a variant of a union
 pub record VariantParts (s : List ℕ) (at : ℕ) : Type 0 where
   pub inside : at + 4 ≤ length s
   pub name : NameHere s (at + 4)
-  pub count : nameEnd s (at + 4) + 2 ≤ length s
-  pub items : Good (many fieldAt (variantItems s at).count s (variantItems s at).start)
-  pub value : variantIn s at ≡ record {
-    ordinal = littleEndian 4 (drop at s);
-    name = nameIn s (at + 4);
-    fields = valueOr [] (many fieldAt (variantItems s at).count s (variantItems s at).start);
+  pub count : name_end s (at + 4) + 2 ≤ length s
+  pub items : Good (many field_at (variant_items s at).count s (variant_items s at).start)
+  pub value : variant_in s at ≡ record {
+    ordinal = little_endian 4 (drop at s);
+    name = name_in s (at + 4);
+    fields = value_or [] (many field_at (variant_items s at).count s (variant_items s at).start);
   }
-  pub end : itemEnd shape.Variant s at ≡ itemsEnd shape.Field s (variantItems s at).count (variantItems s at).start
+  pub end : item_end shape.Variant s at ≡ items_end shape.Field s (variant_items s at).count (variant_items s at).start
 
 pub variant_parts : (s : List ℕ) (at : ℕ) → ItemHere shape.Variant s at → VariantParts s at
-unfolding ItemHere itemAt itemEnd itemsEnd variantIn valueOr endOf variantAt keyed variantItems
+unfolding ItemHere item_at item_end items_end variant_in value_or end_of variant_at keyed variant_items
 variant_parts s at g =
-    let c = nameEnd s (at + 4) in
-    let k = key-is s at (λ o x n. bind (counted fieldAt s n) (λ fs m. ok (record { ordinal = o; name = x; fields = fs }) m)) g in
-    let b = good-first [] (counted fieldAt s c) _ (rw k at g) in
-    let e = counted_is fieldAt s c b ∙ good-is [] _ (counted-good fieldAt s c b) in
+    let c = name_end s (at + 4) in
+    let k = key_is s at (λ o x n. bind (counted field_at s n) (λ fs m. ok (record { ordinal = o; name = x; fields = fs }) m)) g in
+    let b = good_first [] (counted field_at s c) _ (rw k at g) in
+    let e = counted_is field_at s c b ∙ good_is [] _ (counted_good field_at s c b) in
     let d = k ∙ then_is _ e in
     record {
-      inside = key-inside s at _ g;
-      name = key-name s at _ g;
-      count = count-inside fieldAt s c b;
-      items = counted-good fieldAt s c b;
-      value = ap (valueOr noVariant) d;
-      end = ap endOf d;
+      inside = key_inside s at _ g;
+      name = key_name s at _ g;
+      count = count_inside field_at s c b;
+      items = counted_good field_at s c b;
+      value = ap (value_or no_variant) d;
+      end = ap end_of d;
     }
 
 -- the key of every item is a bare one's
 module _ (s : List ℕ) (at : ℕ) where
-  pub item-bare : (h : Shape) → ItemHere h s at → ItemHere shape.Bare s at
-  unfolding ItemHere itemAt
-  item-bare shape.Field g = let p = field-parts s at g in bare-good s at p.inside p.name
-  item-bare shape.Bare g = g
-  item-bare shape.Variant g = let p = variant_parts s at g in bare-good s at p.inside p.name
+  pub item_bare : (h : Shape) → ItemHere h s at → ItemHere shape.Bare s at
+  unfolding ItemHere item_at
+  item_bare shape.Field g = let p = field_parts_lem s at g in bare_good s at p.inside p.name
+  item_bare shape.Bare g = g
+  item_bare shape.Variant g = let p = variant_parts s at g in bare_good s at p.inside p.name
 
-  pub ordinal-is : ItemHere shape.Bare s at → ordinalIn s at ≡ littleEndian 4 (drop at s)
-  ordinal-is g = ap (λ (v : Variant). v.ordinal) (bare_parts s at g).value
+  pub ordinal_is : ItemHere shape.Bare s at → ordinal_in s at ≡ little_endian 4 (drop at s)
+  ordinal_is g = ap (λ (v : Variant). v.ordinal) (bare_parts s at g).value
 
-  pub name-is-bare : ItemHere shape.Bare s at → itemName s at ≡ nameIn s (at + 4)
-  name-is-bare g = ap (λ (v : Variant). v.name) (bare_parts s at g).value
+  pub name_is_bare : ItemHere shape.Bare s at → item_name s at ≡ name_in s (at + 4)
+  name_is_bare g = ap (λ (v : Variant). v.name) (bare_parts s at g).value
 
   -- the values of a field's parts, and of a variant's
   module _ (g : ItemHere shape.Field s at) where
-    pub field-ordinal : (fieldIn s at).ordinal ≡ ordinalIn s at
-    field-ordinal = ap (λ (f : Field). f.ordinal) (field-parts s at g).value ∙ sym (ordinal-is (item-bare shape.Field g))
+    pub field_ordinal : (field_in s at).ordinal ≡ ordinal_in s at
+    field_ordinal = ap (λ (f : Field). f.ordinal) (field_parts_lem s at g).value ∙ sym (ordinal_is (item_bare shape.Field g))
 
-    pub field-name : (fieldIn s at).name ≡ itemName s at
-    field-name = ap (λ (f : Field). f.name) (field-parts s at g).value ∙ sym (name-is-bare (item-bare shape.Field g))
+    pub field_name : (field_in s at).name ≡ item_name s at
+    field_name = ap (λ (f : Field). f.name) (field_parts_lem s at g).value ∙ sym (name_is_bare (item_bare shape.Field g))
 
-    pub field-type : (fieldIn s at).type ≡ treeIn s (typePlace s at)
-    field-type = ap (λ (f : Field). f.type) (field-parts s at g).value
+    pub field_type : (field_in s at).type ≡ tree_in s (type_place s at)
+    field_type = ap (λ (f : Field). f.type) (field_parts_lem s at g).value
 
-    pub field-type-here : TypeHere 32 s (typePlace s at)
-    field-type-here = (field-parts s at g).type
+    pub field_type_here : TypeHere 32 s (type_place s at)
+    field_type_here = (field_parts_lem s at g).type
 
   module _ (g : ItemHere shape.Variant s at) where
-    pub variant-ordinal : (variantIn s at).ordinal ≡ ordinalIn s at
-    variant-ordinal = ap (λ (v : Variant). v.ordinal) (variant_parts s at g).value ∙ sym (ordinal-is (item-bare shape.Variant g))
+    pub variant_ordinal_lem : (variant_in s at).ordinal ≡ ordinal_in s at
+    variant_ordinal_lem = ap (λ (v : Variant). v.ordinal) (variant_parts s at g).value ∙ sym (ordinal_is (item_bare shape.Variant g))
 
-    pub variant-name : (variantIn s at).name ≡ itemName s at
-    variant-name = ap (λ (v : Variant). v.name) (variant_parts s at g).value ∙ sym (name-is-bare (item-bare shape.Variant g))
+    pub variant_name_lem : (variant_in s at).name ≡ item_name s at
+    variant_name_lem = ap (λ (v : Variant). v.name) (variant_parts s at g).value ∙ sym (name_is_bare (item_bare shape.Variant g))
 
-    pub variant-listed : ItemsListed shape.Field s (variantItems s at) (fieldIn s) (variantIn s at).fields
-    unfolding ItemsHere fieldIn placesFrom itemEnd itemAt
-    variant-listed =
+    pub variant_listed : ItemsListed shape.Field s (variant_items s at) (field_in s) (variant_in s at).fields
+    unfolding ItemsHere field_in places_from item_end item_at
+    variant_listed =
         let p = variant_parts s at g in
-        record { here = p.items; are = ap (λ (v : Variant). v.fields) p.value ∙ many-places noField fieldAt s _ _ p.items }
+        record { here = p.items; are = ap (λ (v : Variant). v.fields) p.value ∙ many_places no_field field_at s _ _ p.items }
 
-noItem : (h : Shape) → ItemOf h
-noItem shape.Field = noField
-noItem shape.Bare = noVariant
-noItem shape.Variant = noVariant
+no_item : (h : Shape) → ItemOf h
+no_item shape.Field = no_field
+no_item shape.Bare = no_variant
+no_item shape.Variant = no_variant
 
 -- so many items: the first, and the rest
 module _ (h : Shape) (s : List ℕ) (c at : ℕ) (l : 0 < c) (g : ItemsHere h s c at) where
-  pub items-first : ItemHere h s at
+  pub items_first : ItemHere h s at
   unfolding ItemHere ItemsHere
-  items-first = many-first (noItem h) (itemAt h) c s at l g
+  items_first = many_first (no_item h) (item_at h) c s at l g
 
-  pub items-rest : ItemsHere h s (c - 1) (itemEnd h s at)
-  unfolding ItemsHere itemEnd
-  items-rest = many-rest (noItem h) (itemAt h) c s at l g
+  pub items_rest : ItemsHere h s (c - 1) (item_end h s at)
+  unfolding ItemsHere item_end
+  items_rest = many_rest (no_item h) (item_at h) c s at l g
 
-  pub items-turn : (n : ℕ) → n ≡ itemEnd h s at → ItemsHere h s (c - 1) n × (itemsEnd h s (c - 1) n ≡ itemsEnd h s c at)
-  unfolding ItemsHere itemEnd itemsEnd
-  items-turn n e = many-turn (noItem h) (itemAt h) s c at n l g e
+  pub items_turn : (n : ℕ) → n ≡ item_end h s at → ItemsHere h s (c - 1) n × (items_end h s (c - 1) n ≡ items_end h s c at)
+  unfolding ItemsHere item_end items_end
+  items_turn n e = many_turn (no_item h) (item_at h) s c at n l g e
 
-pub items-done : (h : Shape) (s : List ℕ) (c at : ℕ) → c ≤ 0 → itemsEnd h s c at ≡ at
-unfolding itemsEnd
-items-done h s c at l = many-done (noItem h) (itemAt h) s c at l
+pub items_done : (h : Shape) (s : List ℕ) (c at : ℕ) → c ≤ 0 → items_end h s c at ≡ at
+unfolding items_end
+items_done h s c at l = many_done (no_item h) (item_at h) s c at l

@@ -10,68 +10,68 @@ use lib.ListN.{length, get_or, drop, length-drop}
 use lib.Seq.{drop-drop, get_or-drop, get_or-take, ext_get_or, length-take-le}
 use lib.Dec.{ltb, leb, eqb}
 use Rattle.image.specs.Schema.{Label, Ty}
-use Rattle.image.specs.Parse.{Parsed, ok, no, bind, pick, shift, within, part, littleEndian, byteAt, codeAt, numberAt, many, counted}
-use Rattle.image.specs.Names.{nameBytes, nameAt, namesAt}
-use Rattle.image.specs.Types.{Follows, code, subByte, identity, size, nothing, bits, unknown, followsTag, innerTypes, afterTag, labelOf, innerAt, typeOf, typeAt}
-use Rattle.image.specs.Fields.{marksAt, encodingOf, encodingAt, limitAt, fieldAt, bareAt, variantAt}
-use Rattle.image.specs.Kinds.{Kind, message, enum, flags, union, newtype, config, alias, trait, impl, other, kindOf}
-use Rattle.image.specs.Codes.{number, configKind, aliasKind, traitKind}
-use Rattle.image.specs.Widths.{wireBitsAt, wireBytesAt, widthAt}
+use Rattle.image.specs.Parse.{Parsed, ok, no, bind, pick, shift, within, part, little_endian, byte_at, code_at, number_at, many, counted}
+use Rattle.image.specs.Names.{name_bytes, name_at, names_at}
+use Rattle.image.specs.Types.{Follows, code, sub_byte, identity, size, nothing, bits, unknown, follows_tag, inner_types, after_tag, label_of, inner_at, type_of, type_at}
+use Rattle.image.specs.Fields.{marks_at, encoding_of, encoding_at, limit_at, field_at, bare_at, variant_at}
+use Rattle.image.specs.Kinds.{Kind, message, enum, flags, union, newtype, config, alias, trait, impl, other, kind_of}
+use Rattle.image.specs.Codes.{number, config_kind, alias_kind, trait_kind}
+use Rattle.image.specs.Widths.{wire_bits_at, wire_bytes_at, width_at}
 use Rattle.image.specs.Image.{format}
-use Rattle.image.specs.Bodies.{messageAt, enumAt, flagsAt, unionAt, newtypeAt, otherAt, implAt, declAt, bodyOf}
-use Rattle.parts.specs.Promise.{bodyAt}
-use Rattle.image.specs.WellFormed.{Good, valueOr, endOf}
+use Rattle.image.specs.Bodies.{message_at, enum_at, flags_at, union_at, newtype_at, other_at, impl_at, decl_at, body_of}
+use Rattle.parts.specs.Promise.{body_at}
+use Rattle.image.specs.WellFormed.{Good, value_or, end_of}
 use Rattle.image.proofs.Laws.Names.{part_length}
 
 -- the first answer is a refusal, or the second is the same with its end moved on
 pub data Kept {A : Type 0} (by : ℕ) : Parsed A → Parsed A → Type 0 where
-  kept-ok : {a : A} {n m : ℕ} → m ≡ by + n → Kept by (ok a n) (ok a m)
-  kept-no : {k : ℕ} {q : Parsed A} → Kept by (no k) q
+  kept_ok : {a : A} {n m : ℕ} → m ≡ by + n → Kept by (ok a n) (ok a m)
+  kept_no : {k : ℕ} {q : Parsed A} → Kept by (no k) q
 
 -- a good answer stays good
-pub kept-good : {A : Type 0} {by : ℕ} {p q : Parsed A} → Kept by p q → Good p → Good q
+pub kept_good : {A : Type 0} {by : ℕ} {p q : Parsed A} → Kept by p q → Good p → Good q
 unfolding Good
-kept-good (kept-ok e) g = tt
-kept-good kept-no g = absurd g
+kept_good (kept_ok e) g = tt
+kept_good kept_no g = absurd g
 
-pub kept-value : {A : Type 0} {by : ℕ} {p q : Parsed A} (d : A) → Kept by p q → Good p → valueOr d q ≡ valueOr d p
-unfolding Good valueOr
-kept-value d (kept-ok e) g = refl
-kept-value d kept-no g = absurd g
+pub kept_value : {A : Type 0} {by : ℕ} {p q : Parsed A} (d : A) → Kept by p q → Good p → value_or d q ≡ value_or d p
+unfolding Good value_or
+kept_value d (kept_ok e) g = refl
+kept_value d kept_no g = absurd g
 
-pub kept-end : {A : Type 0} {by : ℕ} {p q : Parsed A} → Kept by p q → Good p → endOf q ≡ by + endOf p
-unfolding Good endOf
-kept-end (kept-ok e) g = e
-kept-end kept-no g = absurd g
+pub kept_end : {A : Type 0} {by : ℕ} {p q : Parsed A} → Kept by p q → Good p → end_of q ≡ by + end_of p
+unfolding Good end_of
+kept_end (kept_ok e) g = e
+kept_end kept_no g = absurd g
 
-pub kept-bind : {A B : Type 0} {by : ℕ} {p q : Parsed A} (f g : A → ℕ → Parsed B) → Kept by p q
+pub kept_bind : {A B : Type 0} {by : ℕ} {p q : Parsed A} (f g : A → ℕ → Parsed B) → Kept by p q
     → ((a : A) (n : ℕ) → Kept by (f a n) (g a (by + n))) → Kept by (bind p f) (bind q g)
 unfolding bind
-kept-bind f g (kept-ok {a = a} {n = n} e) h = rw e (h a n)
-kept-bind f g kept-no h = kept-no
+kept_bind f g (kept_ok {a = a} {n = n} e) h = rw e (h a n)
+kept_bind f g kept_no h = kept_no
 
 -- a value that was found equal
-kept-as : {A : Type 0} {by : ℕ} {a b : A} {n m : ℕ} → b ≡ a → m ≡ by + n → Kept by (ok a n) (ok b m)
-kept-as e q = rw e (kept-ok q)
+kept_as : {A : Type 0} {by : ℕ} {a b : A} {n m : ℕ} → b ≡ a → m ≡ by + n → Kept by (ok a n) (ok b m)
+kept_as e q = rw e (kept_ok q)
 
-kept-need : {A : Type 0} {by : ℕ} (b c : Bool) (k m : ℕ) {x y : Parsed A} → (b ≡ true → c ≡ true) → (b ≡ true → Kept by x y)
+kept_need : {A : Type 0} {by : ℕ} (b c : Bool) (k m : ℕ) {x y : Parsed A} → (b ≡ true → c ≡ true) → (b ≡ true → Kept by x y)
     → Kept by (pick b x (no k)) (pick c y (no m))
 unfolding pick
-kept-need true c k m t h = rw (t refl) (h refl)
-kept-need false c k m t h = kept-no
+kept_need true c k m t h = rw (t refl) (h refl)
+kept_need false c k m t h = kept_no
 
-kept-pick : {A : Type 0} {by : ℕ} (b : Bool) {x y u v : Parsed A} → Kept by x u → Kept by y v → Kept by (pick b x y) (pick b u v)
+kept_pick : {A : Type 0} {by : ℕ} (b : Bool) {x y u v : Parsed A} → Kept by x u → Kept by y v → Kept by (pick b x y) (pick b u v)
 unfolding pick
-kept-pick true h l = h
-kept-pick false h l = l
+kept_pick true h l = h
+kept_pick false h l = l
 
 -- a list is a part of another
 pub record Part (by : ℕ) (t s : List ℕ) : Type 0 where
   pub fits : by + length t ≤ length s
   pub same : (i : ℕ) → i < length t → get_or t i 0 ≡ get_or s (by + i) 0
 
-pub part-self : (s : List ℕ) → Part 0 s s
-part-self s = record { fits = omega arith; same = λ i h. let e : 0 + i ≡ i = omega arith in rw e }
+pub part_self : (s : List ℕ) → Part 0 s s
+part_self s = record { fits = omega arith; same = λ i h. let e : 0 + i ≡ i = omega arith in rw e }
 
 pub part_of : (from count : ℕ) (s : List ℕ) → from ≤ length s → Part from (part from count s) s
 unfolding part
@@ -80,11 +80,11 @@ part_of from count s h = record {
   same = λ i l. (let k : i < count = omega (arith, (part_length from count s).0) in get_or-take count (drop from s) i 0 k ∙ get_or-drop from s i 0);
 }
 
-pub part-from : (at : ℕ) (s : List ℕ) → at ≤ length s → Part at (drop at s) s
-part-from at s h = record { fits = (let e = length-drop at s in omega arith); same = λ i l. get_or-drop at s i 0 }
+pub part_from : (at : ℕ) (s : List ℕ) → at ≤ length s → Part at (drop at s) s
+part_from at s h = record { fits = (let e = length-drop at s in omega arith); same = λ i l. get_or-drop at s i 0 }
 
-part-drop : (by : ℕ) (t s : List ℕ) (at : ℕ) → Part by t s → Part 0 (drop at t) (drop (by + at) s)
-part-drop by t s at h = record {
+part_drop : (by : ℕ) (t s : List ℕ) (at : ℕ) → Part by t s → Part 0 (drop at t) (drop (by + at) s)
+part_drop by t s at h = record {
   fits = (let f = h.fits in let e = length-drop at t in let d = length-drop (by + at) s in omega arith);
   same = λ i l. (
       let e = length-drop at t in
@@ -95,9 +95,9 @@ part-drop by t s at h = record {
 
 -- the bytes of a part, and the numbers that they make
 module _ {by : ℕ} {t s : List ℕ} (h : Part by t s) where
-  part-part : (from count : ℕ) → from + count ≤ length t → part from count t ≡ part (by + from) count s
+  part_part : (from count : ℕ) → from + count ≤ length t → part from count t ≡ part (by + from) count s
   unfolding part
-  part-part from count l =
+  part_part from count l =
       let f = h.fits in
       let d = length-drop from t in
       let e = length-drop (by + from) s in
@@ -110,231 +110,231 @@ module _ {by : ℕ} {t s : List ℕ} (h : Part by t s) where
       get_or-take count (drop from t) i 0 c ∙ get_or-drop from t i 0 ∙ h.same (from + i) o ∙ ap (λ (j : ℕ). get_or s j 0) z
       ∙ sym (get_or-take count (drop (by + from) s) i 0 c ∙ get_or-drop (by + from) s i 0))
 
-le-part : (w : ℕ) {by : ℕ} {t s : List ℕ} → Part by t s → (at : ℕ) → at + w ≤ length t → littleEndian w (drop at t) ≡ littleEndian w (drop (by + at) s)
-unfolding littleEndian
-le-part zero h at l = refl
-le-part (suc w) {by} {t} {s} h at l =
+le_part : (w : ℕ) {by : ℕ} {t s : List ℕ} → Part by t s → (at : ℕ) → at + w ≤ length t → little_endian w (drop at t) ≡ little_endian w (drop (by + at) s)
+unfolding little_endian
+le_part zero h at l = refl
+le_part (suc w) {by} {t} {s} h at l =
     let i : at + 0 < length t = omega arith in
     let z : by + (at + 0) ≡ by + at + 0 = omega arith in
     let o : by + (at + 1) ≡ by + at + 1 = omega arith in
     let m : at + 1 + w ≤ length t = omega arith in
     rw (drop-drop 1 at t, drop-drop 1 (by + at) s, get_or-drop at t 0 0, get_or-drop (by + at) s 0 0)
     (ap₂ (λ (a b : ℕ). a + 256 * b) (h.same (at + 0) i ∙ ap (λ (j : ℕ). get_or s j 0) z)
-    (le-part w h (at + 1) m ∙ ap (λ (j : ℕ). littleEndian w (drop j s)) o))
+    (le_part w h (at + 1) m ∙ ap (λ (j : ℕ). little_endian w (drop j s)) o))
 
 -- bytes, coded bytes, numbers and names
 module _ {by : ℕ} {t s : List ℕ} (h : Part by t s) where
-  fits-less : (at : ℕ) → ltb at (length t) ≡ true → ltb (by + at) (length s) ≡ true
-  fits-less at e = let l = ltb-true at (length t) e in let f = h.fits in lt-ltb (by + at) (length s) (omega arith)
+  fits_less : (at : ℕ) → ltb at (length t) ≡ true → ltb (by + at) (length s) ≡ true
+  fits_less at e = let l = ltb-true at (length t) e in let f = h.fits in lt-ltb (by + at) (length s) (omega arith)
 
-  fits-most : (at k : ℕ) → leb (at + k) (length t) ≡ true → leb (by + at + k) (length s) ≡ true
-  fits-most at k e = let l = leb-true (at + k) (length t) e in let f = h.fits in le-leb (by + at + k) (length s) (omega arith)
+  fits_most : (at k : ℕ) → leb (at + k) (length t) ≡ true → leb (by + at + k) (length s) ≡ true
+  fits_most at k e = let l = leb-true (at + k) (length t) e in let f = h.fits in le-leb (by + at + k) (length s) (omega arith)
 
-  pub byte-kept : (k m at : ℕ) → Kept by (byteAt k t at) (byteAt m s (by + at))
-  unfolding byteAt
-  byte-kept k m at =
-      kept-need _ _ _ _ (fits-less at) (λ e. kept-as (sym (h.same at (ltb-true at (length t) e))) (omega arith))
+  pub byte_kept : (k m at : ℕ) → Kept by (byte_at k t at) (byte_at m s (by + at))
+  unfolding byte_at
+  byte_kept k m at =
+      kept_need _ _ _ _ (fits_less at) (λ e. kept_as (sym (h.same at (ltb-true at (length t) e))) (omega arith))
 
-  code-kept : (lo hi at : ℕ) → Kept by (codeAt lo hi t at) (codeAt lo hi s (by + at))
-  unfolding codeAt
-  code-kept lo hi at = kept-bind _ _ (byte-kept 8 8 at) (λ b n. kept-need _ _ _ _ (λ e. e) (λ _. kept-ok refl))
+  code_kept : (lo hi at : ℕ) → Kept by (code_at lo hi t at) (code_at lo hi s (by + at))
+  unfolding code_at
+  code_kept lo hi at = kept_bind _ _ (byte_kept 8 8 at) (λ b n. kept_need _ _ _ _ (λ e. e) (λ _. kept_ok refl))
 
-  number-kept : (w at : ℕ) → Kept by (numberAt w t at) (numberAt w s (by + at))
-  unfolding numberAt
-  number-kept w at =
-      kept-need _ _ _ _ (fits-most at w) (λ e. kept-as (sym (le-part w h at (leb-true (at + w) (length t) e))) (omega arith))
+  number_kept : (w at : ℕ) → Kept by (number_at w t at) (number_at w s (by + at))
+  unfolding number_at
+  number_kept w at =
+      kept_need _ _ _ _ (fits_most at w) (λ e. kept_as (sym (le_part w h at (leb-true (at + w) (length t) e))) (omega arith))
 
-  name-kept : (k m at : ℕ) → Kept by (nameAt k t at) (nameAt m s (by + at))
-  unfolding nameAt
-  name-kept k m at =
-      kept-bind _ _ (byte-kept k m at) (λ c n.
-      kept-need _ _ _ _ (fits-most n c) (λ e.
-      let q = part-part h n c (leb-true (n + c) (length t) e) in
-      kept-need _ _ _ _ (λ b. ap nameBytes (sym q) ∙ b) (λ _. kept-as (sym q) (omega arith))))
+  name_kept : (k m at : ℕ) → Kept by (name_at k t at) (name_at m s (by + at))
+  unfolding name_at
+  name_kept k m at =
+      kept_bind _ _ (byte_kept k m at) (λ c n.
+      kept_need _ _ _ _ (fits_most n c) (λ e.
+      let q = part_part h n c (leb-true (n + c) (length t) e) in
+      kept_need _ _ _ _ (λ b. ap name_bytes (sym q) ∙ b) (λ _. kept_as (sym q) (omega arith))))
 
 -- so many of a kind
-pub many-kept : {A : Type 0} {by : ℕ} {t s : List ℕ} (p q : List ℕ → ℕ → Parsed A) → ((at : ℕ) → Kept by (p t at) (q s (by + at)))
+pub many_kept : {A : Type 0} {by : ℕ} {t s : List ℕ} (p q : List ℕ → ℕ → Parsed A) → ((at : ℕ) → Kept by (p t at) (q s (by + at)))
     → (c at : ℕ) → Kept by (many p c t at) (many q c s (by + at))
 unfolding many
-many-kept p q h zero at = kept-ok refl
-many-kept p q h (suc c) at = kept-bind _ _ (h at) (λ x n. kept-bind _ _ (many-kept p q h c n) (λ xs m. kept-ok refl))
+many_kept p q h zero at = kept_ok refl
+many_kept p q h (suc c) at = kept_bind _ _ (h at) (λ x n. kept_bind _ _ (many_kept p q h c n) (λ xs m. kept_ok refl))
 
 -- a part of the part
 shift_kept : {A : Type 0} (by at : ℕ) {p q : Parsed A} → Kept 0 p q → Kept by (shift at p) (shift (by + at) q)
 unfolding shift
-shift_kept by at (kept-ok {n = n} {m = m} e) = let z : by + at + m ≡ by + (at + n) = omega arith in kept-ok z
-shift_kept by at kept-no = kept-no
+shift_kept by at (kept_ok {n = n} {m = m} e) = let z : by + at + m ≡ by + (at + n) = omega arith in kept_ok z
+shift_kept by at kept_no = kept_no
 
-pub within-kept : {A : Type 0} {by : ℕ} {t s : List ℕ} (p q : List ℕ → Parsed A) → ((u v : List ℕ) → Part 0 u v → Kept 0 (p u) (q v)) → Part by t s
+pub within_kept : {A : Type 0} {by : ℕ} {t s : List ℕ} (p q : List ℕ → Parsed A) → ((u v : List ℕ) → Part 0 u v → Kept 0 (p u) (q v)) → Part by t s
     → (at : ℕ) → Kept by (within p t at) (within q s (by + at))
 unfolding within
-within-kept {by = by} p q f h at = shift_kept by at (f _ _ (part-drop _ _ _ at h))
+within_kept {by = by} p q f h at = shift_kept by at (f _ _ (part_drop _ _ _ at h))
 
 -- labels and types
 module _ {by : ℕ} {t s : List ℕ} (h : Part by t s) where
-  pub names-kept : (k m c at : ℕ) → Kept by (namesAt k c t at) (namesAt m c s (by + at))
-  unfolding namesAt
-  names-kept k m c at = many-kept (nameAt k) (nameAt m) (name-kept h k m) c at
+  pub names_kept : (k m c at : ℕ) → Kept by (names_at k c t at) (names_at m c s (by + at))
+  unfolding names_at
+  names_kept k m c at = many_kept (name_at k) (name_at m) (name_kept h k m) c at
 
-  counted-kept : {A : Type 0} (p : List ℕ → ℕ → Parsed A) → ((at : ℕ) → Kept by (p t at) (p s (by + at))) → (at : ℕ)
+  counted_kept : {A : Type 0} (p : List ℕ → ℕ → Parsed A) → ((at : ℕ) → Kept by (p t at) (p s (by + at))) → (at : ℕ)
       → Kept by (counted p t at) (counted p s (by + at))
   unfolding counted
-  counted-kept p f at = kept-bind _ _ (number-kept h 2 at) (λ c n. many-kept p p f c n)
+  counted_kept p f at = kept_bind _ _ (number_kept h 2 at) (λ c n. many_kept p p f c n)
 
-  pub after_kept : (tag : ℕ) (f : Follows) (at : ℕ) → Kept by (afterTag tag f t at) (afterTag tag f s (by + at))
-  unfolding afterTag
-  after_kept tag (code hi) at = kept-bind _ _ (code-kept h 0 hi at) (λ a n. kept-ok refl)
-  after_kept tag subByte at = kept-bind _ _ (code-kept h 0 1 at) (λ a n. kept-bind _ _ (code-kept h 1 64 n) (λ b m. kept-ok refl))
-  after_kept tag identity at = kept-bind _ _ (number-kept h 4 at) (λ a n. kept-ok refl)
-  after_kept tag size at = kept-bind _ _ (number-kept h 8 at) (λ a n. kept-ok refl)
-  after_kept tag nothing at = kept-ok refl
-  after_kept tag bits at = kept-bind _ _ (byte-kept h 8 8 at) (λ k n. kept-bind _ _ (names-kept 8 8 k n) (λ xs m. kept-ok refl))
-  after_kept tag unknown at = kept-no
+  pub after_kept : (tag : ℕ) (f : Follows) (at : ℕ) → Kept by (after_tag tag f t at) (after_tag tag f s (by + at))
+  unfolding after_tag
+  after_kept tag (code hi) at = kept_bind _ _ (code_kept h 0 hi at) (λ a n. kept_ok refl)
+  after_kept tag sub_byte at = kept_bind _ _ (code_kept h 0 1 at) (λ a n. kept_bind _ _ (code_kept h 1 64 n) (λ b m. kept_ok refl))
+  after_kept tag identity at = kept_bind _ _ (number_kept h 4 at) (λ a n. kept_ok refl)
+  after_kept tag size at = kept_bind _ _ (number_kept h 8 at) (λ a n. kept_ok refl)
+  after_kept tag nothing at = kept_ok refl
+  after_kept tag bits at = kept_bind _ _ (byte_kept h 8 8 at) (λ k n. kept_bind _ _ (names_kept 8 8 k n) (λ xs m. kept_ok refl))
+  after_kept tag unknown at = kept_no
 
-  inner-kept : (p q : List ℕ → Parsed Ty) → ((u v : List ℕ) → Part 0 u v → Kept 0 (p u) (q v)) → (i : ℕ) (l : Label) (at : ℕ)
-      → Kept by (innerAt i l p t at) (innerAt i l q s (by + at))
-  unfolding innerAt
-  inner-kept p q f zero l at = kept-ok refl
-  inner-kept p q f (suc zero) l at = kept-bind _ _ (within-kept p q f h at) (λ u n. kept-ok refl)
-  inner-kept p q f (suc (suc k)) l at =
-      kept-bind _ _ (within-kept p q f h at) (λ u n. kept-bind _ _ (within-kept p q f h n) (λ v m. kept-ok refl))
+  inner_kept : (p q : List ℕ → Parsed Ty) → ((u v : List ℕ) → Part 0 u v → Kept 0 (p u) (q v)) → (i : ℕ) (l : Label) (at : ℕ)
+      → Kept by (inner_at i l p t at) (inner_at i l q s (by + at))
+  unfolding inner_at
+  inner_kept p q f zero l at = kept_ok refl
+  inner_kept p q f (suc zero) l at = kept_bind _ _ (within_kept p q f h at) (λ u n. kept_ok refl)
+  inner_kept p q f (suc (suc k)) l at =
+      kept_bind _ _ (within_kept p q f h at) (λ u n. kept_bind _ _ (within_kept p q f h n) (λ v m. kept_ok refl))
 
-label_kept : (t s : List ℕ) → Part 0 t s → Kept 0 (labelOf t) (labelOf s)
-unfolding labelOf
-label_kept t s h = kept-bind _ _ (byte-kept h 8 8 0) (λ tag n. after_kept h tag (followsTag tag) n)
+label_kept : (t s : List ℕ) → Part 0 t s → Kept 0 (label_of t) (label_of s)
+unfolding label_of
+label_kept t s h = kept_bind _ _ (byte_kept h 8 8 0) (λ tag n. after_kept h tag (follows_tag tag) n)
 
-pub type-kept : (d e : ℕ) → d ≤ e → (t s : List ℕ) → Part 0 t s → Kept 0 (typeOf d t) (typeOf e s)
-unfolding typeOf
-type-kept zero e l t s h = kept-no
-type-kept (suc d) zero l t s h = absurd (omega arith)
-type-kept (suc d) (suc e) l t s h =
-    kept-bind _ _ (label_kept t s h) (λ a n.
-    inner-kept h (typeOf d) (typeOf e) (λ u v p. type-kept d e (omega arith) u v p) (innerTypes a.tag) a n)
+pub type_kept : (d e : ℕ) → d ≤ e → (t s : List ℕ) → Part 0 t s → Kept 0 (type_of d t) (type_of e s)
+unfolding type_of
+type_kept zero e l t s h = kept_no
+type_kept (suc d) zero l t s h = absurd (omega arith)
+type_kept (suc d) (suc e) l t s h =
+    kept_bind _ _ (label_kept t s h) (λ a n.
+    inner_kept h (type_of d) (type_of e) (λ u v p. type_kept d e (omega arith) u v p) (inner_types a.tag) a n)
 
 -- items
 module _ {by : ℕ} {t s : List ℕ} (h : Part by t s) where
-  type-at-kept : (at : ℕ) → Kept by (typeAt t at) (typeAt s (by + at))
-  unfolding typeAt
-  type-at-kept at = within-kept (typeOf 32) (typeOf 32) (type-kept 32 32 (omega arith)) h at
+  type_at_kept : (at : ℕ) → Kept by (type_at t at) (type_at s (by + at))
+  unfolding type_at
+  type_at_kept at = within_kept (type_of 32) (type_of 32) (type_kept 32 32 (omega arith)) h at
 
-  marks-kept : (at : ℕ) → Kept by (marksAt t at) (marksAt s (by + at))
-  unfolding marksAt
-  marks-kept at = kept-bind _ _ (code-kept h 0 3 at) (λ b n. kept-ok refl)
+  marks_kept : (at : ℕ) → Kept by (marks_at t at) (marks_at s (by + at))
+  unfolding marks_at
+  marks_kept at = kept_bind _ _ (code_kept h 0 3 at) (λ b n. kept_ok refl)
 
-  encoding-kept : (left at : ℕ) → Kept by (encodingOf left t at) (encodingOf left s (by + at))
-  unfolding encodingOf
-  encoding-kept zero at = kept-bind _ _ (code-kept h 0 3 at) (λ b n. kept-pick _ kept-no (kept-ok refl))
-  encoding-kept (suc left) at =
-      kept-bind _ _ (code-kept h 0 3 at) (λ b n. kept-pick _ (kept-bind _ _ (encoding-kept left n) (λ e m. kept-ok refl)) (kept-ok refl))
+  encoding_kept : (left at : ℕ) → Kept by (encoding_of left t at) (encoding_of left s (by + at))
+  unfolding encoding_of
+  encoding_kept zero at = kept_bind _ _ (code_kept h 0 3 at) (λ b n. kept_pick _ kept_no (kept_ok refl))
+  encoding_kept (suc left) at =
+      kept_bind _ _ (code_kept h 0 3 at) (λ b n. kept_pick _ (kept_bind _ _ (encoding_kept left n) (λ e m. kept_ok refl)) (kept_ok refl))
 
-  encoding-at-kept : (at : ℕ) → Kept by (encodingAt t at) (encodingAt s (by + at))
-  unfolding encodingAt
-  encoding-at-kept at = encoding-kept 8 at
+  encoding_at_kept : (at : ℕ) → Kept by (encoding_at t at) (encoding_at s (by + at))
+  unfolding encoding_at
+  encoding_at_kept at = encoding_kept 8 at
 
-  limit-kept : (at : ℕ) → Kept by (limitAt t at) (limitAt s (by + at))
-  unfolding limitAt
-  limit-kept at =
-      kept-bind _ _ (code-kept h 0 1 at) (λ b n. kept-pick _ (kept-ok refl) (kept-bind _ _ (number-kept h 8 n) (λ v m. kept-ok refl)))
+  limit_kept : (at : ℕ) → Kept by (limit_at t at) (limit_at s (by + at))
+  unfolding limit_at
+  limit_kept at =
+      kept_bind _ _ (code_kept h 0 1 at) (λ b n. kept_pick _ (kept_ok refl) (kept_bind _ _ (number_kept h 8 n) (λ v m. kept_ok refl)))
 
-  field-kept : (at : ℕ) → Kept by (fieldAt t at) (fieldAt s (by + at))
-  unfolding fieldAt
-  field-kept at =
-      kept-bind _ _ (number-kept h 4 at) (λ o n₁.
-      kept-bind _ _ (name-kept h 8 8 n₁) (λ x n₂.
-      kept-bind _ _ (marks-kept n₂) (λ m n₃.
-      kept-bind _ _ (encoding-at-kept n₃) (λ e n₄.
-      kept-bind _ _ (limit-kept n₄) (λ l n₅.
-      kept-bind _ _ (type-at-kept n₅) (λ u n₆.
-      kept-ok refl))))))
+  field_kept : (at : ℕ) → Kept by (field_at t at) (field_at s (by + at))
+  unfolding field_at
+  field_kept at =
+      kept_bind _ _ (number_kept h 4 at) (λ o n₁.
+      kept_bind _ _ (name_kept h 8 8 n₁) (λ x n₂.
+      kept_bind _ _ (marks_kept n₂) (λ m n₃.
+      kept_bind _ _ (encoding_at_kept n₃) (λ e n₄.
+      kept_bind _ _ (limit_kept n₄) (λ l n₅.
+      kept_bind _ _ (type_at_kept n₅) (λ u n₆.
+      kept_ok refl))))))
 
-  bare-kept : (at : ℕ) → Kept by (bareAt t at) (bareAt s (by + at))
-  unfolding bareAt
-  bare-kept at = kept-bind _ _ (number-kept h 4 at) (λ o n₁. kept-bind _ _ (name-kept h 8 8 n₁) (λ x n₂. kept-ok refl))
+  bare_kept : (at : ℕ) → Kept by (bare_at t at) (bare_at s (by + at))
+  unfolding bare_at
+  bare_kept at = kept_bind _ _ (number_kept h 4 at) (λ o n₁. kept_bind _ _ (name_kept h 8 8 n₁) (λ x n₂. kept_ok refl))
 
-  variant-kept : (at : ℕ) → Kept by (variantAt t at) (variantAt s (by + at))
-  unfolding variantAt
-  variant-kept at =
-      kept-bind _ _ (number-kept h 4 at) (λ o n₁.
-      kept-bind _ _ (name-kept h 8 8 n₁) (λ x n₂.
-      kept-bind _ _ (counted-kept h fieldAt field-kept n₂) (λ fs n₃.
-      kept-ok refl)))
+  variant_kept : (at : ℕ) → Kept by (variant_at t at) (variant_at s (by + at))
+  unfolding variant_at
+  variant_kept at =
+      kept_bind _ _ (number_kept h 4 at) (λ o n₁.
+      kept_bind _ _ (name_kept h 8 8 n₁) (λ x n₂.
+      kept_bind _ _ (counted_kept h field_at field_kept n₂) (λ fs n₃.
+      kept_ok refl)))
 
   -- widths
-  wire-bits-kept : (at : ℕ) → Kept by (wireBitsAt t at) (wireBitsAt s (by + at))
-  unfolding wireBitsAt
-  wire-bits-kept at = byte-kept h 8 8 at
+  wire_bits_kept : (at : ℕ) → Kept by (wire_bits_at t at) (wire_bits_at s (by + at))
+  unfolding wire_bits_at
+  wire_bits_kept at = byte_kept h 8 8 at
 
-  wire-bytes-kept : (at : ℕ) → Kept by (wireBytesAt t at) (wireBytesAt s (by + at))
-  unfolding wireBytesAt
-  wire-bytes-kept at = kept-bind _ _ (byte-kept h 8 8 at) (λ b n. kept-need _ _ _ _ (λ e. e) (λ _. kept-ok refl))
+  wire_bytes_kept : (at : ℕ) → Kept by (wire_bytes_at t at) (wire_bytes_at s (by + at))
+  unfolding wire_bytes_at
+  wire_bytes_kept at = kept_bind _ _ (byte_kept h 8 8 at) (λ b n. kept_need _ _ _ _ (λ e. e) (λ _. kept_ok refl))
 
-  width-kept : (f : ℕ) (wire : List ℕ → ℕ → Parsed ℕ) → ((at : ℕ) → Kept by (wire t at) (wire s (by + at))) → (at : ℕ)
-      → Kept by (widthAt f wire t at) (widthAt f wire s (by + at))
-  unfolding widthAt
-  width-kept f wire k at = kept-pick _ (kept-bind _ _ (k at) (λ w n. kept-ok refl)) (kept-ok refl)
+  width_kept : (f : ℕ) (wire : List ℕ → ℕ → Parsed ℕ) → ((at : ℕ) → Kept by (wire t at) (wire s (by + at))) → (at : ℕ)
+      → Kept by (width_at f wire t at) (width_at f wire s (by + at))
+  unfolding width_at
+  width_kept f wire k at = kept_pick _ (kept_bind _ _ (k at) (λ w n. kept_ok refl)) (kept_ok refl)
 
   -- declarations, in a format
-  message-kept : (at : ℕ) → Kept by (messageAt t at) (messageAt s (by + at))
-  unfolding messageAt
-  message-kept at =
-      kept-bind _ _ (name-kept h 8 8 at) (λ x n₁. kept-bind _ _ (marks-kept n₁) (λ m n₂. kept-bind _ _ (counted-kept h fieldAt field-kept n₂) (λ fs n₃. kept-ok refl)))
+  message_kept : (at : ℕ) → Kept by (message_at t at) (message_at s (by + at))
+  unfolding message_at
+  message_kept at =
+      kept_bind _ _ (name_kept h 8 8 at) (λ x n₁. kept_bind _ _ (marks_kept n₁) (λ m n₂. kept_bind _ _ (counted_kept h field_at field_kept n₂) (λ fs n₃. kept_ok refl)))
 
-  enum-kept : (f at : ℕ) → Kept by (enumAt f t at) (enumAt f s (by + at))
-  unfolding enumAt
-  enum-kept f at =
-      kept-bind _ _ (name-kept h 8 8 at) (λ x n₁.
-      kept-bind _ _ (marks-kept n₁) (λ m n₂.
-      kept-bind _ _ (width-kept f wireBitsAt wire-bits-kept n₂) (λ w n₃.
-      kept-bind _ _ (counted-kept h bareAt bare-kept n₃) (λ vs n₄.
-      kept-ok refl))))
+  enum_kept : (f at : ℕ) → Kept by (enum_at f t at) (enum_at f s (by + at))
+  unfolding enum_at
+  enum_kept f at =
+      kept_bind _ _ (name_kept h 8 8 at) (λ x n₁.
+      kept_bind _ _ (marks_kept n₁) (λ m n₂.
+      kept_bind _ _ (width_kept f wire_bits_at wire_bits_kept n₂) (λ w n₃.
+      kept_bind _ _ (counted_kept h bare_at bare_kept n₃) (λ vs n₄.
+      kept_ok refl))))
 
-  flags-kept : (f at : ℕ) → Kept by (flagsAt f t at) (flagsAt f s (by + at))
-  unfolding flagsAt
-  flags-kept f at =
-      kept-bind _ _ (name-kept h 8 8 at) (λ x n₁.
-      kept-bind _ _ (width-kept f wireBytesAt wire-bytes-kept n₁) (λ w n₂.
-      kept-bind _ _ (counted-kept h bareAt bare-kept n₂) (λ vs n₃.
-      kept-ok refl)))
+  flags_kept : (f at : ℕ) → Kept by (flags_at f t at) (flags_at f s (by + at))
+  unfolding flags_at
+  flags_kept f at =
+      kept_bind _ _ (name_kept h 8 8 at) (λ x n₁.
+      kept_bind _ _ (width_kept f wire_bytes_at wire_bytes_kept n₁) (λ w n₂.
+      kept_bind _ _ (counted_kept h bare_at bare_kept n₂) (λ vs n₃.
+      kept_ok refl)))
 
-  union-kept : (at : ℕ) → Kept by (unionAt t at) (unionAt s (by + at))
-  unfolding unionAt
-  union-kept at = kept-bind _ _ (name-kept h 8 8 at) (λ x n₁. kept-bind _ _ (counted-kept h variantAt variant-kept n₁) (λ vs n₂. kept-ok refl))
+  union_kept : (at : ℕ) → Kept by (union_at t at) (union_at s (by + at))
+  unfolding union_at
+  union_kept at = kept_bind _ _ (name_kept h 8 8 at) (λ x n₁. kept_bind _ _ (counted_kept h variant_at variant_kept n₁) (λ vs n₂. kept_ok refl))
 
-  newtype-kept : (at : ℕ) → Kept by (newtypeAt t at) (newtypeAt s (by + at))
-  unfolding newtypeAt
-  newtype-kept at = kept-bind _ _ (name-kept h 8 8 at) (λ x n₁. kept-bind _ _ (type-at-kept n₁) (λ u n₂. kept-ok refl))
+  newtype_kept : (at : ℕ) → Kept by (newtype_at t at) (newtype_at s (by + at))
+  unfolding newtype_at
+  newtype_kept at = kept_bind _ _ (name_kept h 8 8 at) (λ x n₁. kept_bind _ _ (type_at_kept n₁) (λ u n₂. kept_ok refl))
 
-  other-kept : (kind at : ℕ) → Kept by (otherAt kind t at) (otherAt kind s (by + at))
-  unfolding otherAt
-  other-kept kind at = kept-bind _ _ (name-kept h 8 8 at) (λ x n. kept-ok refl)
+  other_kept : (kind at : ℕ) → Kept by (other_at kind t at) (other_at kind s (by + at))
+  unfolding other_at
+  other_kept kind at = kept_bind _ _ (name_kept h 8 8 at) (λ x n. kept_ok refl)
 
-  decl-kept : (f : ℕ) (kind : Kind) (at : ℕ) → Kept by (declAt f kind t at) (declAt f kind s (by + at))
-  unfolding declAt implAt
-  decl-kept f message at = message-kept at
-  decl-kept f enum at = enum-kept f at
-  decl-kept f flags at = flags-kept f at
-  decl-kept f union at = union-kept at
-  decl-kept f newtype at = newtype-kept at
-  decl-kept f config at = other-kept (number configKind) at
-  decl-kept f alias at = other-kept (number aliasKind) at
-  decl-kept f trait at = other-kept (number traitKind) at
-  decl-kept f impl at = kept-ok refl
-  decl-kept f other at = kept-no
+  decl_kept : (f : ℕ) (kind : Kind) (at : ℕ) → Kept by (decl_at f kind t at) (decl_at f kind s (by + at))
+  unfolding decl_at impl_at
+  decl_kept f message at = message_kept at
+  decl_kept f enum at = enum_kept f at
+  decl_kept f flags at = flags_kept f at
+  decl_kept f union at = union_kept at
+  decl_kept f newtype at = newtype_kept at
+  decl_kept f config at = other_kept (number config_kind) at
+  decl_kept f alias at = other_kept (number alias_kind) at
+  decl_kept f trait at = other_kept (number trait_kind) at
+  decl_kept f impl at = kept_ok refl
+  decl_kept f other at = kept_no
 
 -- a test of the end that the whole does not make
 tested : {A : Type 0} {by : ℕ} (b : Bool) (k : ℕ) {x y : Parsed A} → Kept by x y → Kept by (pick b x (no k)) y
 unfolding pick
 tested true k h = h
-tested false k h = kept-no
+tested false k h = kept_no
 
 kept_test : {A : Type 0} {by : ℕ} {p q : Parsed A} (test : ℕ → Bool) (k : ℕ) → Kept by p q → Kept by (bind p (λ a n. pick (test n) (ok a n) (no k))) q
 unfolding bind
-kept_test test k (kept-ok {n = n} e) = tested (test n) k (kept-ok e)
-kept_test test k kept-no = kept-no
+kept_test test k (kept_ok {n = n} e) = tested (test n) k (kept_ok e)
+kept_test test k kept_no = kept_no
 
 -- a whole body, in the format of the list that it is a part of
-pub body_kept : (by : ℕ) (t s : List ℕ) → Part by t s → Kept by (bodyOf (format s) t) (bodyAt s by)
-unfolding bodyOf bodyAt
+pub body_kept : (by : ℕ) (t s : List ℕ) → Part by t s → Kept by (body_of (format s) t) (body_at s by)
+unfolding body_of body_at
 body_kept by t s h =
     let z : by + 0 ≡ by = omega arith in
-    kept-bind _ _ (rw z at (byte-kept h 8 8 0)) (λ kind n. kept_test (λ m. eqb m (length t)) 8 (decl-kept h (format s) (kindOf kind) n))
+    kept_bind _ _ (rw z at (byte_kept h 8 8 0)) (λ kind n. kept_test (λ m. eqb m (length t)) 8 (decl_kept h (format s) (kind_of kind) n))

@@ -9,27 +9,27 @@ use lib.Dec.{eqb, leb}
 use lib.ListN.{length, get_or, drop, length-drop}
 use lib.Seq.{get_or-drop}
 use Rattle.image.specs.Schema.{Label, label}
-use Rattle.image.specs.Parse.{Parsed, ok, bind, littleEndian, byteAt, codeAt, numberAt}
-use Rattle.image.specs.Names.{nameAt, namesAt}
-use Rattle.image.specs.Types.{Follows, code, subByte, identity, size, nothing, bits, unknown, followsTag, afterTag, labelOf}
-use Rattle.image.specs.WellFormed.{Good, valueOr, endOf}
-use Rattle.image.specs.WellFormed.{labelIn as firstLabel}
-use Rattle.image.proofs.Laws.Good.{good-first}
-use Rattle.image.proofs.Laws.Trees.{label-tag}
+use Rattle.image.specs.Parse.{Parsed, ok, bind, little_endian, byte_at, code_at, number_at}
+use Rattle.image.specs.Names.{name_at, names_at}
+use Rattle.image.specs.Types.{Follows, code, sub_byte, identity, size, nothing, bits, unknown, follows_tag, after_tag, label_of}
+use Rattle.image.specs.WellFormed.{Good, value_or, end_of}
+use Rattle.image.specs.WellFormed.{label_in as first_label}
+use Rattle.image.proofs.Laws.Good.{good_first}
+use Rattle.image.proofs.Laws.Trees.{label_tag}
 use Rattle.image.proofs.Laws.Types.{follows_nothing}
-use Rattle.parts.specs.Promise.{noLabel, NamesHere, NamesListed, namesEnd, nameEnd, nameIn, namePlaces, LabelHere, labelIn, labelEnd, bitsIn, Regular}
-use Rattle.parts.proofs.Laws.Kept.{Kept, kept-good, kept-value, kept-end, part-from, byte-kept, after_kept, kept-bind}
-use Rattle.parts.proofs.Laws.Steps.{good-is, then_is, then-good, byte-is, code_is, number_is}
-use Rattle.parts.proofs.Laws.Places.{many-places}
+use Rattle.parts.specs.Promise.{no_label, NamesHere, NamesListed, names_end, name_end, name_in, name_places, LabelHere, label_in, label_end, bits_in, Regular}
+use Rattle.parts.proofs.Laws.Kept.{Kept, kept_good, kept_value, kept_end, part_from, byte_kept, after_kept, kept_bind}
+use Rattle.parts.proofs.Laws.Steps.{good_is, then_is, then_good, byte_is, code_is, number_is}
+use Rattle.parts.proofs.Laws.Places.{many_places}
 
 -- a tag by what follows it
 data Tagged : ℕ → Follows → Type 0 where
   primitive : Tagged 0 (code 13)
-  sub-byte : Tagged 1 subByte
+  sub_byte_lem : Tagged 1 sub_byte
   semantic : Tagged 2 (code 5)
   named : Tagged 3 identity
   fixed : Tagged 6 size
-  of-bits : Tagged 16 bits
+  of_bits_lem : Tagged 16 bits
   bare : {tag : ℕ} → (tag ≡ 0 → ⊥) → (tag ≡ 1 → ⊥) → (tag ≡ 2 → ⊥) → (tag ≡ 3 → ⊥) → (tag ≡ 6 → ⊥) → tag ≤ 15 → Tagged tag nothing
   none : {tag : ℕ} → Tagged tag unknown
 
@@ -40,11 +40,11 @@ either tag k x y t rest = go (eqb tag k) refl
     go true e = rw (eqb-true tag k e) t
     go false e = rest (eqb-false tag k e)
 
-tagged : (tag : ℕ) → Tagged tag (followsTag tag)
-unfolding followsTag
+tagged : (tag : ℕ) → Tagged tag (follows_tag tag)
+unfolding follows_tag
 tagged tag =
-    either tag 0 _ _ primitive (λ n₀. either tag 1 _ _ sub-byte (λ n₁. either tag 2 _ _ semantic (λ n₂. either tag 3 _ _ named (λ n₃.
-    either tag 6 _ _ fixed (λ n₆. either tag 16 _ _ of-bits (λ _. go n₀ n₁ n₂ n₃ n₆ (leb tag 15) refl))))))
+    either tag 0 _ _ primitive (λ n₀. either tag 1 _ _ sub_byte_lem (λ n₁. either tag 2 _ _ semantic (λ n₂. either tag 3 _ _ named (λ n₃.
+    either tag 6 _ _ fixed (λ n₆. either tag 16 _ _ of_bits_lem (λ _. go n₀ n₁ n₂ n₃ n₆ (leb tag 15) refl))))))
   where
     go : (tag ≡ 0 → ⊥) → (tag ≡ 1 → ⊥) → (tag ≡ 2 → ⊥) → (tag ≡ 3 → ⊥) → (tag ≡ 6 → ⊥) → (b : Bool) → leb tag 15 ≡ b → Tagged tag (cond b nothing unknown)
     go n₀ n₁ n₂ n₃ n₆ true e = bare n₀ n₁ n₂ n₃ n₆ (leb-true tag 15 e)
@@ -52,93 +52,93 @@ tagged tag =
 
 -- what stands after a tag, at n: the label, its end, and that its bytes are there
 abbrev After : Follows → ℕ → List ℕ → ℕ → Type 0
-After (code most) tag s n = (afterTag tag (code most) s n ≡ ok (label tag (get_or s n 0) 0 []) (n + 1)) × (n < length s) × (get_or s n 0 ≤ most)
-After subByte tag s n =
-    (afterTag tag subByte s n ≡ ok (label tag (get_or s n 0) (get_or s (n + 1) 0) []) (n + 1 + 1))
+After (code most) tag s n = (after_tag tag (code most) s n ≡ ok (label tag (get_or s n 0) 0 []) (n + 1)) × (n < length s) × (get_or s n 0 ≤ most)
+After sub_byte tag s n =
+    (after_tag tag sub_byte s n ≡ ok (label tag (get_or s n 0) (get_or s (n + 1) 0) []) (n + 1 + 1))
     × (n + 1 < length s) × (get_or s n 0 ≤ 1) × ((1 ≤ get_or s (n + 1) 0) × (get_or s (n + 1) 0 ≤ 64))
-After identity tag s n = (afterTag tag identity s n ≡ ok (label tag (littleEndian 4 (drop n s)) 0 []) (n + 4)) × (n + 4 ≤ length s)
-After size tag s n = (afterTag tag size s n ≡ ok (label tag (littleEndian 8 (drop n s)) 0 []) (n + 8)) × (n + 8 ≤ length s)
-After nothing tag s n = (afterTag tag nothing s n ≡ ok (label tag 0 0 []) n) × Unit {0}
+After identity tag s n = (after_tag tag identity s n ≡ ok (label tag (little_endian 4 (drop n s)) 0 []) (n + 4)) × (n + 4 ≤ length s)
+After size tag s n = (after_tag tag size s n ≡ ok (label tag (little_endian 8 (drop n s)) 0 []) (n + 8)) × (n + 8 ≤ length s)
+After nothing tag s n = (after_tag tag nothing s n ≡ ok (label tag 0 0 []) n) × Unit {0}
 After bits tag s n =
-    (afterTag tag bits s n ≡ ok (label tag 0 0 (valueOr [] (namesAt 8 (get_or s n 0) s (n + 1)))) (endOf (namesAt 8 (get_or s n 0) s (n + 1))))
-    × (n < length s) × Good (namesAt 8 (get_or s n 0) s (n + 1))
+    (after_tag tag bits s n ≡ ok (label tag 0 0 (value_or [] (names_at 8 (get_or s n 0) s (n + 1)))) (end_of (names_at 8 (get_or s n 0) s (n + 1))))
+    × (n < length s) × Good (names_at 8 (get_or s n 0) s (n + 1))
 After unknown tag s n = ⊥
 
-after : (f : Follows) (tag : ℕ) (s : List ℕ) (n : ℕ) → Good (afterTag tag f s n) → After f tag s n
-unfolding afterTag Good
+after : (f : Follows) (tag : ℕ) (s : List ℕ) (n : ℕ) → Good (after_tag tag f s n) → After f tag s n
+unfolding after_tag Good
 after (code most) tag s n g =
-    let h = code_is s n 0 most (good-first 0 (codeAt 0 most s n) _ g) in
+    let h = code_is s n 0 most (good_first 0 (code_at 0 most s n) _ g) in
     (then_is _ h.0, h.1, h.3)
-after subByte tag s n g =
-    let h = code_is s n 0 1 (good-first 0 (codeAt 0 1 s n) _ g) in
-    let k = code_is s (n + 1) 1 64 (good-first 0 (codeAt 1 64 s (n + 1)) _ (then-good _ h.0 g)) in
+after sub_byte tag s n g =
+    let h = code_is s n 0 1 (good_first 0 (code_at 0 1 s n) _ g) in
+    let k = code_is s (n + 1) 1 64 (good_first 0 (code_at 1 64 s (n + 1)) _ (then_good _ h.0 g)) in
     (then_is _ h.0 ∙ then_is _ k.0, k.1, h.3, (k.2, k.3))
 after identity tag s n g =
-    let h = number_is s n 4 (good-first 0 (numberAt 4 s n) _ g) in
+    let h = number_is s n 4 (good_first 0 (number_at 4 s n) _ g) in
     (then_is _ h.0, h.1)
 after size tag s n g =
-    let h = number_is s n 8 (good-first 0 (numberAt 8 s n) _ g) in
+    let h = number_is s n 8 (good_first 0 (number_at 8 s n) _ g) in
     (then_is _ h.0, h.1)
 after nothing tag s n g = (refl, tt)
 after bits tag s n g =
-    let h = byte-is s n 8 (good-first 0 (byteAt 8 s n) _ g) in
-    let k = good-first [] (namesAt 8 (get_or s n 0) s (n + 1)) _ (then-good _ h.0 g) in
-    (then_is _ h.0 ∙ then_is _ (good-is [] _ k), h.1, k)
+    let h = byte_is s n 8 (good_first 0 (byte_at 8 s n) _ g) in
+    let k = good_first [] (names_at 8 (get_or s n 0) s (n + 1)) _ (then_good _ h.0 g) in
+    (then_is _ h.0 ∙ then_is _ (good_is [] _ k), h.1, k)
 after unknown tag s n g = g
 
 -- the same label, read at its place in the whole list
-labelAt : List ℕ → ℕ → Parsed Label
-labelAt s at = bind (byteAt 8 s at) (λ tag n. afterTag tag (followsTag tag) s n)
+label_at : List ℕ → ℕ → Parsed Label
+label_at s at = bind (byte_at 8 s at) (λ tag n. after_tag tag (follows_tag tag) s n)
 
 module _ (s : List ℕ) (at : ℕ) (g : LabelHere s at) where
-  pub label-there : at < length s
+  pub label_there : at < length s
   unfolding LabelHere
-  label-there = let h = (label-tag (drop at s) g).there in let e = length-drop at s in omega arith
+  label_there = let h = (label_tag (drop at s) g).there in let e = length-drop at s in omega arith
 
-  moved : Kept at (labelOf (drop at s)) (labelAt s at)
-  unfolding labelOf labelAt
+  moved : Kept at (label_of (drop at s)) (label_at s at)
+  unfolding label_of label_at
   moved =
       let z : at + 0 ≡ at = omega arith in
-      let l = label-there in
-      let p = part-from at s (omega arith) in
-      kept-bind _ _ (rw z at (byte-kept p 8 8 0)) (λ tag n. after_kept p tag (followsTag tag) n)
+      let l = label_there in
+      let p = part_from at s (omega arith) in
+      kept_bind _ _ (rw z at (byte_kept p 8 8 0)) (λ tag n. after_kept p tag (follows_tag tag) n)
 
-  first : Good (labelAt s at)
+  first : Good (label_at s at)
   unfolding LabelHere
-  first = kept-good moved g
+  first = kept_good moved g
 
-  tag_at : labelAt s at ≡ afterTag (get_or s at 0) (followsTag (get_or s at 0)) s (at + 1)
-  unfolding labelAt
-  tag_at = then_is _ (byte-is s at 8 (good-first 0 (byteAt 8 s at) _ first)).0
+  tag_at : label_at s at ≡ after_tag (get_or s at 0) (follows_tag (get_or s at 0)) s (at + 1)
+  unfolding label_at
+  tag_at = then_is _ (byte_is s at 8 (good_first 0 (byte_at 8 s at) _ first)).0
 
-  label-value : labelIn s at ≡ valueOr noLabel (labelAt s at)
-  unfolding LabelHere labelIn
-  label-value = sym (kept-value noLabel moved g)
+  label_value : label_in s at ≡ value_or no_label (label_at s at)
+  unfolding LabelHere label_in
+  label_value = sym (kept_value no_label moved g)
 
-  label-end : labelEnd s at ≡ endOf (labelAt s at)
-  unfolding LabelHere labelEnd
-  label-end = sym (kept-end moved g)
+  label_end_lem : label_end s at ≡ end_of (label_at s at)
+  unfolding LabelHere label_end
+  label_end_lem = sym (kept_end moved g)
 
   -- its tag is the first byte
-  pub label-tag-is : (labelIn s at).tag ≡ get_or s at 0
-  unfolding LabelHere labelIn firstLabel
-  label-tag-is =
+  pub label_tag_is : (label_in s at).tag ≡ get_or s at 0
+  unfolding LabelHere label_in first_label
+  label_tag_is =
       let z : at + 0 ≡ at = omega arith in
-      (label-tag (drop at s) g).tagged ∙ get_or-drop at s 0 0 ∙ ap (λ (i : ℕ). get_or s i 0) z
+      (label_tag (drop at s) g).tagged ∙ get_or-drop at s 0 0 ∙ ap (λ (i : ℕ). get_or s i 0) z
 
   -- by what follows the tag
-  label_after : (f : Follows) → followsTag (get_or s at 0) ≡ f → After f (get_or s at 0) s (at + 1)
+  label_after : (f : Follows) → follows_tag (get_or s at 0) ≡ f → After f (get_or s at 0) s (at + 1)
   label_after f e = after f (get_or s at 0) s (at + 1) (rw (tag_at, e) at first)
 
-  label_is : (f : Follows) → followsTag (get_or s at 0) ≡ f → (l : Label) (n : ℕ) → afterTag (get_or s at 0) f s (at + 1) ≡ ok l n → (labelIn s at ≡ l) × (labelEnd s at ≡ n)
-  unfolding valueOr endOf
+  label_is : (f : Follows) → follows_tag (get_or s at 0) ≡ f → (l : Label) (n : ℕ) → after_tag (get_or s at 0) f s (at + 1) ≡ ok l n → (label_in s at ≡ l) × (label_end s at ≡ n)
+  unfolding value_or end_of
   label_is f e l n q =
-      let r = tag_at ∙ ap (λ (k : Follows). afterTag (get_or s at 0) k s (at + 1)) e ∙ q in
-      (label-value ∙ ap (valueOr noLabel) r, label-end ∙ ap endOf r)
+      let r = tag_at ∙ ap (λ (k : Follows). after_tag (get_or s at 0) k s (at + 1)) e ∙ q in
+      (label_value ∙ ap (value_or no_label) r, label_end_lem ∙ ap end_of r)
 
 -- what a tag has is within its values, and what it has not is 0 or empty
-only-first : (t first : ℕ) → t ≤ 16 → (t ≡ 1 → ⊥) → (t ≡ 0 → first ≤ 13) → (t ≡ 2 → first ≤ 5) → (3 < t → (t ≡ 6 → ⊥) → first ≡ 0) → Regular (label t first 0 [])
-only-first t _ l u p q f = record {
+only_first : (t first : ℕ) → t ≤ 16 → (t ≡ 1 → ⊥) → (t ≡ 0 → first ≤ 13) → (t ≡ 2 → first ≤ 5) → (3 < t → (t ≡ 6 → ⊥) → first ≡ 0) → Regular (label t first 0 [])
+only_first t _ l u p q f = record {
   most = l;
   primitive = p;
   sign = λ z. absurd (u z);
@@ -149,32 +149,32 @@ only-first t _ l u p q f = record {
   names = λ _. refl;
 }
 
-pub label-regular : (s : List ℕ) (at : ℕ) → LabelHere s at → Regular (labelIn s at)
-label-regular s at g = go (tagged (get_or s at 0)) refl refl
+pub label_regular : (s : List ℕ) (at : ℕ) → LabelHere s at → Regular (label_in s at)
+label_regular s at g = go (tagged (get_or s at 0)) refl refl
   where
     tag : ℕ
     tag = get_or s at 0
 
-    by : (f : Follows) {l : Label} {n : ℕ} → followsTag tag ≡ f → afterTag tag f s (at + 1) ≡ ok l n → Regular l → Regular (labelIn s at)
+    by : (f : Follows) {l : Label} {n : ℕ} → follows_tag tag ≡ f → after_tag tag f s (at + 1) ≡ ok l n → Regular l → Regular (label_in s at)
     by f {l} {n} q e d = rw (label_is s at g f q l n e).0 d
 
     -- of a tag that has nothing but a first number, or nothing
     other : (first : ℕ) → 2 < tag → tag ≤ 15 → (3 < tag → (tag ≡ 6 → ⊥) → first ≡ 0) → Regular (label tag first 0 [])
-    other first l m f = only-first tag first (omega arith) (λ z. omega arith) (λ z. absurd (omega arith)) (λ z. absurd (omega arith)) f
+    other first l m f = only_first tag first (omega arith) (λ z. omega arith) (λ z. absurd (omega arith)) (λ z. absurd (omega arith)) f
 
-    go : {t : ℕ} {f : Follows} → Tagged t f → tag ≡ t → followsTag tag ≡ f → Regular (labelIn s at)
+    go : {t : ℕ} {f : Follows} → Tagged t f → tag ≡ t → follows_tag tag ≡ f → Regular (label_in s at)
     go primitive z q =
         let p = label_after s at g (code 13) q in
-        by (code 13) q p.0 (only-first tag _ (omega arith) (λ y. omega arith) (λ _. p.2) (λ y. absurd (omega arith)) (λ a b. absurd (omega arith)))
+        by (code 13) q p.0 (only_first tag _ (omega arith) (λ y. omega arith) (λ _. p.2) (λ y. absurd (omega arith)) (λ a b. absurd (omega arith)))
     go semantic z q =
         let p = label_after s at g (code 5) q in
-        by (code 5) q p.0 (only-first tag _ (omega arith) (λ y. omega arith) (λ y. absurd (omega arith)) (λ _. p.2) (λ a b. absurd (omega arith)))
+        by (code 5) q p.0 (only_first tag _ (omega arith) (λ y. omega arith) (λ y. absurd (omega arith)) (λ _. p.2) (λ a b. absurd (omega arith)))
     go named z q = by identity q (label_after s at g identity q).0 (other _ (omega arith) (omega arith) (λ a b. absurd (omega arith)))
     go fixed z q = by size q (label_after s at g size q).0 (other _ (omega arith) (omega arith) (λ a b. absurd (b z)))
     go (bare n₀ n₁ n₂ n₃ n₆ l) z q = by nothing q (label_after s at g nothing q).0 (other 0 (omega arith) (omega arith) (λ a b. refl))
-    go sub-byte z q =
-        let p = label_after s at g subByte q in
-        by subByte q p.0 (record {
+    go sub_byte_lem z q =
+        let p = label_after s at g sub_byte q in
+        by sub_byte q p.0 (record {
           most = omega arith;
           primitive = λ y. absurd (omega arith);
           sign = λ _. p.2;
@@ -184,7 +184,7 @@ label-regular s at g = go (tagged (get_or s at 0)) refl refl
           second = λ b. absurd (b z);
           names = λ _. refl;
         })
-    go of-bits z q = by bits q (label_after s at g bits q).0 (record {
+    go of_bits_lem z q = by bits q (label_after s at g bits q).0 (record {
       most = omega arith;
       primitive = λ y. absurd (omega arith);
       sign = λ y. absurd (omega arith);
@@ -198,91 +198,91 @@ label-regular s at g = go (tagged (get_or s at 0)) refl refl
 
 -- the parts of a label by its tag
 module _ (s : List ℕ) (at : ℕ) (g : LabelHere s at) where
-  module _ (t : ℕ) (f : Follows) (e : (labelIn s at).tag ≡ t) (q : followsTag t ≡ f) where
-    follows : followsTag (get_or s at 0) ≡ f
-    follows = ap followsTag (sym (label-tag-is s at g) ∙ e) ∙ q
+  module _ (t : ℕ) (f : Follows) (e : (label_in s at).tag ≡ t) (q : follows_tag t ≡ f) where
+    follows : follows_tag (get_or s at 0) ≡ f
+    follows = ap follows_tag (sym (label_tag_is s at g) ∙ e) ∙ q
 
     pub parts : After f (get_or s at 0) s (at + 1)
     parts = label_after s at g f follows
 
-    value : {l : Label} {n : ℕ} → afterTag (get_or s at 0) f s (at + 1) ≡ ok l n → labelIn s at ≡ l
+    value : {l : Label} {n : ℕ} → after_tag (get_or s at 0) f s (at + 1) ≡ ok l n → label_in s at ≡ l
     value {l} {n} r = (label_is s at g f follows l n r).0
 
-  pub code-part : (labelIn s at).tag ≤ 2 → ((labelIn s at).first ≡ get_or s (at + 1) 0) × (at + 1 < length s)
-  unfolding followsTag
-  code-part l = go (labelIn s at).tag l refl
+  pub code_part : (label_in s at).tag ≤ 2 → ((label_in s at).first ≡ get_or s (at + 1) 0) × (at + 1 < length s)
+  unfolding follows_tag
+  code_part l = go (label_in s at).tag l refl
     where
-      go : (t : ℕ) → t ≤ 2 → (labelIn s at).tag ≡ t → ((labelIn s at).first ≡ get_or s (at + 1) 0) × (at + 1 < length s)
+      go : (t : ℕ) → t ≤ 2 → (label_in s at).tag ≡ t → ((label_in s at).first ≡ get_or s (at + 1) 0) × (at + 1 < length s)
       go zero l e = let p = parts 0 (code 13) e refl in (ap (λ (x : Label). x.first) (value 0 (code 13) e refl p.0), p.1)
-      go (suc zero) l e = let p = parts 1 subByte e refl in (ap (λ (x : Label). x.first) (value 1 subByte e refl p.0), (let i = p.1 in omega arith))
+      go (suc zero) l e = let p = parts 1 sub_byte e refl in (ap (λ (x : Label). x.first) (value 1 sub_byte e refl p.0), (let i = p.1 in omega arith))
       go (suc (suc zero)) l e = let p = parts 2 (code 5) e refl in (ap (λ (x : Label). x.first) (value 2 (code 5) e refl p.0), p.1)
       go (suc (suc (suc k))) l e = absurd (omega arith)
 
-  pub width-part : (labelIn s at).tag ≡ 1 → ((labelIn s at).second ≡ get_or s (at + 2) 0) × (at + 2 < length s)
-  unfolding followsTag
-  width-part e =
-      let p = parts 1 subByte e refl in
+  pub width_part : (label_in s at).tag ≡ 1 → ((label_in s at).second ≡ get_or s (at + 2) 0) × (at + 2 < length s)
+  unfolding follows_tag
+  width_part e =
+      let p = parts 1 sub_byte e refl in
       let z : at + 1 + 1 ≡ at + 2 = omega arith in
-      (ap (λ (x : Label). x.second) (value 1 subByte e refl p.0) ∙ ap (λ (i : ℕ). get_or s i 0) z, (let i = p.1 in omega arith))
+      (ap (λ (x : Label). x.second) (value 1 sub_byte e refl p.0) ∙ ap (λ (i : ℕ). get_or s i 0) z, (let i = p.1 in omega arith))
 
-  pub id-part : (labelIn s at).tag ≡ 3 → ((labelIn s at).first ≡ littleEndian 4 (drop (at + 1) s)) × (at + 1 + 4 ≤ length s)
-  unfolding followsTag
-  id-part e = let p = parts 3 identity e refl in (ap (λ (x : Label). x.first) (value 3 identity e refl p.0), p.1)
+  pub id_part : (label_in s at).tag ≡ 3 → ((label_in s at).first ≡ little_endian 4 (drop (at + 1) s)) × (at + 1 + 4 ≤ length s)
+  unfolding follows_tag
+  id_part e = let p = parts 3 identity e refl in (ap (λ (x : Label). x.first) (value 3 identity e refl p.0), p.1)
 
-  pub size-part : (labelIn s at).tag ≡ 6 → ((labelIn s at).first ≡ littleEndian 8 (drop (at + 1) s)) × (at + 1 + 8 ≤ length s)
-  unfolding followsTag
-  size-part e = let p = parts 6 size e refl in (ap (λ (x : Label). x.first) (value 6 size e refl p.0), p.1)
+  pub size_part : (label_in s at).tag ≡ 6 → ((label_in s at).first ≡ little_endian 8 (drop (at + 1) s)) × (at + 1 + 8 ≤ length s)
+  unfolding follows_tag
+  size_part e = let p = parts 6 size e refl in (ap (λ (x : Label). x.first) (value 6 size e refl p.0), p.1)
 
   -- bits: a count and as many names
-  pub count-part : (labelIn s at).tag ≡ 16 → at + 1 < length s
-  unfolding followsTag
-  count-part e = (parts 16 bits e refl).1
+  pub count_part : (label_in s at).tag ≡ 16 → at + 1 < length s
+  unfolding follows_tag
+  count_part e = (parts 16 bits e refl).1
 
-  pub bits-listed : (labelIn s at).tag ≡ 16 → NamesListed s (bitsIn s at) (labelIn s at).names
-  unfolding followsTag NamesHere bitsIn namePlaces nameIn nameEnd namesAt
-  bits-listed e =
+  pub bits_listed : (label_in s at).tag ≡ 16 → NamesListed s (bits_in s at) (label_in s at).names
+  unfolding follows_tag NamesHere bits_in name_places name_in name_end names_at
+  bits_listed e =
       let p = parts 16 bits e refl in
       let z : at + 1 + 1 ≡ at + 2 = omega arith in
       record {
         here = rw z at p.2;
         are = ap (λ (x : Label). x.names) (value 16 bits e refl p.0)
-            ∙ many-places [] (nameAt 8) s _ _ p.2
-            ∙ ap (λ (n : ℕ). map (nameIn s) (namePlaces s (get_or s (at + 1) 0) n)) z;
+            ∙ many_places [] (name_at 8) s _ _ p.2
+            ∙ ap (λ (n : ℕ). map (name_in s) (name_places s (get_or s (at + 1) 0) n)) z;
       }
 
 -- where a label ends, by what follows its tag
 abbrev pub Ended : Follows → List ℕ → ℕ → Type 0
-Ended (code most) s at = (labelEnd s at ≡ at + 2) × (at + 2 ≤ length s)
-Ended subByte s at = (labelEnd s at ≡ at + 3) × (at + 3 ≤ length s)
-Ended identity s at = (labelEnd s at ≡ at + 5) × (at + 5 ≤ length s)
-Ended size s at = (labelEnd s at ≡ at + 9) × (at + 9 ≤ length s)
-Ended nothing s at = (labelEnd s at ≡ at + 1) × (at + 1 ≤ length s)
-Ended bits s at = (labelEnd s at ≡ namesEnd s (get_or s (at + 1) 0) (at + 2)) × (at + 1 < length s) × NamesHere s (get_or s (at + 1) 0) (at + 2)
+Ended (code most) s at = (label_end s at ≡ at + 2) × (at + 2 ≤ length s)
+Ended sub_byte s at = (label_end s at ≡ at + 3) × (at + 3 ≤ length s)
+Ended identity s at = (label_end s at ≡ at + 5) × (at + 5 ≤ length s)
+Ended size s at = (label_end s at ≡ at + 9) × (at + 9 ≤ length s)
+Ended nothing s at = (label_end s at ≡ at + 1) × (at + 1 ≤ length s)
+Ended bits s at = (label_end s at ≡ names_end s (get_or s (at + 1) 0) (at + 2)) × (at + 1 < length s) × NamesHere s (get_or s (at + 1) 0) (at + 2)
 Ended unknown s at = ⊥
 
 module _ (s : List ℕ) (at : ℕ) (g : LabelHere s at) where
-  ends : (f : Follows) → followsTag (get_or s at 0) ≡ f → {l : Label} {n : ℕ} → afterTag (get_or s at 0) f s (at + 1) ≡ ok l n → labelEnd s at ≡ n
+  ends : (f : Follows) → follows_tag (get_or s at 0) ≡ f → {l : Label} {n : ℕ} → after_tag (get_or s at 0) f s (at + 1) ≡ ok l n → label_end s at ≡ n
   ends f q {l} {n} r = (label_is s at g f q l n r).1
 
-  by-follows : (f : Follows) → followsTag (get_or s at 0) ≡ f → Ended f s at
-  unfolding NamesHere namesEnd
-  by-follows (code most) q = let p = label_after s at g (code most) q in let e = ends (code most) q p.0 in let i = p.1 in (omega arith, omega arith)
-  by-follows subByte q = let p = label_after s at g subByte q in let e = ends subByte q p.0 in let i = p.1 in (omega arith, omega arith)
-  by-follows identity q = let p = label_after s at g identity q in let e = ends identity q p.0 in let i = p.1 in (omega arith, omega arith)
-  by-follows size q = let p = label_after s at g size q in let e = ends size q p.0 in let i = p.1 in (omega arith, omega arith)
-  by-follows nothing q = let p = label_after s at g nothing q in let e = ends nothing q p.0 in let i = label-there s at g in (e, omega arith)
-  by-follows bits q =
+  by_follows : (f : Follows) → follows_tag (get_or s at 0) ≡ f → Ended f s at
+  unfolding NamesHere names_end
+  by_follows (code most) q = let p = label_after s at g (code most) q in let e = ends (code most) q p.0 in let i = p.1 in (omega arith, omega arith)
+  by_follows sub_byte q = let p = label_after s at g sub_byte q in let e = ends sub_byte q p.0 in let i = p.1 in (omega arith, omega arith)
+  by_follows identity q = let p = label_after s at g identity q in let e = ends identity q p.0 in let i = p.1 in (omega arith, omega arith)
+  by_follows size q = let p = label_after s at g size q in let e = ends size q p.0 in let i = p.1 in (omega arith, omega arith)
+  by_follows nothing q = let p = label_after s at g nothing q in let e = ends nothing q p.0 in let i = label_there s at g in (e, omega arith)
+  by_follows bits q =
       let p = label_after s at g bits q in
       let z : at + 1 + 1 ≡ at + 2 = omega arith in
-      (ends bits q p.0 ∙ ap (λ (n : ℕ). endOf (namesAt 8 (get_or s (at + 1) 0) s n)) z, p.1, rw z at p.2)
-  by-follows unknown q = label_after s at g unknown q
+      (ends bits q p.0 ∙ ap (λ (n : ℕ). end_of (names_at 8 (get_or s (at + 1) 0) s n)) z, p.1, rw z at p.2)
+  by_follows unknown q = label_after s at g unknown q
 
-  pub ended : (t : ℕ) (f : Follows) → get_or s at 0 ≡ t → followsTag t ≡ f → Ended f s at
-  ended t f e q = by-follows f (ap followsTag e ∙ q)
+  pub ended : (t : ℕ) (f : Follows) → get_or s at 0 ≡ t → follows_tag t ≡ f → Ended f s at
+  ended t f e q = by_follows f (ap follows_tag e ∙ q)
 
-  pub ended-bare : (get_or s at 0 ≡ 0 → ⊥) → (get_or s at 0 ≡ 1 → ⊥) → (get_or s at 0 ≡ 2 → ⊥) → (get_or s at 0 ≡ 3 → ⊥) → (get_or s at 0 ≡ 6 → ⊥) → (get_or s at 0 ≡ 16 → ⊥) → Ended nothing s at
-  ended-bare a b c d e f =
-      let m = (label-regular s at g).most in
-      let t = label-tag-is s at g in
+  pub ended_bare : (get_or s at 0 ≡ 0 → ⊥) → (get_or s at 0 ≡ 1 → ⊥) → (get_or s at 0 ≡ 2 → ⊥) → (get_or s at 0 ≡ 3 → ⊥) → (get_or s at 0 ≡ 6 → ⊥) → (get_or s at 0 ≡ 16 → ⊥) → Ended nothing s at
+  ended_bare a b c d e f =
+      let m = (label_regular s at g).most in
+      let t = label_tag_is s at g in
       let z : get_or s at 0 < 16 = omega arith in
-      by-follows nothing (follows_nothing (get_or s at 0) a b c d e f (omega arith))
+      by_follows nothing (follows_nothing (get_or s at 0) a b c d e f (omega arith))

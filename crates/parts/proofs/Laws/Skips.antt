@@ -4,83 +4,83 @@ use mathlib.Core.List.{List, [], ◌∷◌}
 use Prim.Native.Nat.{ℕ, zero, suc, ◌+◌, ◌-◌, ◌≤◌, ◌<◌}
 use native.Mathlib.Omega.{arith}
 use lib.ListN.{length, get_or, drop}
-use Rattle.image.specs.Schema.{Label, Ty, one, two, noType}
+use Rattle.image.specs.Schema.{Label, Ty, one, two, no_type}
 use Rattle.image.specs.Parse.{Parsed, ok, no, bind, shift, within, many}
-use Rattle.image.specs.Names.{nameAt, namesAt}
-use Rattle.image.specs.Types.{Follows, code, subByte, identity, size, nothing, bits, unknown, followsTag, innerTypes, afterTag, labelOf, innerAt, typeOf, typeAt}
-use Rattle.image.specs.WellFormed.{Good, endOf}
-use Rattle.image.specs.WellFormed.{labelIn as firstLabel}
+use Rattle.image.specs.Names.{name_at, names_at}
+use Rattle.image.specs.Types.{Follows, code, sub_byte, identity, size, nothing, bits, unknown, follows_tag, inner_types, after_tag, label_of, inner_at, type_of, type_at}
+use Rattle.image.specs.WellFormed.{Good, end_of}
+use Rattle.image.specs.WellFormed.{label_in as first_label}
 use Rattle.image.specs.Reads.{skip}
 use Rattle.image.proofs.Laws.Answers.{apart}
-use Rattle.image.proofs.Laws.Sure.{Sure, sure-ok, sure-no, sure-bind, sure-then, byte-sure, code-sure, number-sure, name-sure}
-use Rattle.image.proofs.Laws.Types.{inner-most}
-use Rattle.image.proofs.Laws.Good.{sure-good, good-first, bind_is, many-first, many-rest, many-end}
-use Rattle.parts.specs.Promise.{noLabel, NameHere, nameEnd, NamesHere, namesEnd, LabelHere, labelIn, labelEnd, TypeHere, typeEnd}
-use Rattle.parts.proofs.Laws.Kept.{kept-good, kept-end, part-from, many-kept, within-kept, type-kept}
-use Rattle.parts.proofs.Laws.Places.{many-none, many-make, many-append, many-turn, many-done}
-use Rattle.parts.proofs.Laws.Labels.{label-there, label-tag-is}
-use Rattle.parts.proofs.Laws.Trees.{type-label}
-use Rattle.parts.proofs.Laws.Items.{type-here, type-at-is}
+use Rattle.image.proofs.Laws.Sure.{Sure, sure_ok, sure_no, sure_bind, sure_then, byte_sure, code_sure, number_sure, name_sure}
+use Rattle.image.proofs.Laws.Types.{inner_most}
+use Rattle.image.proofs.Laws.Good.{sure_good, good_first, bind_is, many_first, many_rest, many_end}
+use Rattle.parts.specs.Promise.{no_label, NameHere, name_end, NamesHere, names_end, LabelHere, label_in, label_end, TypeHere, type_end}
+use Rattle.parts.proofs.Laws.Kept.{kept_good, kept_end, part_from, many_kept, within_kept, type_kept}
+use Rattle.parts.proofs.Laws.Places.{many_none, many_make, many_append, many_turn, many_done}
+use Rattle.parts.proofs.Laws.Labels.{label_there, label_tag_is}
+use Rattle.parts.proofs.Laws.Trees.{type_label}
+use Rattle.parts.proofs.Laws.Items.{type_here, type_at_is}
 
 -- so many names
 module _ (s : List ℕ) (c at : ℕ) where
-  pub names-done : c ≤ 0 → namesEnd s c at ≡ at
-  unfolding namesEnd namesAt
-  names-done l = many-done [] (nameAt 8) s c at l
+  pub names_done : c ≤ 0 → names_end s c at ≡ at
+  unfolding names_end names_at
+  names_done l = many_done [] (name_at 8) s c at l
 
   module _ (l : 0 < c) (g : NamesHere s c at) where
-    pub names-first : NameHere s at
-    unfolding NamesHere NameHere namesAt
-    names-first = many-first [] (nameAt 8) c s at l g
+    pub names_first : NameHere s at
+    unfolding NamesHere NameHere names_at
+    names_first = many_first [] (name_at 8) c s at l g
 
-    pub names-rest : NamesHere s (c - 1) (nameEnd s at)
-    unfolding NamesHere nameEnd namesAt
-    names-rest = many-rest [] (nameAt 8) c s at l g
+    pub names_rest : NamesHere s (c - 1) (name_end s at)
+    unfolding NamesHere name_end names_at
+    names_rest = many_rest [] (name_at 8) c s at l g
 
-    pub names-turn : (n : ℕ) → n ≡ nameEnd s at → NamesHere s (c - 1) n × (namesEnd s (c - 1) n ≡ namesEnd s c at)
-    unfolding NamesHere nameEnd namesEnd namesAt
-    names-turn n e = many-turn [] (nameAt 8) s c at n l g e
+    pub names_turn : (n : ℕ) → n ≡ name_end s at → NamesHere s (c - 1) n × (names_end s (c - 1) n ≡ names_end s c at)
+    unfolding NamesHere name_end names_end names_at
+    names_turn n e = many_turn [] (name_at 8) s c at n l g e
 
 -- reads go forward
-many-forward : {A : Type 0} (p : List ℕ → ℕ → Parsed A) (s : List ℕ) → ((at : ℕ) → Sure (λ _ n. at ≤ n) (p s at)) → (c at : ℕ) → Sure (λ _ n. at ≤ n) (many p c s at)
+many_forward : {A : Type 0} (p : List ℕ → ℕ → Parsed A) (s : List ℕ) → ((at : ℕ) → Sure (λ _ n. at ≤ n) (p s at)) → (c at : ℕ) → Sure (λ _ n. at ≤ n) (many p c s at)
 unfolding many
-many-forward p s q zero at = let l : at ≤ at = omega arith in sure-ok l
-many-forward p s q (suc c) at = sure-bind _ (q at) (λ x n i. sure-bind _ (many-forward p s q c n) (λ xs m j. sure-ok (omega arith)))
+many_forward p s q zero at = let l : at ≤ at = omega arith in sure_ok l
+many_forward p s q (suc c) at = sure_bind _ (q at) (λ x n i. sure_bind _ (many_forward p s q c n) (λ xs m j. sure_ok (omega arith)))
 
-name-forward : (s : List ℕ) (at : ℕ) → Sure (λ _ n. at ≤ n) (nameAt 8 s at)
-name-forward s at = sure-then (name-sure 8 s at) (λ x n q. let e = q.next in omega arith)
+name_forward : (s : List ℕ) (at : ℕ) → Sure (λ _ n. at ≤ n) (name_at 8 s at)
+name_forward s at = sure_then (name_sure 8 s at) (λ x n q. let e = q.next in omega arith)
 
-after-forward : (tag : ℕ) (f : Follows) (s : List ℕ) (at : ℕ) → Sure (λ _ n. at ≤ n) (afterTag tag f s at)
-unfolding afterTag namesAt
-after-forward tag (code hi) s at = sure-bind _ (code-sure 0 hi s at) (λ a n q. sure-ok (let e = q.byte.next in omega arith))
-after-forward tag subByte s at =
-    sure-bind _ (code-sure 0 1 s at) (λ a n q. sure-bind _ (code-sure 1 64 s n) (λ b m r. sure-ok (let e = q.byte.next in let d = r.byte.next in omega arith)))
-after-forward tag identity s at = sure-bind _ (number-sure 4 s at) (λ a n q. sure-ok (let e = q.next in omega arith))
-after-forward tag size s at = sure-bind _ (number-sure 8 s at) (λ a n q. sure-ok (let e = q.next in omega arith))
-after-forward tag nothing s at = let l : at ≤ at = omega arith in sure-ok l
-after-forward tag bits s at =
-    sure-bind _ (byte-sure 8 s at) (λ k n q. sure-bind _ (many-forward (nameAt 8) s (name-forward s) k n) (λ xs m r. sure-ok (let e = q.next in omega arith)))
-after-forward tag unknown s at = sure-no
+after_forward : (tag : ℕ) (f : Follows) (s : List ℕ) (at : ℕ) → Sure (λ _ n. at ≤ n) (after_tag tag f s at)
+unfolding after_tag names_at
+after_forward tag (code hi) s at = sure_bind _ (code_sure 0 hi s at) (λ a n q. sure_ok (let e = q.byte.next in omega arith))
+after_forward tag sub_byte s at =
+    sure_bind _ (code_sure 0 1 s at) (λ a n q. sure_bind _ (code_sure 1 64 s n) (λ b m r. sure_ok (let e = q.byte.next in let d = r.byte.next in omega arith)))
+after_forward tag identity s at = sure_bind _ (number_sure 4 s at) (λ a n q. sure_ok (let e = q.next in omega arith))
+after_forward tag size s at = sure_bind _ (number_sure 8 s at) (λ a n q. sure_ok (let e = q.next in omega arith))
+after_forward tag nothing s at = let l : at ≤ at = omega arith in sure_ok l
+after_forward tag bits s at =
+    sure_bind _ (byte_sure 8 s at) (λ k n q. sure_bind _ (many_forward (name_at 8) s (name_forward s) k n) (λ xs m r. sure_ok (let e = q.next in omega arith)))
+after_forward tag unknown s at = sure_no
 
-label-forward : (s : List ℕ) → Sure (λ _ n. 1 ≤ n) (labelOf s)
-unfolding labelOf
-label-forward s = sure-bind _ (byte-sure 8 s 0) (λ t n q. sure-then (after-forward t (followsTag t) s n) (λ l m r. let e = q.next in omega arith))
+label_forward : (s : List ℕ) → Sure (λ _ n. 1 ≤ n) (label_of s)
+unfolding label_of
+label_forward s = sure_bind _ (byte_sure 8 s 0) (λ t n q. sure_then (after_forward t (follows_tag t) s n) (λ l m r. let e = q.next in omega arith))
 
-pub label-longer : (s : List ℕ) (at : ℕ) → LabelHere s at → at < labelEnd s at
-unfolding LabelHere labelEnd
-label-longer s at g = let h = sure-good noLabel (label-forward (drop at s)) g in omega arith
+pub label_longer : (s : List ℕ) (at : ℕ) → LabelHere s at → at < label_end s at
+unfolding LabelHere label_end
+label_longer s at g = let h = sure_good no_label (label_forward (drop at s)) g in omega arith
 
-good-within : (p : List ℕ → Parsed Ty) (s : List ℕ) (at : ℕ) → Good (p (drop at s)) → Good (within p s at)
+good_within : (p : List ℕ → Parsed Ty) (s : List ℕ) (at : ℕ) → Good (p (drop at s)) → Good (within p s at)
 unfolding within shift Good
-good-within p s at g = go (p (drop at s)) g
+good_within p s at g = go (p (drop at s)) g
   where
     go : (q : Parsed Ty) → Good q → Good (shift at q)
     go (ok a n) g = tt
     go (no k) g = g
 
 -- answers that end at one place
-same_end : {A B : Type 0} (p : Parsed A) (q : Parsed B) → skip p ≡ skip q → Good p → Good q × (endOf q ≡ endOf p)
-unfolding skip Good endOf
+same_end : {A B : Type 0} (p : Parsed A) (q : Parsed B) → skip p ≡ skip q → Good p → Good q × (end_of q ≡ end_of p)
+unfolding skip Good end_of
 same_end (ok a n) (ok b m) e g = (tt, (let d : m ≡ n = cc in d))
 same_end (ok a n) (no k) e g = apart e
 same_end (no k) q e g = absurd g
@@ -91,80 +91,80 @@ unfolding skip bind
 one_type l (ok t n) = refl
 one_type l (no k) = refl
 
-two-types : (l : Label) (r : ℕ → Parsed Ty) (q : Parsed Ty)
+two_types : (l : Label) (r : ℕ → Parsed Ty) (q : Parsed Ty)
     → skip (bind q (λ t n. bind (r n) (λ u m. ok (two l t u) m)))
     ≡ skip (bind q (λ t n. bind (bind (r n) (λ u m. bind (ok [] m) (λ us k. ok (u ∷ us) k))) (λ ts m. ok (t ∷ ts) m)))
 unfolding skip bind
-two-types l r (ok t n) = go (r n)
+two_types l r (ok t n) = go (r n)
   where
     go : (q : Parsed Ty) → skip (bind q (λ u m. ok (two l t u) m)) ≡ skip (bind (bind q (λ u m. bind (ok [] m) (λ us k. ok (u ∷ us) k))) (λ ts m. ok (t ∷ ts) m))
     go (ok u m) = refl
     go (no k) = refl
-two-types l r (no k) = refl
+two_types l r (no k) = refl
 
-inner-ends : (i : ℕ) → i ≤ 2 → (l : Label) (p : List ℕ → Parsed Ty) (s : List ℕ) (at : ℕ) → skip (innerAt i l p s at) ≡ skip (many (within p) i s at)
-unfolding innerAt many skip
-inner-ends zero h l p s at = refl
-inner-ends (suc zero) h l p s at = one_type l (within p s at)
-inner-ends (suc (suc zero)) h l p s at = two-types l (within p s) (within p s at)
-inner-ends (suc (suc (suc k))) h l p s at = absurd (omega arith)
+inner_ends : (i : ℕ) → i ≤ 2 → (l : Label) (p : List ℕ → Parsed Ty) (s : List ℕ) (at : ℕ) → skip (inner_at i l p s at) ≡ skip (many (within p) i s at)
+unfolding inner_at many skip
+inner_ends zero h l p s at = refl
+inner_ends (suc zero) h l p s at = one_type l (within p s at)
+inner_ends (suc (suc zero)) h l p s at = two_types l (within p s) (within p s at)
+inner_ends (suc (suc (suc k))) h l p s at = absurd (omega arith)
 
-node_of : (d : ℕ) (t : List ℕ) → Good (typeOf (suc d) t)
-    → typeOf (suc d) t ≡ innerAt (innerTypes (firstLabel t).tag) (firstLabel t) (typeOf d) t (endOf (labelOf t))
-unfolding typeOf firstLabel
-node_of d t g = bind_is noLabel (labelOf t) _ (good-first noLabel (labelOf t) _ g)
+node_of : (d : ℕ) (t : List ℕ) → Good (type_of (suc d) t)
+    → type_of (suc d) t ≡ inner_at (inner_types (first_label t).tag) (first_label t) (type_of d) t (end_of (label_of t))
+unfolding type_of first_label
+node_of d t g = bind_is no_label (label_of t) _ (good_first no_label (label_of t) _ g)
 
 -- the inner types of a part's node, in the part and in the list that it is the end of
-module _ (d : ℕ) (t : List ℕ) (g : Good (typeOf (suc d) t)) where
+module _ (d : ℕ) (t : List ℕ) (g : Good (type_of (suc d) t)) where
   abbrev count : ℕ
-  count = innerTypes (firstLabel t).tag
+  count = inner_types (first_label t).tag
 
-  inner-part : Good (many (within (typeOf d)) count t (endOf (labelOf t))) × (endOf (many (within (typeOf d)) count t (endOf (labelOf t))) ≡ endOf (typeOf (suc d) t))
-  inner-part =
+  inner_part : Good (many (within (type_of d)) count t (end_of (label_of t))) × (end_of (many (within (type_of d)) count t (end_of (label_of t))) ≡ end_of (type_of (suc d) t))
+  inner_part =
       let e = node_of d t g in
-      let r = same_end _ _ (inner-ends count (inner-most _) (firstLabel t) (typeOf d) t (endOf (labelOf t))) (rw e at g) in
-      (r.0, r.1 ∙ ap endOf (sym e))
+      let r = same_end _ _ (inner_ends count (inner_most _) (first_label t) (type_of d) t (end_of (label_of t))) (rw e at g) in
+      (r.0, r.1 ∙ ap end_of (sym e))
 
 module _ (s : List ℕ) (at : ℕ) (h : TypeHere 32 s at) (l : at ≤ length s) where
-  pub node-inner : Good (many typeAt (innerTypes (labelIn s at).tag) s (labelEnd s at)) × (endOf (many typeAt (innerTypes (labelIn s at).tag) s (labelEnd s at)) ≡ typeEnd s at)
-  unfolding labelIn firstLabel labelEnd typeEnd typeAt
-  node-inner =
-      let r = inner-part 31 (drop at s) h.good in
-      let k = many-kept (within (typeOf 31)) (within (typeOf 32)) (within-kept (typeOf 31) (typeOf 32) (type-kept 31 32 (omega arith)) (part-from at s l)) (count 31 (drop at s) h.good) (endOf (labelOf (drop at s))) in
-      (kept-good k r.0, kept-end k r.0 ∙ ap (λ (n : ℕ). at + n) r.1)
+  pub node_inner : Good (many type_at (inner_types (label_in s at).tag) s (label_end s at)) × (end_of (many type_at (inner_types (label_in s at).tag) s (label_end s at)) ≡ type_end s at)
+  unfolding label_in first_label label_end type_end type_at
+  node_inner =
+      let r = inner_part 31 (drop at s) h.good in
+      let k = many_kept (within (type_of 31)) (within (type_of 32)) (within_kept (type_of 31) (type_of 32) (type_kept 31 32 (omega arith)) (part_from at s l)) (count 31 (drop at s) h.good) (end_of (label_of (drop at s))) in
+      (kept_good k r.0, kept_end k r.0 ∙ ap (λ (n : ℕ). at + n) r.1)
 
 -- so many types, of which the first is replaced by its inner types
-pub types-start : (s : List ℕ) (at : ℕ) → TypeHere 32 s at → Good (many typeAt 1 s at) × (endOf (many typeAt 1 s at) ≡ typeEnd s at)
-unfolding endOf Good typeAt
-types-start s at h =
-    let g = good-within (typeOf 32) s at h.good in
-    let e = ap endOf (type-at-is s at g) in
-    let n = many-none noType typeAt s (endOf (typeAt s at)) in
-    let r = many-make noType typeAt s 0 at g (rw n tt) in
-    (r.0, r.1 ∙ ap endOf n ∙ e)
+pub types_start : (s : List ℕ) (at : ℕ) → TypeHere 32 s at → Good (many type_at 1 s at) × (end_of (many type_at 1 s at) ≡ type_end s at)
+unfolding end_of Good type_at
+types_start s at h =
+    let g = good_within (type_of 32) s at h.good in
+    let e = ap end_of (type_at_is s at g) in
+    let n = many_none no_type type_at s (end_of (type_at s at)) in
+    let r = many_make no_type type_at s 0 at g (rw n tt) in
+    (r.0, r.1 ∙ ap end_of n ∙ e)
 
-pub types-done : (s : List ℕ) (c at : ℕ) → c ≤ 0 → endOf (many typeAt c s at) ≡ at
-types-done s c at l = many-done noType typeAt s c at l
+pub types_done : (s : List ℕ) (c at : ℕ) → c ≤ 0 → end_of (many type_at c s at) ≡ at
+types_done s c at l = many_done no_type type_at s c at l
 
-module _ (s : List ℕ) (c at : ℕ) (l : 0 < c) (g : Good (many typeAt c s at)) where
-  first : Good (typeAt s at)
-  first = many-first noType typeAt c s at l g
+module _ (s : List ℕ) (c at : ℕ) (l : 0 < c) (g : Good (many type_at c s at)) where
+  first : Good (type_at s at)
+  first = many_first no_type type_at c s at l g
 
-  types-first : TypeHere 32 s at
-  types-first = type-here s at first
+  types_first : TypeHere 32 s at
+  types_first = type_here s at first
 
-  pub types-label : LabelHere s at
-  types-label = type-label s at 32 types-first
+  pub types_label : LabelHere s at
+  types_label = type_label s at 32 types_first
 
-  pub types-turn : (i n : ℕ) → i ≡ innerTypes (get_or s at 0) → n ≡ labelEnd s at
-      → Good (many typeAt (c - 1 + i) s n) × (endOf (many typeAt (c - 1 + i) s n) ≡ endOf (many typeAt c s at))
-  unfolding endOf
-  types-turn i n q k =
-      let j = innerTypes (labelIn s at).tag in
-      let y : i ≡ j = q ∙ ap innerTypes (sym (label-tag-is s at types-label)) in
+  pub types_turn : (i n : ℕ) → i ≡ inner_types (get_or s at 0) → n ≡ label_end s at
+      → Good (many type_at (c - 1 + i) s n) × (end_of (many type_at (c - 1 + i) s n) ≡ end_of (many type_at c s at))
+  unfolding end_of
+  types_turn i n q k =
+      let j = inner_types (label_in s at).tag in
+      let y : i ≡ j = q ∙ ap inner_types (sym (label_tag_is s at types_label)) in
       let z : c - 1 + i ≡ j + (c - 1) = omega arith in
-      let t = label-there s at types-label in
-      let r = node-inner s at types-first (omega arith) in
-      let e : endOf (typeAt s at) ≡ endOf (many typeAt j s (labelEnd s at)) = ap endOf (type-at-is s at first) ∙ sym r.1 in
-      let o = many-append noType typeAt s j (c - 1) (labelEnd s at) r.0 (rw e at (many-rest noType typeAt c s at l g)) in
-      rw (k, z) (o.0, o.1 ∙ ap (λ (m : ℕ). endOf (many typeAt (c - 1) s m)) (sym e) ∙ sym (many-end noType typeAt c s at l g))
+      let t = label_there s at types_label in
+      let r = node_inner s at types_first (omega arith) in
+      let e : end_of (type_at s at) ≡ end_of (many type_at j s (label_end s at)) = ap end_of (type_at_is s at first) ∙ sym r.1 in
+      let o = many_append no_type type_at s j (c - 1) (label_end s at) r.0 (rw e at (many_rest no_type type_at c s at l g)) in
+      rw (k, z) (o.0, o.1 ∙ ap (λ (m : ℕ). end_of (many type_at (c - 1) s m)) (sym e) ∙ sym (many_end no_type type_at c s at l g))

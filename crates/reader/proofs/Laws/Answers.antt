@@ -8,14 +8,14 @@ use Rattle.image.specs.Reads.{skip, refusal}
 use Rattle.image.specs.declared.Read.{Read}
 use Rattle.image.specs.declared.Read.TheVariants.{At, Refused}
 use Rattle.image.proofs.Laws.Answers.{apart}
-use Rattle.reader.specs.Answer.{refusalOf, acceptance, Answers}
+use Rattle.reader.specs.Answer.{refusal_of, acceptance, Answers}
 use Rattle.reader.specs.declared.Acceptance.{Acceptance}
 use Rattle.reader.specs.declared.Acceptance.TheVariants.{Accepted, Rejected}
 
 -- what is made of a position or a refusal, and what a caller learns from it
 module _ {A : Type 0} (p : Parsed A) where
   pub accepted : {x : Read} {n : ℕ} → x ≡ At n → x ≡ skip p → Answers p Accepted
-  unfolding skip refusal refusalOf acceptance
+  unfolding skip refusal refusal_of acceptance
   accepted {x} h e = go p e
     where
       go : (p : Parsed A) → x ≡ skip p → Answers p Accepted
@@ -23,7 +23,7 @@ module _ {A : Type 0} (p : Parsed A) where
       go (no k) e = apart (sym h ∙ e)
 
   pub rejected : {x : Read} {k : ℕ} → x ≡ Refused k → x ≡ skip p → Answers p (Rejected k)
-  unfolding skip refusal refusalOf acceptance
+  unfolding skip refusal refusal_of acceptance
   rejected {x} {k} h e = go p e
     where
       go : (p : Parsed A) → x ≡ skip p → Answers p (Rejected k)
@@ -32,17 +32,17 @@ module _ {A : Type 0} (p : Parsed A) where
           let d : k ≡ j = cc in
           record { number = d; is = ap Rejected d }
 
-  pub accepted-good : {r : Acceptance} → r ≡ Accepted → Answers p r → Good p
+  pub accepted_good : {r : Acceptance} → r ≡ Accepted → Answers p r → Good p
   unfolding acceptance Good
-  accepted-good {r} h a = go p a.is
+  accepted_good {r} h a = go p a.is
     where
       go : (p : Parsed A) → r ≡ acceptance p → Good p
       go (ok a n) e = tt
       go (no k) e = absurd (let z : ◌≡◌ {A = ℕ} 0 1 = cc in omega arith)
 
-  pub rejected-no : {r : Acceptance} {k : ℕ} → r ≡ Rejected k → Answers p r → p ≡ no k
+  pub rejected_no : {r : Acceptance} {k : ℕ} → r ≡ Rejected k → Answers p r → p ≡ no k
   unfolding acceptance
-  rejected-no {r} {k} h a = go p a.is
+  rejected_no {r} {k} h a = go p a.is
     where
       go : (p : Parsed A) → r ≡ acceptance p → p ≡ no k
       go (ok a n) e = absurd (let z : ◌≡◌ {A = ℕ} 0 1 = cc in omega arith)

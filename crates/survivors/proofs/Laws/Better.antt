@@ -7,23 +7,23 @@ use Rattle.maps.specs.Walk.{past, nearer, better}
 module _ {K E : Type 0} (key : E → K) (lt : K → K → Bool) (b : Option K) (best : Option E) (e : E) where
   -- t: it is past the bound
   module _ {t : Bool} (p : t ≡ past lt b (key e)) where
-    pub nearer-first : best ≡ none → t ≡ nearer key lt b best e
+    pub nearer_first : best ≡ none → t ≡ nearer key lt b best e
     unfolding nearer
-    nearer-first f = rw f p
+    nearer_first f = rw f p
 
-    pub nearer-past : {a : E} → best ≡ some a → lt (key a) (key e) ≡ false → t ≡ nearer key lt b best e
+    pub nearer_past : {a : E} → best ≡ some a → lt (key a) (key e) ≡ false → t ≡ nearer key lt b best e
     unfolding nearer
-    nearer-past f w = rw (f, w) p
+    nearer_past f w = rw (f, w) p
 
-  pub nearer-before : {a : E} → best ≡ some a → lt (key a) (key e) ≡ true → false ≡ nearer key lt b best e
+  pub nearer_before : {a : E} → best ≡ some a → lt (key a) (key e) ≡ true → false ≡ nearer key lt b best e
   unfolding nearer
-  nearer-before f w = rw (f, w)
+  nearer_before f w = rw (f, w)
 
   module _ {t : Bool} (p : t ≡ nearer key lt b best e) where
-    pub better-taken : t ≡ true → some e ≡ better key lt b best e
+    pub better_taken : t ≡ true → some e ≡ better key lt b best e
     unfolding better
-    better-taken q = rw (← p, q)
+    better_taken q = rw (← p, q)
 
-    pub better-left : t ≡ false → best ≡ better key lt b best e
+    pub better_left : t ≡ false → best ≡ better key lt b best e
     unfolding better
-    better-left q = rw (← p, q)
+    better_left q = rw (← p, q)

@@ -2,7 +2,7 @@ use Rattle.std.proofs.Common.{ℕ, List, ◌+◌, ap, sym, ◌∙◌, add-one, a
 use native.Mathlib.Nat.{le_antisymm}
 use Rattle.std.proofs.Math.ListN.{set, get_or, length-set}
 use Rattle.std.proofs.Math.Seq.{paste, paste-suc}
-use Rattle.text.proofs.Writing.{paste-put}
+use Rattle.text.proofs.Writing.{paste_put}
 use Rattle.text.proofs.copy.Goals as goal
 
 pub loop-j-preserved : goal.loop-j-preserved
@@ -19,4 +19,4 @@ loop-j-preserved c =
 
 pub returns : goal.returns
 returns c =
-    c.loop-j.invariant.pasted ∙ ap (paste c.args.out.now c.args.at c.args.s.now) (le_antisymm c.loop-j.invariant.within c.loop-j-test.false) ∙ paste-put _ _ _
+    c.loop-j.invariant.pasted ∙ ap (paste c.args.out.now c.args.at c.args.s.now) (le_antisymm c.loop-j.invariant.within c.loop-j-test.false) ∙ paste_put _ _ _

@@ -2,67 +2,67 @@
 use mathlib.Core.Path.{◌≡◌, refl, sym, ap, ◌∙◌}
 use mathlib.Core.Bool.{Bool, true, false, ◌&&◌, ◌||◌, false≢true}
 use Rattle.image.specs.Schema.{Label, Ty, leaf, one, two}
-use Rattle.rules.specs.Types.{vector, sameLabel, sameTree, holdsVector}
-use Rattle.rules.specs.Mended.{Likeness, equal, alike, different, equalTrees, likenessBy, likeness, readAs}
+use Rattle.rules.specs.Types.{vector, same_label, same_tree, holds_vector}
+use Rattle.rules.specs.Mended.{Likeness, equal, alike, different, equal_trees, likeness_by, likeness, read_as}
 use Rattle.types.specs.Likeness.{joint}
 
 -- ---- parts together
 
-pub joint-different : (a : Likeness) → joint a different ≡ different
+pub joint_different : (a : Likeness) → joint a different ≡ different
 unfolding joint
-joint-different equal = refl
-joint-different alike = refl
-joint-different different = refl
+joint_different equal = refl
+joint_different alike = refl
+joint_different different = refl
 
 -- what goes on is not different
-pub goes_on : {a : Likeness} → readAs true a ≡ true → a ≡ different → ⊥
-unfolding readAs
-goes_on r e = false≢true (sym (ap (readAs true) e) ∙ r)
+pub goes_on : {a : Likeness} → read_as true a ≡ true → a ≡ different → ⊥
+unfolding read_as
+goes_on r e = false≢true (sym (ap (read_as true) e) ∙ r)
 
-pub ends_there : (a : Likeness) → readAs true a ≡ false → a ≡ different
-unfolding readAs
+pub ends_there : (a : Likeness) → read_as true a ≡ false → a ≡ different
+unfolding read_as
 ends_there equal r = absurd (false≢true (sym r))
 ends_there alike r = absurd (false≢true (sym r))
 ends_there different r = refl
 
-joint-assoc : (a b c : Likeness) → joint a (joint b c) ≡ joint (joint a b) c
+joint_assoc : (a b c : Likeness) → joint a (joint b c) ≡ joint (joint a b) c
 unfolding joint
-joint-assoc equal b c = refl
-joint-assoc alike equal c = refl
-joint-assoc alike alike equal = refl
-joint-assoc alike alike alike = refl
-joint-assoc alike alike different = refl
-joint-assoc alike different c = refl
-joint-assoc different b c = refl
+joint_assoc equal b c = refl
+joint_assoc alike equal c = refl
+joint_assoc alike alike equal = refl
+joint_assoc alike alike alike = refl
+joint_assoc alike alike different = refl
+joint_assoc alike different c = refl
+joint_assoc different b c = refl
 
 -- trees are equal if their parts are, and a vector occurs if it occurs in one of them
-joint-by : (a p b q : Bool) → likenessBy (a && b) (p || q) ≡ joint (likenessBy a p) (likenessBy b q)
-unfolding likenessBy joint
-joint-by false p b q = refl
-joint-by true false b q = refl
-joint-by true true true true = refl
-joint-by true true true false = refl
-joint-by true true false q = refl
+joint_by : (a p b q : Bool) → likeness_by (a && b) (p || q) ≡ joint (likeness_by a p) (likeness_by b q)
+unfolding likeness_by joint
+joint_by false p b q = refl
+joint_by true false b q = refl
+joint_by true true true true = refl
+joint_by true true true false = refl
+joint_by true true false q = refl
 
 -- ---- two trees
 
 -- two labels
-unfoldable pub labelLikeness : Label → Label → Likeness
-labelLikeness l m = likenessBy (sameLabel l m) (vector l.tag)
+unfoldable pub label_likeness : Label → Label → Likeness
+label_likeness l m = likeness_by (same_label l m) (vector l.tag)
 
 module _ (l m : Label) where
-  pub leaf-likeness : likeness (leaf l) (leaf m) ≡ labelLikeness l m
-  unfolding labelLikeness likeness equalTrees sameTree holdsVector
-  leaf-likeness = refl
+  pub leaf_likeness : likeness (leaf l) (leaf m) ≡ label_likeness l m
+  unfolding label_likeness likeness equal_trees same_tree holds_vector
+  leaf_likeness = refl
 
   module _ (t u : Ty) where
-    pub one-likeness : likeness (one l t) (one m u) ≡ joint (labelLikeness l m) (likeness t u)
-    unfolding labelLikeness likeness equalTrees sameTree holdsVector
-    one-likeness = joint-by (sameLabel l m) (vector l.tag) (equalTrees t u) (holdsVector t)
+    pub one_likeness : likeness (one l t) (one m u) ≡ joint (label_likeness l m) (likeness t u)
+    unfolding label_likeness likeness equal_trees same_tree holds_vector
+    one_likeness = joint_by (same_label l m) (vector l.tag) (equal_trees t u) (holds_vector t)
 
-    pub two-likeness : (w v : Ty) → likeness (two l t w) (two m u v) ≡ joint (joint (labelLikeness l m) (likeness t u)) (likeness w v)
-    unfolding labelLikeness likeness equalTrees sameTree holdsVector
-    two-likeness w v =
-        joint-by (sameLabel l m) (vector l.tag) (equalTrees t u && equalTrees w v) (holdsVector t || holdsVector w)
-        ∙ ap (joint (labelLikeness l m)) (joint-by (equalTrees t u) (holdsVector t) (equalTrees w v) (holdsVector w))
-        ∙ joint-assoc (labelLikeness l m) (likeness t u) (likeness w v)
+    pub two_likeness : (w v : Ty) → likeness (two l t w) (two m u v) ≡ joint (joint (label_likeness l m) (likeness t u)) (likeness w v)
+    unfolding label_likeness likeness equal_trees same_tree holds_vector
+    two_likeness w v =
+        joint_by (same_label l m) (vector l.tag) (equal_trees t u && equal_trees w v) (holds_vector t || holds_vector w)
+        ∙ ap (joint (label_likeness l m)) (joint_by (equal_trees t u) (holds_vector t) (equal_trees w v) (holds_vector w))
+        ∙ joint_assoc (label_likeness l m) (likeness t u) (likeness w v)

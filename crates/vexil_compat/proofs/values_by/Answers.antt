@@ -1,6 +1,6 @@
 -- The values are those of one verdict.
-use Rattle.vexil_compat.proofs.Values.{verdict-valued}
+use Rattle.vexil_compat.proofs.Values.{verdict_valued}
 use Rattle.vexil_compat.proofs.values_by.Goals as goal
 
 pub returns : goal.returns
-returns c = verdict-valued _ _ _ c.verdict-v.ensures c.args.values.now c.put_values.ensures
+returns c = verdict_valued _ _ _ c.verdict-v.ensures c.args.values.now c.put_values.ensures

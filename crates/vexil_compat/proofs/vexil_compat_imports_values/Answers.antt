@@ -1,6 +1,6 @@
-use Rattle.compat.specs.Policies.{policyOf}
+use Rattle.compat.specs.Policies.{policy_of}
 use Rattle.vexil_compat.proofs.vexil_compat_imports_values.Goals as goal
 
 pub returns : goal.returns
-unfolding policyOf
+unfolding policy_of
 returns c = c.values_by.ensures

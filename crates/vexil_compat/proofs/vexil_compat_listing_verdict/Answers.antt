@@ -1,10 +1,10 @@
 use Rattle.std.proofs.Common.{ap, ◌∙◌}
-use Rattle.listing.specs.Listing.{listingVerdict}
-use Rattle.verdicts.specs.Verdicts.{selectIn}
+use Rattle.listing.specs.Listing.{listing_verdict}
+use Rattle.verdicts.specs.Verdicts.{select_in}
 use Rattle.verdicts.specs.declared.Verdict.{Verdict}
-use Rattle.verdicts.proofs.Selectors.{outcome-selected}
+use Rattle.verdicts.proofs.Selectors.{outcome_selected}
 use Rattle.vexil_compat.proofs.vexil_compat_listing_verdict.Goals as goal
 
 pub returns : goal.returns
-unfolding listingVerdict
-returns c = c.select.ensures ∙ ap (λ (v : Verdict). selectIn v c.args.selector) c.checked.ensures ∙ outcome-selected _ c.args.selector
+unfolding listing_verdict
+returns c = c.select.ensures ∙ ap (λ (v : Verdict). select_in v c.args.selector) c.checked.ensures ∙ outcome_selected _ c.args.selector

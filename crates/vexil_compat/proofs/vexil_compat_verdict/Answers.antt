@@ -1,8 +1,8 @@
 use Rattle.std.proofs.Common.{◌∙◌}
-use Rattle.compat.specs.Policies.{policyOf}
-use Rattle.vexil_compat.proofs.Values.{verdict-selected}
+use Rattle.compat.specs.Policies.{policy_of}
+use Rattle.vexil_compat.proofs.Values.{verdict_selected}
 use Rattle.vexil_compat.proofs.vexil_compat_verdict.Goals as goal
 
 pub returns : goal.returns
-unfolding policyOf
-returns c = c.select.ensures ∙ verdict-selected _ _ _ c.verdict.ensures c.args.selector
+unfolding policy_of
+returns c = c.select.ensures ∙ verdict_selected _ _ _ c.verdict.ensures c.args.selector

@@ -71,21 +71,21 @@ const FIELDS: [(&str, &str); 31] = [
         "f : selected (checked a a) ≡ 11 ∷ 3 ∷ []",
         "a a Values([11, 3])",
     ),
-    ("f : distance verdictOf b a ≡ 2", "b a Distance(2)"),
+    ("f : distance verdict_of b a ≡ 2", "b a Distance(2)"),
     (
-        "f : countBetween verdictOf (kindAt FieldRemoved) b a ≡ 2",
+        "f : count_between verdict_of (kind_at FieldRemoved) b a ≡ 2",
         "b a Count(FieldRemoved, 2)",
     ),
     (
-        "f : Steps verdictOf a (b ∷ a ∷ [])",
+        "f : Steps verdict_of a (b ∷ a ∷ [])",
         "a b Verdict, b a Verdict",
     ),
     (
-        "f : Verdict verdictOf a b\n  -- more\n  pub g : Verdict verdictOf b b",
+        "f : Verdict verdict_of a b\n  -- more\n  pub g : Verdict verdict_of b b",
         "a b Verdict, b b Verdict",
     ),
     (
-        "f : importsTold a b ≡ lines (\"x\" ∷ [])",
+        "f : imports_told a b ≡ lines (\"x\" ∷ [])",
         "a b with imports Report([\"x\"])",
     ),
     (
@@ -93,42 +93,42 @@ const FIELDS: [(&str, &str); 31] = [
         "a a with imports Values([11, 3])",
     ),
     (
-        "f : distance importsOf b a ≡ 2\nuse x.{y}\n  pub g : 1 ≡ 1",
+        "f : distance imports_of b a ≡ 2\nuse x.{y}\n  pub g : 1 ≡ 1",
         "b a with imports Distance(2)",
     ),
-    ("f : Steps importsOf a (b ∷ [])", "a b with imports Verdict"),
+    ("f : Steps imports_of a (b ∷ [])", "a b with imports Verdict"),
     (
-        "f : mendedTold a b ≡ lines (\"x\" ∷ [])",
+        "f : mended_told a b ≡ lines (\"x\" ∷ [])",
         "a b mended Report([\"x\"])",
     ),
     (
         "f : selected (outcome mended b a) ≡ 0 ∷ []",
         "b a mended Values([0])",
     ),
-    ("f : distance mendedOf b b ≡ 0", "b b mended Distance(0)"),
+    ("f : distance mended_of b b ≡ 0", "b b mended Distance(0)"),
     (
-        "f : countBetween mendedOf (kindAt FieldTypeChanged) a a ≡ 0",
+        "f : count_between mended_of (kind_at FieldTypeChanged) a a ≡ 0",
         "a a mended Count(FieldTypeChanged, 0)",
     ),
-    ("f : Verdict mendedOf a b", "a b mended Verdict"),
+    ("f : Verdict mended_of a b", "a b mended Verdict"),
     (
-        "f : Steps mendedOf a (b ∷ a ∷ [])",
+        "f : Steps mended_of a (b ∷ a ∷ [])",
         "a b mended Verdict, b a mended Verdict",
     ),
     ("f : SameUnsized b a", "b a SameUnsized"),
-    ("f : mendedOf a b ≡ lines (\"x\" ∷ [])", ""),
-    ("f : distance mendedTold a b ≡ 0", ""),
+    ("f : mended_of a b ≡ lines (\"x\" ∷ [])", ""),
+    ("f : distance mended_told a b ≡ 0", ""),
     ("f : distance mended a b ≡ 0", ""),
-    ("f : selected (outcome mendedOf a b) ≡ 0 ∷ []", ""),
+    ("f : selected (outcome mended_of a b) ≡ 0 ∷ []", ""),
     ("f : distance otherOf a b ≡ 2", ""),
     ("f : selected (outcome plain a a) ≡ 11 ∷ []", ""),
     ("f : told a c ≡ lines (\"x\" ∷ [])", ""),
     ("f : told a b ≡ lines (\"x\" ∷", ""),
     ("f : told a b ≡ lines (x ∷ [])", ""),
-    ("f : distance verdictOf a b ≡ two", ""),
-    ("f : distance verdictOf a b", ""),
+    ("f : distance verdict_of a b ≡ two", ""),
+    ("f : distance verdict_of a b", ""),
     (
-        "f : countBetween verdictOf (kindAt NothingAdded) a b ≡ 1",
+        "f : count_between verdict_of (kind_at NothingAdded) a b ≡ 1",
         "",
     ),
     ("f : 1 ≡ 1", ""),
@@ -149,7 +149,7 @@ fn shown(field: &str) -> String {
 
 /// Texts with one field.
 fn form(tests: &mut Tests) {
-    let pins = read(&format!("{START}f : Verdict verdictOf a b"), &["Pinned"]);
+    let pins = read(&format!("{START}f : Verdict verdict_of a b"), &["Pinned"]);
     let images = pins.map(|pins| pins[0].images.clone());
     tests.equal("two images", images, Ok([vec![1, 255, 2], vec![10]]));
     for (field, wanted) in FIELDS {
@@ -164,9 +164,9 @@ fn form(tests: &mut Tests) {
 
 /// The images of the first stand in the second, and a pin knows its record.
 fn two_files(tests: &mut Tests) {
-    let first = format!("{START}f : Verdict verdictOf a b\n");
+    let first = format!("{START}f : Verdict verdict_of a b\n");
     let second = "use Pinned.{a}\nc = image (\"03\" ∷ [])\n\
-                  pub record More : Type 0 where\n  pub f : Verdict mendedOf a c\n";
+                  pub record More : Type 0 where\n  pub f : Verdict mended_of a c\n";
     let read = read(&(first + second), &["Pinned", "More"]);
     let found = read.map(|pins| {
         let pins = pins.into_iter();

@@ -1,10 +1,10 @@
 -- `checking::aliases::aliases_of` meets its contract: by the kind, then by the name. Assumes nothing.
 use Rattle.survivors.proofs.Laws.Nearest.{entry_here}
-use Rattle.checking.proofs.Pairs.{entry-none, entry_other, entry-alias}
+use Rattle.checking.proofs.Pairs.{entry_none, entry_other, entry_alias}
 use Rattle.checking.proofs.aliases.aliases_of.Goals as goal
 
 pub returns-in_default : goal.returns-in_default
-returns-in_default c = entry-none _ _ _ _ c.in_default.is
+returns-in_default c = entry_none _ _ _ _ c.in_default.is
 
 pub decl_kind-requires : goal.decl_kind-requires
 decl_kind-requires c = entry_here _ c.in-Body.is c.requires.1
@@ -16,4 +16,4 @@ pub aliases_at-requires : goal.aliases_at-requires
 aliases_at-requires c = (c.requires.0, entry_here _ c.in-Body.is c.requires.1)
 
 pub returns : goal.returns
-returns c = entry-alias _ _ _ _ c.in-Body.is c.decl_kind.ensures c.if-decl_kind-ne-ALIAS.false c.aliases_at.ensures
+returns c = entry_alias _ _ _ _ c.in-Body.is c.decl_kind.ensures c.if-decl_kind-ne-ALIAS.false c.aliases_at.ensures

@@ -1,32 +1,32 @@
 -- `checking::decls::kept_decls` meets its contract: a walk over the old declarations. Assumes nothing.
-use Rattle.rules.proofs.Standing.{standing-rises}
-use Rattle.survivors.proofs.Declarations.{follows-here}
-use Rattle.survivors.proofs.Walks.{decls-less}
-use Rattle.checking.specs.Decls.{keptDecls, keptIn}
-use Rattle.checking.proofs.Turns.{walk_start, walk-done, walk-room, walk_turn}
+use Rattle.rules.proofs.Standing.{standing_rises}
+use Rattle.survivors.proofs.Declarations.{follows_here}
+use Rattle.survivors.proofs.Walks.{decls_less}
+use Rattle.checking.specs.Decls.{kept_decls, kept_in}
+use Rattle.checking.proofs.Turns.{walk_start, walk_done, walk_room, walk_turn}
 use Rattle.checking.proofs.decls.kept_decls.Goals as goal
 
 pub loop-at-init : goal.loop-at-init
-unfolding keptDecls
+unfolding kept_decls
 loop-at-init c = walk_start c.requires.1
 
 pub next_on-requires : goal.next_on-requires
 next_on-requires c = (c.requires.0, c.loop-at.invariant.here)
 
 pub returns-in_default : goal.returns-in_default
-unfolding keptDecls
-returns-in_default c = walk-done c.loop-at.invariant c.next_on.ensures c.in_default.is
+unfolding kept_decls
+returns-in_default c = walk_done c.loop-at.invariant c.next_on.ensures c.in_default.is
 
 pub kept_decl-tally-requires : goal.kept_decl-tally-requires
-unfolding keptIn
+unfolding kept_in
 kept_decl-tally-requires c = (
-  record { searchable = c.requires.0; here = follows-here _ _ c.next_on.ensures c.in-Body.is },
-  walk-room c.loop-at.invariant c.next_on.ensures (standing-rises _ _) c.in-Body.is,
+  record { searchable = c.requires.0; here = follows_here _ _ c.next_on.ensures c.in-Body.is },
+  walk_room c.loop-at.invariant c.next_on.ensures (standing_rises _ _) c.in-Body.is,
 )
 
 pub loop-at-smaller : goal.loop-at-smaller
-loop-at-smaller c = decls-less _ (standing-rises _ _) _ _ c.next_on.ensures c.in-Body.is
+loop-at-smaller c = decls_less _ (standing_rises _ _) _ _ c.next_on.ensures c.in-Body.is
 
 pub loop-at-preserved : goal.loop-at-preserved
-unfolding keptIn
-loop-at-preserved c = walk_turn c.loop-at.invariant c.next_on.ensures (standing-rises _ _) c.in-Body.is c.kept_decl-tally.ensures
+unfolding kept_in
+loop-at-preserved c = walk_turn c.loop-at.invariant c.next_on.ensures (standing_rises _ _) c.in-Body.is c.kept_decl-tally.ensures

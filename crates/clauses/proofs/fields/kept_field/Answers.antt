@@ -1,17 +1,17 @@
 -- `clauses::fields::kept_field` meets its contract. Assumes nothing.
-use Rattle.tally.proofs.Running.{ran-none}
-use Rattle.items.proofs.Standing.{kept-none}
-use Rattle.clauses.proofs.Pairs.{both-stand, field-pair, field-kept}
+use Rattle.tally.proofs.Running.{ran_none}
+use Rattle.items.proofs.Standing.{kept_none}
+use Rattle.clauses.proofs.Pairs.{both_stand, field_pair, field_kept}
 use Rattle.clauses.proofs.fields.kept_field.Goals as goal
 
 pub returns-in_default : goal.returns-in_default
-returns-in_default c = ran-none (kept-none c.requires.0.items _ _ _ c.found_off.ensures c.in_default.is) c.requires.1
+returns-in_default c = ran_none (kept_none c.requires.0.items _ _ _ c.found_off.ensures c.in_default.is) c.requires.1
 
 pub compare_fields-requires : goal.compare_fields-requires
 compare_fields-requires c =
-    let k = both-stand {reading = c.args.walk.reading} c.requires.0 c.found_off.ensures c.in-At.is in
-    (field-pair k, rw (field-kept k) at c.requires.1)
+    let k = both_stand {reading = c.args.walk.reading} c.requires.0 c.found_off.ensures c.in-At.is in
+    (field_pair k, rw (field_kept k) at c.requires.1)
 
 pub returns : goal.returns
 returns c =
-    rw (field-kept (both-stand {reading = c.args.walk.reading} c.requires.0 c.found_off.ensures c.in-At.is)) c.compare_fields.ensures
+    rw (field_kept (both_stand {reading = c.args.walk.reading} c.requires.0 c.found_off.ensures c.in-At.is)) c.compare_fields.ensures

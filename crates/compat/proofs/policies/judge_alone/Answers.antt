@@ -1,15 +1,15 @@
 -- `compat::policies::judge_alone` meets its contract, policy by policy. Assumes nothing.
 use Rattle.std.proofs.Common.{◌≡◌, refl, ℕ}
 use Rattle.image.specs.Schema.{Schema}
-use Rattle.rules.specs.Answer.{onSide}
-use Rattle.compat.specs.Policies.{policyOf, faultOf}
+use Rattle.rules.specs.Answer.{on_side}
+use Rattle.compat.specs.Policies.{policy_of, fault_of}
 use Rattle.compat.specs.declared.policies.Policy.{Policy}
 use Rattle.compat.specs.declared.policies.Policy.TheVariants as policy
 use Rattle.compat.specs.declared.policies.Judged.TheVariants as judging
 use Rattle.compat.proofs.policies.judge_alone.Goals as goal
 
-plainly : (p : Policy) (side : ℕ) (x : Schema) → faultOf judging.Passes ≡ onSide side ((policyOf p).alone x)
-unfolding faultOf policyOf onSide
+plainly : (p : Policy) (side : ℕ) (x : Schema) → fault_of judging.Passes ≡ on_side side ((policy_of p).alone x)
+unfolding fault_of policy_of on_side
 plainly policy.Plain side x = refl
 plainly policy.Imports side x = refl
 plainly policy.Mended side x = refl

@@ -2,18 +2,18 @@
 -- Assumes nothing.
 use Rattle.std.proofs.Common.{◌∙◌}
 use mathlib.Core.Option.{none, or_else}
-use Rattle.compat.specs.Policies.{formatFault}
-use Rattle.compat.proofs.Kept.{policy-aliases}
+use Rattle.compat.specs.Policies.{format_fault}
+use Rattle.compat.proofs.Kept.{policy_aliases}
 use Rattle.compat.proofs.policies.judge_pair.Goals as goal
 
 pub returns-in-Plain : goal.returns-in-Plain
-unfolding formatFault or_else
-returns-in-Plain c = c.judge_aliases.ensures ∙ policy-aliases _ c.requires {f = none} (rw c.in-Plain.is)
+unfolding format_fault or_else
+returns-in-Plain c = c.judge_aliases.ensures ∙ policy_aliases _ c.requires {f = none} (rw c.in-Plain.is)
 
 pub returns-in-Imports : goal.returns-in-Imports
-unfolding formatFault or_else
-returns-in-Imports c = c.judge_aliases-in-Imports.ensures ∙ policy-aliases _ c.requires {f = none} (rw c.in-Imports.is)
+unfolding format_fault or_else
+returns-in-Imports c = c.judge_aliases-in-Imports.ensures ∙ policy_aliases _ c.requires {f = none} (rw c.in-Imports.is)
 
 pub returns-in-Mended : goal.returns-in-Mended
-unfolding formatFault
-returns-in-Mended c = c.judge_mended.ensures ∙ policy-aliases _ c.requires (rw c.in-Mended.is)
+unfolding format_fault
+returns-in-Mended c = c.judge_mended.ensures ∙ policy_aliases _ c.requires (rw c.in-Mended.is)

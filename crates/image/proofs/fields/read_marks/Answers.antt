@@ -1,8 +1,8 @@
 use Rattle.std.proofs.Common.{sym, ◌∙◌}
-use Rattle.image.specs.Fields.{marksAt}
-use Rattle.image.proofs.Laws.Answers.{skip-ok}
+use Rattle.image.specs.Fields.{marks_at}
+use Rattle.image.proofs.Laws.Answers.{skip_ok}
 use Rattle.image.proofs.fields.read_marks.Goals as goal
 
 pub returns : goal.returns
-unfolding marksAt
-returns c = c.read_code.ensures ∙ sym (skip-ok _ _)
+unfolding marks_at
+returns c = c.read_code.ensures ∙ sym (skip_ok _ _)

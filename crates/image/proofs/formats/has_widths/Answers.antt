@@ -1,7 +1,7 @@
 use Rattle.std.proofs.Common.{refl}
-use Rattle.image.specs.Formats.{hasWidths}
+use Rattle.image.specs.Formats.{has_widths}
 use Rattle.image.proofs.formats.has_widths.Goals as goal
 
 pub returns : goal.returns
-unfolding hasWidths
+unfolding has_widths
 returns c = refl

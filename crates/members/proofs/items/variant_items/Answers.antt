@@ -1,6 +1,6 @@
 use Rattle.std.proofs.Common.{arith, ap, ◌∙◌}
 use Rattle.parts.proofs.Laws.Items.{variant_parts}
-use Rattle.parts.specs.Promise.{itemsAt, variantItems}
+use Rattle.parts.specs.Promise.{items_at, variant_items}
 use Rattle.members.proofs.items.variant_items.Goals as goal
 
 pub overflow_add-at : goal.overflow_add-at
@@ -13,5 +13,5 @@ pub items_at-requires : goal.items_at-requires
 items_at-requires c = rw c.name_end.ensures (variant_parts _ _ c.requires).count
 
 pub returns : goal.returns
-unfolding variantItems
-returns c = c.items_at.ensures ∙ ap (itemsAt c.args.image.now) c.name_end.ensures
+unfolding variant_items
+returns c = c.items_at.ensures ∙ ap (items_at c.args.image.now) c.name_end.ensures

@@ -2,14 +2,14 @@
 -- were bytes. The measure is how many bytes are left.
 use Rattle.std.proofs.Common.{◌≡◌, ◌≤◌, ◌+◌, ◌-◌, length}
 use Rattle.image.specs.Parse.{many}
-use Rattle.image.specs.Types.{typeAt}
-use Rattle.image.specs.WellFormed.{Good, endOf}
-use Rattle.parts.specs.Promise.{typeEnd}
+use Rattle.image.specs.Types.{type_at}
+use Rattle.image.specs.WellFormed.{Good, end_of}
+use Rattle.parts.specs.Promise.{type_end}
 use Rattle.parts.proofs.types.type_end.Given as goal
 
 abbrev pub invariant-loop-left : goal.invariant-loop-left
 invariant-loop-left l =
-    Good (many typeAt l.left l.image l.next) × (endOf (many typeAt l.left l.image l.next) ≡ typeEnd l.image l.at) × (l.left + l.at ≤ l.next + 1)
+    Good (many type_at l.left l.image l.next) × (end_of (many type_at l.left l.image l.next) ≡ type_end l.image l.at) × (l.left + l.at ≤ l.next + 1)
 
 abbrev pub decreases-loop-left : goal.decreases-loop-left
 decreases-loop-left l = length l.image - l.next

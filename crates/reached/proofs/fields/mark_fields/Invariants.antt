@@ -1,13 +1,13 @@
 -- What the walk has yet to mark after the last ordinal is owed. The measure is how many fields are left.
 use Rattle.parts.specs.declared.Shape.{Shape}
-use Rattle.reached.specs.Named.{namedItems}
+use Rattle.reached.specs.Named.{named_items}
 use Rattle.reached.proofs.Marking.{Owing}
-use Rattle.reached.proofs.Walks.{toMark, leftIn}
+use Rattle.reached.proofs.Walks.{to_mark, left_in}
 use Rattle.reached.proofs.fields.mark_fields.Given as goal
 
 abbrev pub invariant-loop-ordinal : goal.invariant-loop-ordinal
 invariant-loop-ordinal l =
-    Owing l.image l.initial.marks (namedItems Shape.Field l.image l.run) l.marks (toMark Shape.Field l.image l.run l.after)
+    Owing l.image l.initial.marks (named_items Shape.Field l.image l.run) l.marks (to_mark Shape.Field l.image l.run l.after)
 
 abbrev pub decreases-loop-ordinal : goal.decreases-loop-ordinal
-decreases-loop-ordinal l = leftIn Shape.Field l.image l.run l.after
+decreases-loop-ordinal l = left_in Shape.Field l.image l.run l.after

@@ -1,7 +1,7 @@
 use Rattle.std.proofs.Common.{refl, sym, arith}
 use mathlib.Core.Path.{◌∙◌}
-use Rattle.maps.proofs.Names.{same-told, ends_same, finds-other, other_length, goes_on}
-use Rattle.survivors.proofs.Laws.Listed.{back_start, back_end, back-skips, back-other, back_found}
+use Rattle.maps.proofs.Names.{same_told, ends_same, finds_other, other_length, goes_on}
+use Rattle.survivors.proofs.Laws.Listed.{back_start, back_end, back_skips, back_other, back_found}
 use Rattle.survivors.proofs.Laws.Nearest.{entry_here}
 use Rattle.survivors.proofs.decls.survivor.Goals as goal
 
@@ -15,7 +15,7 @@ pub search-preserved-in_default : goal.search-preserved-in_default
 search-preserved-in_default c =
     let v = c.search.invariant in (
       omega (arith, v.0),
-      back-skips _ _ _ _ (omega (arith, c.if-i-eq0.false)) v.0 c.candidate.ensures c.in_default.is ∙ v.1,
+      back_skips _ _ _ _ (omega (arith, c.if-i-eq0.false)) v.0 c.candidate.ensures c.in_default.is ∙ v.1,
     )
 
 pub decl_name-own-requires : goal.decl_name-own-requires
@@ -30,8 +30,8 @@ search-preserved-then-name-j c =
     let v = c.search.invariant in
     let a = c.loop-j.invariant in (
       omega (arith, v.0),
-      back-other _ _ _ _ (omega (arith, c.if-i-eq0.false)) v.0 c.candidate.ensures c.in-Body.is c.decl_name-own.ensures
-          (finds-other _ _ _ a.1 (omega arith) (omega arith) c.if-name-j.true)
+      back_other _ _ _ _ (omega (arith, c.if-i-eq0.false)) v.0 c.candidate.ensures c.in-Body.is c.decl_name-own.ensures
+          (finds_other _ _ _ a.1 (omega arith) (omega arith) c.if-name-j.true)
           ∙ v.1,
     )
 
@@ -42,7 +42,7 @@ pub search-preserved : goal.search-preserved
 search-preserved c =
     let v = c.search.invariant in (
       omega (arith, v.0),
-      back-other _ _ _ _ (omega (arith, c.if-i-eq0.false)) v.0 c.candidate.ensures c.in-Body.is c.decl_name-own.ensures
+      back_other _ _ _ _ (omega (arith, c.if-i-eq0.false)) v.0 c.candidate.ensures c.in-Body.is c.decl_name-own.ensures
           (other_length _ _ c.if-name-own.false)
           ∙ v.1,
     )
@@ -54,6 +54,6 @@ pub returns-then-j-name : goal.returns-then-j-name
 returns-then-j-name c =
     let v = c.search.invariant in
     back_found _ _ _ _ (omega (arith, c.if-i-eq0.false)) v.0 c.candidate.ensures c.in-Body.is c.decl_name-own.ensures
-    (same-told _ _
+    (same_told _ _
     (sym (ends_same c.args.name.now c.decl_name-own.result.now c.loop-j.j c.loop-j.invariant.1 (omega arith) (omega arith))))
     v.1

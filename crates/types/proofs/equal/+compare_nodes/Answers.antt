@@ -1,25 +1,25 @@
 use Rattle.std.proofs.Common.{sym, arith}
 use mathlib.Core.Path.{◌∙◌}
-use Rattle.parts.proofs.Promise.{type-some, type-label}
-use Rattle.types.proofs.Laws.Trees.{node, labels-differ, tags-same, leaves, ones, first-differs, second-places, twos}
+use Rattle.parts.proofs.Promise.{type_some, type_label}
+use Rattle.types.proofs.Laws.Trees.{node, labels_differ, tags_same, leaves, ones, first_differs, second_places, twos}
 use Rattle.types.proofs.equal.+compare_nodes.Goals as goal
 
 pub labels_equal-requires : goal.labels_equal-requires
 labels_equal-requires t c =
     let p = c.requires in
-    (p.0, p.1, type-label _ _ _ p.2, type-label _ _ _ p.3)
+    (p.0, p.1, type_label _ _ _ p.2, type_label _ _ _ p.3)
 
 pub returns-then-not-labels_equal : goal.returns-then-not-labels_equal
-returns-then-not-labels_equal t c = labels-differ _ _ _ _ c.labels_equal.ensures c.if-not-labels_equal.true c.requires.2 c.requires.3
+returns-then-not-labels_equal t c = labels_differ _ _ _ _ c.labels_equal.ensures c.if-not-labels_equal.true c.requires.2 c.requires.3
 
 pub type_tag-tag-requires : goal.type_tag-tag-requires
-type_tag-tag-requires t c = type-label _ _ _ c.requires.2
+type_tag-tag-requires t c = type_label _ _ _ c.requires.2
 
 pub label_end-p-requires : goal.label_end-p-requires
-label_end-p-requires t c = type-label _ _ _ c.requires.2
+label_end-p-requires t c = type_label _ _ _ c.requires.2
 
 pub label_end-q-requires : goal.label_end-q-requires
-label_end-q-requires t c = type-label _ _ _ c.requires.3
+label_end-q-requires t c = type_label _ _ _ c.requires.3
 
 -- a and b are the two nodes, which have one tag
 
@@ -27,19 +27,19 @@ pub returns-then-inner-eq0 : goal.returns-then-inner-eq0
 returns-then-inner-eq0 t c =
     let a = node c.inner_types-inner.ensures c.requires.2 (sym c.type_tag-tag.ensures) in
     let b = node c.inner_types-inner.ensures c.requires.3
-    (tags-same _ _ _ _ c.labels_equal.ensures c.if-not-labels_equal.false ∙ sym c.type_tag-tag.ensures) in
+    (tags_same _ _ _ _ c.labels_equal.ensures c.if-not-labels_equal.false ∙ sym c.type_tag-tag.ensures) in
     leaves _ _ _ _ c.labels_equal.ensures c.if-not-labels_equal.false c.type_tag-tag.ensures
     _ c.of_tag-node.ensures c.label_end-p.ensures c.label_end-q.ensures (a.none c.if-inner-eq0.true) (b.none c.if-inner-eq0.true)
 
 pub overflow_sub-left : goal.overflow_sub-left
-overflow_sub-left t c = type-some _ _ _ c.requires.2
+overflow_sub-left t c = type_some _ _ _ c.requires.2
 
 pub compare_nodes-requires : goal.compare_nodes-requires
 compare_nodes-requires t c =
     let a = node c.inner_types-inner.ensures c.requires.2 (sym c.type_tag-tag.ensures) in
     let b = node c.inner_types-inner.ensures c.requires.3
-    (tags-same _ _ _ _ c.labels_equal.ensures c.if-not-labels_equal.false ∙ sym c.type_tag-tag.ensures) in
-    let some = type-some _ _ _ c.requires.2 in (
+    (tags_same _ _ _ _ c.labels_equal.ensures c.if-not-labels_equal.false ∙ sym c.type_tag-tag.ensures) in
+    let some = type_some _ _ _ c.requires.2 in (
       omega (arith, c.decreases),
       (
         c.requires.0,
@@ -53,7 +53,7 @@ pub returns-then-inner-eq1 : goal.returns-then-inner-eq1
 returns-then-inner-eq1 t c =
     let a = node c.inner_types-inner.ensures c.requires.2 (sym c.type_tag-tag.ensures) in
     let b = node c.inner_types-inner.ensures c.requires.3
-    (tags-same _ _ _ _ c.labels_equal.ensures c.if-not-labels_equal.false ∙ sym c.type_tag-tag.ensures) in
+    (tags_same _ _ _ _ c.labels_equal.ensures c.if-not-labels_equal.false ∙ sym c.type_tag-tag.ensures) in
     ones _ _ _ _ c.labels_equal.ensures c.if-not-labels_equal.false c.type_tag-tag.ensures
     _ c.of_tag-node.ensures c.label_end-p.ensures c.label_end-q.ensures c.compare_nodes.ensures c.after-first.ensures
     (a.single c.if-inner-eq1.true) (b.single c.if-inner-eq1.true)
@@ -62,22 +62,22 @@ pub returns-then-not-read_as : goal.returns-then-not-read_as
 returns-then-not-read_as t c =
     let a = node c.inner_types-inner.ensures c.requires.2 (sym c.type_tag-tag.ensures) in
     let b = node c.inner_types-inner.ensures c.requires.3
-    (tags-same _ _ _ _ c.labels_equal.ensures c.if-not-labels_equal.false ∙ sym c.type_tag-tag.ensures) in
-    first-differs _ _ _ _ c.labels_equal.ensures c.if-not-labels_equal.false c.type_tag-tag.ensures
+    (tags_same _ _ _ _ c.labels_equal.ensures c.if-not-labels_equal.false ∙ sym c.type_tag-tag.ensures) in
+    first_differs _ _ _ _ c.labels_equal.ensures c.if-not-labels_equal.false c.type_tag-tag.ensures
     _ c.of_tag-node.ensures c.label_end-p.ensures c.label_end-q.ensures c.compare_nodes.ensures c.after-first.ensures c.read_as.ensures
     (a.pair c.if-inner-eq0.false c.if-inner-eq1.false) (b.pair c.if-inner-eq0.false c.if-inner-eq1.false) c.if-not-read_as.true
 
 pub overflow_sub-left-2 : goal.overflow_sub-left-2
-overflow_sub-left-2 t c = type-some _ _ _ c.requires.2
+overflow_sub-left-2 t c = type_some _ _ _ c.requires.2
 
 pub compare_nodes-requires-2 : goal.compare_nodes-requires-2
 compare_nodes-requires-2 t c =
     let a = node c.inner_types-inner.ensures c.requires.2 (sym c.type_tag-tag.ensures) in
     let b = node c.inner_types-inner.ensures c.requires.3
-    (tags-same _ _ _ _ c.labels_equal.ensures c.if-not-labels_equal.false ∙ sym c.type_tag-tag.ensures) in
-    let s = second-places _ _ _ _ c.labels_equal.ensures c.if-not-labels_equal.false c.type_tag-tag.ensures
+    (tags_same _ _ _ _ c.labels_equal.ensures c.if-not-labels_equal.false ∙ sym c.type_tag-tag.ensures) in
+    let s = second_places _ _ _ _ c.labels_equal.ensures c.if-not-labels_equal.false c.type_tag-tag.ensures
     _ c.of_tag-node.ensures c.label_end-p.ensures c.label_end-q.ensures c.compare_nodes.ensures c.after-first.ensures c.read_as.ensures c.if-not-read_as.false in
-    let some = type-some _ _ _ c.requires.2 in (
+    let some = type_some _ _ _ c.requires.2 in (
       omega (arith, c.decreases),
       (
         c.requires.0,
@@ -91,7 +91,7 @@ pub returns : goal.returns
 returns t c =
     let a = node c.inner_types-inner.ensures c.requires.2 (sym c.type_tag-tag.ensures) in
     let b = node c.inner_types-inner.ensures c.requires.3
-    (tags-same _ _ _ _ c.labels_equal.ensures c.if-not-labels_equal.false ∙ sym c.type_tag-tag.ensures) in
+    (tags_same _ _ _ _ c.labels_equal.ensures c.if-not-labels_equal.false ∙ sym c.type_tag-tag.ensures) in
     twos _ _ _ _ c.labels_equal.ensures c.if-not-labels_equal.false c.type_tag-tag.ensures
     _ c.of_tag-node.ensures c.label_end-p.ensures c.label_end-q.ensures c.compare_nodes.ensures c.after-first.ensures c.read_as.ensures c.if-not-read_as.false
     (a.pair c.if-inner-eq0.false c.if-inner-eq1.false) (b.pair c.if-inner-eq0.false c.if-inner-eq1.false)

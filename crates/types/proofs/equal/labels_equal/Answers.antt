@@ -1,25 +1,25 @@
 -- By the tag.
 use Rattle.std.proofs.Common.{arith, rules}
-use Rattle.types.proofs.Laws.Labels.{code-tag, past-codes, tags-differ, by_name, by_first, by-numbers, by_names, by-tag, bits_in}
+use Rattle.types.proofs.Laws.Labels.{code_tag, past_codes, tags_differ, by_name, by_first, by_numbers, by_names, by_tag, bits_in_lem}
 use Rattle.types.proofs.equal.labels_equal.Goals as goal
 
 pub returns-then-tag-type_tag : goal.returns-then-tag-type_tag
-returns-then-tag-type_tag c = tags-differ _ _ _ _ c.type_tag-tag.ensures c.type_tag.ensures c.if-tag-type_tag.true
+returns-then-tag-type_tag c = tags_differ _ _ _ _ c.type_tag-tag.ensures c.type_tag.ensures c.if-tag-type_tag.true
 
 pub same_names-requires : goal.same_names-requires
 same_names-requires c =
     let t = c.in-16.is in
-    (bits_in _ _ c.requires.2 (omega arith) c.bit_names.ensures, bits_in _ _ c.requires.3 (omega arith) c.bit_names-in-16.ensures)
+    (bits_in_lem _ _ c.requires.2 (omega arith) c.bit_names.ensures, bits_in_lem _ _ c.requires.3 (omega arith) c.bit_names-in-16.ensures)
 
 pub returns-in-0 : goal.returns-in-0
 returns-in-0 c =
-    let w = code-tag c.in-0.is in
+    let w = code_tag c.in-0.is in
     by_first _ _ _ _ c.type_tag-tag.ensures c.type_tag.ensures c.if-tag-type_tag.false c.requires.2 c.requires.3
     (λ z. absurd (omega arith)) (omega arith) w.1 c.type_code.ensures c.type_code-in-0.ensures
 
 pub returns-in-1 : goal.returns-in-1
 returns-in-1 c =
-    by-numbers _ _ _ _ c.type_tag-tag.ensures c.type_tag.ensures c.if-tag-type_tag.false c.requires.2 c.requires.3
+    by_numbers _ _ _ _ c.type_tag-tag.ensures c.type_tag.ensures c.if-tag-type_tag.false c.requires.2 c.requires.3
     (λ z. absurd (omega arith)) c.in-1.is c.sub_bytes_equal.ensures
 
 pub returns-in-3 : goal.returns-in-3
@@ -39,5 +39,5 @@ returns-in-16 c =
 
 pub returns-in_default : goal.returns-in_default
 returns-in_default c =
-    by-tag _ _ _ _ c.type_tag-tag.ensures c.type_tag.ensures c.if-tag-type_tag.false c.requires.2 c.requires.3
-    (search rules) (past-codes (search rules) (search rules) (search rules)) (search rules) (search rules)
+    by_tag _ _ _ _ c.type_tag-tag.ensures c.type_tag.ensures c.if-tag-type_tag.false c.requires.2 c.requires.3
+    (search rules) (past_codes (search rules) (search rules) (search rules)) (search rules) (search rules)

@@ -1,17 +1,17 @@
 -- By how the third answer is read.
 use mathlib.Core.Path.{◌≡◌, refl, sym, ◌∙◌}
 use Rattle.image.specs.Schema.{Ty}
-use Rattle.rules.specs.Mended.{likeness, readAs, mendedType}
-use Rattle.rules.proofs.Mended.{three-answers}
-use Rattle.types.specs.Readings.{readingOf, readsAlike}
+use Rattle.rules.specs.Mended.{likeness, read_as, mended_type}
+use Rattle.rules.proofs.Mended.{three_answers}
+use Rattle.types.specs.Readings.{reading_of, reads_alike}
 use Rattle.types.specs.declared.Reading.{Reading}
 use Rattle.types.specs.declared.Reading.TheVariants.{Plain, Mended}
 use Rattle.types.proofs.equal.types_equal.Goals as goal
 
 -- document 01 reads the third answer as different, and the mended verdict as equal
-read : (reading : Reading) (t u : Ty) → readAs (readsAlike reading) (likeness t u) ≡ (readingOf reading).same t u
-unfolding readsAlike readingOf mendedType
-read Plain t u = sym (three-answers t u).plainly
+read : (reading : Reading) (t u : Ty) → read_as (reads_alike reading) (likeness t u) ≡ (reading_of reading).same t u
+unfolding reads_alike reading_of mended_type
+read Plain t u = sym (three_answers t u).plainly
 read Mended t u = refl
 
 pub returns : goal.returns

@@ -1,7 +1,7 @@
 -- `verdicts::Verdict::of_tally` meets its contract. Assumes nothing.
-use Rattle.verdicts.specs.Verdicts.{ofTally}
+use Rattle.verdicts.specs.Verdicts.{of_tally}
 use Rattle.verdicts.proofs.Verdict.of_tally.Goals as goal
 
 pub returns : goal.returns
-unfolding ofTally
+unfolding of_tally
 returns c = rw c.result-result.ensures

@@ -1,31 +1,31 @@
 -- `verdicts::Verdict::select` meets its contract, by the selector. Assumes nothing.
 use Rattle.std.proofs.Common.{rules, arith}
-use Rattle.verdicts.specs.Verdicts.{selectIn}
-use Rattle.verdicts.proofs.Selectors.{select-count, select-beyond}
+use Rattle.verdicts.specs.Verdicts.{select_in}
+use Rattle.verdicts.proofs.Selectors.{select_count, select_beyond}
 use Rattle.verdicts.proofs.Verdict.select.Goals as goal
 
 pub returns-then-selector : goal.returns-then-selector
-returns-then-selector c = select-count c.args.self c.args.selector (search rules)
+returns-then-selector c = select_count c.args.self c.args.selector (search rules)
 
 pub returns-in-0 : goal.returns-in-0
-unfolding selectIn
+unfolding select_in
 returns-in-0 c = rw c.in-0.is
 
 pub returns-in-1 : goal.returns-in-1
-unfolding selectIn
+unfolding select_in
 returns-in-1 c = rw c.in-1.is
 
 pub returns-in-2 : goal.returns-in-2
-unfolding selectIn
+unfolding select_in
 returns-in-2 c = rw c.in-2.is
 
 pub returns-in-3 : goal.returns-in-3
-unfolding selectIn
+unfolding select_in
 returns-in-3 c = rw c.in-3.is
 
 pub returns-in-4 : goal.returns-in-4
-unfolding selectIn
+unfolding select_in
 returns-in-4 c = rw c.in-4.is
 
 pub returns-else-selector : goal.returns-else-selector
-returns-else-selector c = select-beyond c.args.self c.args.selector (omega arith)
+returns-else-selector c = select_beyond c.args.self c.args.selector (omega arith)
