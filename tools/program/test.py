@@ -71,6 +71,11 @@ def paths(suite: Suite):
     for name, path in (("empty", ""), ("of 4,095 bytes", "p" * 4095), ("of 4,096 bytes", "p" * 4096), ("of 9,000 bytes", "p" * 9000)):
         suite.files(f"a path {name}, old", path, new, "refused 2 old\n")
         suite.files(f"a path {name}, new", old, path, "refused 2 new\n")
+    unreadable = bytes(suite.folder) + b"/\xff.img"
+    with open(unreadable, "wb") as file:
+        file.write(old.read_bytes())
+    suite.equal("a path that is not UTF-8, old", output(PROGRAM, unreadable, new), (0, "refused 2 old\n"))
+    suite.equal("a path that is not UTF-8, new", output(PROGRAM, old, unreadable), (0, "refused 2 new\n"))
     suite.files("the longest path that can be opened", str(old).rjust(4095, "/"), new, SAMPLE_REPORT)
     dashed = suite.folder / "-old.img"
     dashed.write_bytes(old.read_bytes())
@@ -101,6 +106,7 @@ def usage(suite: Suite):
     old, new = SAMPLE
     calls = {
         "one argument": [old],
+        "one argument that is not UTF-8": [b"\xff"],
         "three arguments": [old, new, new],
         "an unknown option": ["--counts"],
         "an unknown option before a path": ["--counts", old],
@@ -113,8 +119,6 @@ def usage(suite: Suite):
     }
     for name, words in calls.items():
         suite.on_standard_error(name, "usage: vexil_compat ", 2, *words)
-    for name, words in (("old", [b"\xff", new]), ("new", [old, b"a\xff"]), ("alone", [b"\xff"])):
-        suite.on_standard_error(f"an argument that is not UTF-8, {name}", "vexil_compat: arguments: ", 1, *words)
 
 
 def asked_for_help(suite: Suite):

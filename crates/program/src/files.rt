@@ -1,22 +1,43 @@
 // Image files, read as far as their bytes decide anything.
+ghost use Rattle.std.specs.Prelude.{◌≤◌, length};
+
 use std::fs;
-use std::io::{self, Read};
+use std::io::Read;
 use std::rt::Files;
 
 // One byte more than an image may have: a longer file is refused by 1, and its other bytes are not read.
-const ROOM: u64 = 32769;
+const ROOM: usize = 32769;
 
-// The start of a file; nothing if the file can't be opened or read.
-pub fn read_start<R: Files + AllocGlobal>(rt: &R, path: &str) -> Vec<u8> {
-    match read_opened(rt, path) {
-        Ok(bytes) => bytes,
-        Err(_) => Vec::new(rt.alloc()),
+// Room for an image, and for one byte more, by which a longer file is told.
+pub fn blank() -> [u8; ROOM] {
+    [0; ROOM]
+}
+
+// The start of a file, and how many bytes it has; none if the file can't be opened or read. A path is text: one that is not UTF-8 can't be
+// opened.
+pub fn read_start(files: &impl Files, path: &[u8], image: &mut [u8]) -> usize
+    ensures { result ≤ length image.new }
+{
+    let Ok(path) = str::from_utf8(path) else {
+        return 0;
+    };
+    match fs::open(files, path) {
+        Ok(file) => read_opened(file, image),
+        Err(_) => 0,
     }
 }
 
-fn read_opened<R: Files + AllocGlobal>(rt: &R, path: &str) -> io::Result<Vec<u8>> {
-    let file = fs::open(rt, path)?;
-    let mut bytes = Vec::new(rt.alloc());
-    file.take(ROOM).read_to_end(&mut bytes)?;
-    Ok(bytes)
+fn read_opened(file: impl Read + Drop, image: &mut [u8]) -> usize
+    ensures { result ≤ length image.new }
+{
+    let mut file = file;
+    let mut filled = 0;
+    while filled < image.len() {
+        match file.read(&mut image[filled..]) {
+            Ok(0) => return filled,
+            Ok(n) => filled += n,
+            Err(_) => return 0,
+        }
+    }
+    filled
 }

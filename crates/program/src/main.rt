@@ -8,7 +8,6 @@ mod files;
 mod printing;
 
 use std::rt::{Env, Files};
-use std::{env, io};
 
 // The report of two images, in a buffer of 65,536 bytes; a longer one is refused by the library.
 fn compare(rt: &(impl Print + Eprint), old: &[u8], new: &[u8]) {
@@ -21,19 +20,22 @@ fn compare(rt: &(impl Print + Eprint), old: &[u8], new: &[u8]) {
     printing::print_text(rt, &out, verdict.length);
 }
 
-fn compare_files<R: Print + Eprint + Files + AllocGlobal>(rt: &R, old_path: &str, new_path: &str) {
-    let old = files::read_start(rt, old_path);
-    let new = files::read_start(rt, new_path);
-    compare(rt, &old, &new);
+fn compare_files<R: Print + Eprint + Files>(rt: &R, old_path: &[u8], new_path: &[u8]) {
+    let mut old = files::blank();
+    let m = files::read_start(rt, old_path, &mut old);
+    let mut new = files::blank();
+    let n = files::read_start(rt, new_path, &mut new);
+    compare(rt, &old[..m], &new[..n]);
 }
 
-fn list_file<R: Print + Eprint + Files + AllocGlobal>(rt: &R, path: &str) {
-    let image = files::read_start(rt, path);
-    contents::list(rt, &image);
+fn list_file<R: Print + Eprint + Files>(rt: &R, path: &[u8]) {
+    let mut image = files::blank();
+    let n = files::read_start(rt, path, &mut image);
+    contents::list(rt, &image[..n]);
 }
 
 // Two arguments: the paths of the images, or the option and the path of one.
-fn answer_two<R: Print + Eprint + Files + AllocGlobal>(rt: &R, first: &str, second: &str) {
+fn answer<R: Print + Eprint + Files>(rt: &R, first: &[u8], second: &[u8]) {
     if arguments::is_option(second) {
         printing::print_usage(rt);
         return;
@@ -50,41 +52,33 @@ fn answer_two<R: Print + Eprint + Files + AllocGlobal>(rt: &R, first: &str, seco
 }
 
 // One argument, which asks about the program.
-fn answer_one(rt: &(impl Print + Eprint), word: &str) {
-    if arguments::is_help(word) {
+fn answer_argument<R: Print + Eprint + Env>(rt: &R) {
+    let mut word = arguments::blank();
+    let n = arguments::fill(rt, 1, &mut word);
+    if arguments::is_help(&word[..n]) {
         printing::print_help(rt);
         return;
     }
-    if arguments::is_version(word) {
+    if arguments::is_version(&word[..n]) {
         printing::print_version(rt);
         return;
     }
     printing::print_usage(rt);
 }
 
-// By how many arguments there are after the program's own name.
-fn answer<R: Print + Eprint + Files + Env + AllocGlobal>(rt: &R) -> io::Result<()> {
-    let mut words = env::args(rt)?;
-    let _own_name = words.next();
-    let Some(first) = words.next() else {
-        compare_files(rt, "old.img", "new.img");
-        return Ok(());
-    };
-    let Some(second) = words.next() else {
-        answer_one(rt, first.as_str());
-        return Ok(());
-    };
-    if words.next().is_some() {
-        printing::print_usage(rt);
-        return Ok(());
-    }
-    answer_two(rt, first.as_str(), second.as_str());
-    Ok(())
+fn answer_arguments<R: Print + Eprint + Files + Env>(rt: &R) {
+    let mut first = arguments::blank();
+    let m = arguments::fill(rt, 1, &mut first);
+    let mut second = arguments::blank();
+    let n = arguments::fill(rt, 2, &mut second);
+    answer(rt, &first[..m], &second[..n]);
 }
 
-// Arguments that can't be had, as one that is not UTF-8, are told, and nothing is answered.
 fn main(rt: HostRuntime) {
-    if let Err(error) = answer(&rt) {
-        let _told = eprintln!(rt; "vexil_compat: arguments: {error}");
+    match arguments::count(&rt) {
+        0 => compare_files(&rt, b"old.img", b"new.img"),
+        1 => answer_argument(&rt),
+        2 => answer_arguments(&rt),
+        _ => printing::print_usage(&rt),
     }
 }
