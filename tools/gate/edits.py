@@ -197,8 +197,9 @@ def environment(root: Path) -> dict[str, str]:
 
 
 def bad(lines: list[str]) -> list[str]:
-    """The edits that `rt` could not try, which fail nothing there."""
-    return [line.removeprefix("rt: ")[:200] for line in lines if re.match(r"rt: (must-fail )?\S+: (BAD EDIT|NOT TRIED)", line)]
+    """What `rt` says of edits that it could not try, which fail nothing there: of each, and how many in its line `rt: ok`."""
+    said = re.compile(r"rt: (must-fail )?\S+: (BAD EDIT|NOT TRIED)|rt: ok\b.*, \d+ bad\b")
+    return [line.removeprefix("rt: ")[:200] for line in lines if said.match(line)]
 
 
 def edits(root: Path) -> tuple[int, list[str]]:

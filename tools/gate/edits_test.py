@@ -153,6 +153,11 @@ class Edits(unittest.TestCase):
         said = "must-fail maps/1.edit: BAD EDIT: an 'old:' text is in src/lib.rt 0 times, and not once"
         self.assertEqual(edits.bad([f"rt: {said}", "rt: must-fail maps/2.edit: refused, as it must be", "rt: maps proved"]), [said])
 
+    def test_a_run_that_counts_bad_edits_fails(self):
+        counted = "ok; handles allowed: none; must-fail edits: 11 refused, 2 bad; every proof and must-fail edit was done in this run"
+        self.assertEqual(edits.bad([f"rt: {counted}"]), [counted])
+        self.assertEqual(edits.bad([f"rt: {counted.replace(', 2 bad', '')}"]), [])
+
     def test_an_edit_that_names_no_wrong_answer_fails(self):
         for text in ("", FIRST.partition("\n")[2], FIRST.partition("\n")[2] + SECOND):
             self.assertEqual(self.found(text, ("proofs/pairs/first/Answers.antt", FACT)), (0, ["must-fail maps/1: it has a wrong answer without a comment line"]))
