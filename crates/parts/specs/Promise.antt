@@ -12,7 +12,7 @@ use Rattle.image.specs.Parse.{Parsed, bind, little_endian, byte_at, many}
 use Rattle.image.specs.Names.{name_at, names_at}
 use Rattle.image.specs.Types.{label_of, type_of}
 use Rattle.image.specs.Fields.{plain, encoding_at, limit_at, field_at, bare_at, variant_at}
-use Rattle.image.specs.Bodies.{decl_at}
+use Rattle.image.specs.Bodies.{decl_at, body_of}
 use Rattle.image.specs.Image.{format, segment_count, segments_at, read_image}
 use Rattle.image.specs.WellFormed.{Good, value_or, end_of}
 use Rattle.parts.specs.declared.Entry.{Entry}
@@ -262,14 +262,18 @@ start_name s at = cond (eqb (start_kind s at) (number impl_kind)) [] (name_in s 
 abbrev pub bytes_in : List ℕ → ℕ → ℕ → List ℕ
 bytes_in s from count = take (from + count - from) (drop from s)
 
--- bytes of the image that hold the declaration of the entry of an id at their start
+-- what these bytes are read as, by the image's format
+abbrev pub body_in : List ℕ → ℕ → ℕ → Parsed Decl
+body_in s from count = body_of (format s) (bytes_in s from count)
+
+-- bytes of the image that are the declaration of the entry of an id, and nothing more
 pub record BodyIn (s : List ℕ) (id from count : ℕ) : Type 0 where
   pub inside : from + count ≤ length s
+  pub whole : Good (body_in s from count)
+  pub is : get_or (schema_of s).registry id none ≡ some (value_or no_decl (body_in s from count))
   pub here : StartHere (bytes_in s from count) 0
-  pub decl : Decl
-  pub is : get_or (schema_of s).registry id none ≡ some decl
-  pub kind : start_kind (bytes_in s from count) 0 ≡ decl.kind
-  pub name : start_name (bytes_in s from count) 0 ≡ decl.name
+  pub kind : start_kind (bytes_in s from count) 0 ≡ (value_or no_decl (body_in s from count)).kind
+  pub name : start_name (bytes_in s from count) 0 ≡ (value_or no_decl (body_in s from count)).name
 
 -- where the body of the entry of an id lies; no bytes, if the entry is empty
 pub record BodyOf (s : List ℕ) (id : ℕ) (r : Run) : Type 0 where

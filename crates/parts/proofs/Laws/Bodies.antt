@@ -120,9 +120,9 @@ module _ (s : List ℕ) (g : Accepted s) (id : ℕ) (l : id < length (schema_of 
           let h = started in
           record {
             inside = omega (arith, fits);
+            whole = rw same good;
+            is = (body_entry s g id id_within some_body).1 ∙ ap some (rw same in_image);
             here = rw same h.here;
-            decl = value_or no_decl (body_of (format s) body);
-            is = (body_entry s g id id_within some_body).1 ∙ ap some in_image;
             kind = rw same h.kind;
             name = rw same h.name;
           }
