@@ -20,7 +20,7 @@ use Rattle.rules.specs.Pinned.{told}
 use Rattle.rules.proofs.Equal.{names}
 use Rattle.rules.proofs.Computed.{reads, reports}
 use Rattle.refiling.specs.Refiling.{entries, Impls, NamesOnce, NumbersOnce, NoRepeats, Unresolvable, RefiledId, unresolvable, a_leaf, a_one, a_two, RefiledDecl, Renumbered, Refiled, RefiledImage}
-use Rattle.refiling.specs.Example.{first, first_anew, second, second_anew, Example}
+use Rattle.refiling.specs.Example.{first, first_anew, first_widened, second, second_anew, second_widened, Example}
 use Rattle.refiling.proofs.Tables.{Rows, renumbered_by, moved_id, plain_field, item, stays, primitive_anew, named_anew, field_anew, item_anew, decl_anew}
 use Rattle.refiling.proofs.FilingOrder.{refiled_image, filing_order}
 use Rattle.refiling.proofs.Relation.{refilings}
@@ -90,9 +90,10 @@ R =
     some (message (a (around 5 (named_type 1)) ∷ b 9 ∷ [])) ∷ some (union (x ∷ y (f ∷ g 0 ∷ []) ∷ [])) ∷ some (flags none (p ∷ q ∷ []))
     ∷ some impl ∷ some impl ∷ []
 
-abbrev R' : Registry
-R' =
-    none ∷ some (flags (some 1) (q ∷ p ∷ [])) ∷ some impl ∷ some (union (y (g 5 ∷ f ∷ []) ∷ x ∷ [])) ∷ some impl
+-- with the width that F has
+abbrev R' : Option ℕ → Registry
+R' w =
+    none ∷ some (flags w (q ∷ p ∷ [])) ∷ some impl ∷ some (union (y (g 5 ∷ f ∷ []) ∷ x ∷ [])) ∷ some impl
     ∷ some (message (b 0 ∷ a (around 5 (named_type 3)) ∷ [])) ∷ []
 
 abbrev S : Registry
@@ -100,9 +101,10 @@ S =
     some (message (a u8 ∷ b 5 ∷ [])) ∷ some (union (y (f ∷ h 1 ∷ []) ∷ [])) ∷ some (flags none (p ∷ [])) ∷ some (enum none (r ∷ s ∷ []))
     ∷ some (newtype (map_of 3)) ∷ some config ∷ []
 
-abbrev S' : Registry
-S' =
-    some (newtype (map_of 2)) ∷ some config ∷ some (enum (some 8) (s ∷ r ∷ [])) ∷ some (flags (some 4) (p ∷ [])) ∷ some (union (y (h 4 ∷ f ∷ []) ∷ []))
+-- with the widths that E and F have
+abbrev S' : Option ℕ → Option ℕ → Registry
+S' v w =
+    some (newtype (map_of 2)) ∷ some config ∷ some (enum v (s ∷ r ∷ [])) ∷ some (flags w (p ∷ [])) ∷ some (union (y (h 4 ∷ f ∷ []) ∷ []))
     ∷ some (message (b 1 ∷ a u8 ∷ [])) ∷ []
 
 abbrev ride_of : ℕ → Registry → List ℕ → Schema
@@ -112,17 +114,25 @@ first_read : read_image first ≡ ok (ride_of 1 R (0 ∷ 1 ∷ 2 ∷ 3 ∷ 9 ∷
 unfolding reads
 first_read = refl
 
-first_anew_read : read_image first_anew ≡ ok (ride_of 2 R' (4 ∷ 5 ∷ 0 ∷ 3 ∷ 1 ∷ 2 ∷ [])) 162
+first_anew_read : read_image first_anew ≡ ok (ride_of 1 (R' none) (4 ∷ 5 ∷ 0 ∷ 3 ∷ 1 ∷ 2 ∷ [])) 161
 unfolding reads
 first_anew_read = refl
+
+first_widened_read : read_image first_widened ≡ ok (ride_of 2 (R' (some 1)) (4 ∷ 5 ∷ 0 ∷ 3 ∷ 1 ∷ 2 ∷ [])) 162
+unfolding reads
+first_widened_read = refl
 
 second_read : read_image second ≡ ok (ride_of 1 S (0 ∷ 1 ∷ 2 ∷ 3 ∷ 4 ∷ [])) 173
 unfolding reads
 second_read = refl
 
-second_anew_read : read_image second_anew ≡ ok (ride_of 2 S' (0 ∷ 3 ∷ 5 ∷ 2 ∷ 4 ∷ [])) 175
+second_anew_read : read_image second_anew ≡ ok (ride_of 1 (S' none none) (0 ∷ 3 ∷ 5 ∷ 2 ∷ 4 ∷ [])) 173
 unfolding reads
 second_anew_read = refl
+
+second_widened_read : read_image second_widened ≡ ok (ride_of 2 (S' (some 8) (some 4)) (0 ∷ 3 ∷ 5 ∷ 2 ∷ 4 ∷ [])) 175
+unfolding reads
+second_widened_read = refl
 
 -- ---- no repeats
 
@@ -188,59 +198,60 @@ to i = get_or (5 ∷ 3 ∷ 1 ∷ 4 ∷ 2 ∷ []) i 0
 abbrev from : ℕ → ℕ
 from j = get_or (0 ∷ 2 ∷ 4 ∷ 1 ∷ 3 ∷ 0 ∷ []) j 0
 
--- the unresolvable id
-lost : RefiledId R R' to 9 0
-unfolding Unresolvable stands_for
-lost = unresolvable refl refl
+module _ (format : ℕ) (w : Option ℕ) where
+  -- the unresolvable id
+  lost : RefiledId R (R' w) to 9 0
+  unfolding Unresolvable stands_for
+  lost = unresolvable refl refl
 
-message_anew : RefiledDecl R R' to (message (a (around 5 (named_type 1)) ∷ b 9 ∷ [])) (message (b 0 ∷ a (around 5 (named_type 3)) ∷ []))
-unfolding stands_for
-message_anew =
-    decl_anew 0 _
-    (each (field_anew 0 _ (a_one (stays 5 0 [] (λ e. omega arith)) (named_anew (moved_id 1 refl))))
-    (each (field_anew 1 _ (named_anew lost)) nothing here) (later here))
-    nothing (primitive_anew 0)
+  message_anew : RefiledDecl R (R' w) to (message (a (around 5 (named_type 1)) ∷ b 9 ∷ [])) (message (b 0 ∷ a (around 5 (named_type 3)) ∷ []))
+  unfolding stands_for
+  message_anew =
+      decl_anew 0 _
+      (each (field_anew 0 _ (a_one (stays 5 0 [] (λ e. omega arith)) (named_anew (moved_id 1 refl))))
+      (each (field_anew 1 _ (named_anew lost)) nothing here) (later here))
+      nothing (primitive_anew 0)
 
-union_anew : RefiledDecl R R' to (union (x ∷ y (f ∷ g 0 ∷ []) ∷ [])) (union (y (g 5 ∷ f ∷ []) ∷ x ∷ []))
-unfolding stands_for
-union_anew =
-    decl_anew 3 _ nothing
-    (each (item_anew 0 _ nothing)
-    (each
-    (item_anew 1 _
-    (each (field_anew 0 _ (primitive_anew 1)) (each (field_anew 1 _ (named_anew (moved_id 0 refl))) nothing here) (later here)))
-    nothing here) (later here))
-    (primitive_anew 0)
+  union_anew : RefiledDecl R (R' w) to (union (x ∷ y (f ∷ g 0 ∷ []) ∷ [])) (union (y (g 5 ∷ f ∷ []) ∷ x ∷ []))
+  unfolding stands_for
+  union_anew =
+      decl_anew 3 _ nothing
+      (each (item_anew 0 _ nothing)
+      (each
+      (item_anew 1 _
+      (each (field_anew 0 _ (primitive_anew 1)) (each (field_anew 1 _ (named_anew (moved_id 0 refl))) nothing here) (later here)))
+      nothing here) (later here))
+      (primitive_anew 0)
 
-flags_anew : RefiledDecl R R' to (flags none (p ∷ q ∷ [])) (flags (some 1) (q ∷ p ∷ []))
-flags_anew = decl_anew 2 _ nothing (each (item_anew 0 _ nothing) (each (item_anew 1 _ nothing) nothing here) (later here)) (primitive_anew 0)
+  flags_anew : RefiledDecl R (R' w) to (flags none (p ∷ q ∷ [])) (flags w (q ∷ p ∷ []))
+  flags_anew = decl_anew 2 _ nothing (each (item_anew 0 _ nothing) (each (item_anew 1 _ nothing) nothing here) (later here)) (primitive_anew 0)
 
-impl_anew : RefiledDecl R R' to impl impl
-impl_anew = decl_anew 8 _ nothing nothing (primitive_anew 0)
+  impl_anew : RefiledDecl R (R' w) to impl impl
+  impl_anew = decl_anew 8 _ nothing nothing (primitive_anew 0)
 
-first_renumbered : Renumbered R R' to from
-unfolding Rows stands_for
-first_renumbered =
-    renumbered_by R R' to from (
-      (_, refl, refl, message_anew),
-      ((_, refl, refl, union_anew), ((_, refl, refl, flags_anew), ((_, refl, refl, impl_anew), ((_, refl, refl, impl_anew), tt)))),
-    )
-    ((_, refl, refl), ((_, refl, refl), ((_, refl, refl), ((_, refl, refl), ((_, refl, refl), tt)))))
+  first_renumbered : Renumbered R (R' w) to from
+  unfolding Rows stands_for
+  first_renumbered =
+      renumbered_by R (R' w) to from (
+        (_, refl, refl, message_anew),
+        ((_, refl, refl, union_anew), ((_, refl, refl, flags_anew), ((_, refl, refl, impl_anew), ((_, refl, refl, impl_anew), tt)))),
+      )
+      ((_, refl, refl), ((_, refl, refl), ((_, refl, refl), ((_, refl, refl), ((_, refl, refl), tt)))))
 
-first_anew_lem : Refiled (ride_of 1 R (0 ∷ 1 ∷ 2 ∷ 3 ∷ 9 ∷ 4 ∷ [])) (ride_of 2 R' (4 ∷ 5 ∷ 0 ∷ 3 ∷ 1 ∷ 2 ∷ []))
-unfolding stands_for
-first_anew_lem = record {
-  to = to;
-  from = from;
-  registry = first_renumbered;
-  ids =
-      each (moved_id 0 refl)
-      (each (moved_id 1 refl)
-      (each (moved_id 2 refl)
-      (each (moved_id 3 refl)
-      (each lost (each (moved_id 4 refl) nothing here) here) here) (later (later here))) (later (later here))) (later here);
-  namespace = refl;
-}
+  first_anew_lem : Refiled (ride_of 1 R (0 ∷ 1 ∷ 2 ∷ 3 ∷ 9 ∷ 4 ∷ [])) (ride_of format (R' w) (4 ∷ 5 ∷ 0 ∷ 3 ∷ 1 ∷ 2 ∷ []))
+  unfolding stands_for
+  first_anew_lem = record {
+    to = to;
+    from = from;
+    registry = first_renumbered;
+    ids =
+        each (moved_id 0 refl)
+        (each (moved_id 1 refl)
+        (each (moved_id 2 refl)
+        (each (moved_id 3 refl)
+        (each lost (each (moved_id 4 refl) nothing here) here) here) (later (later here))) (later (later here))) (later here);
+    namespace = refl;
+  }
 
 -- ---- the second filed anew
 
@@ -250,74 +261,81 @@ on i = get_or (5 ∷ 4 ∷ 3 ∷ 2 ∷ 0 ∷ 1 ∷ []) i 9
 abbrev off : ℕ → ℕ
 off j = get_or (4 ∷ 5 ∷ 3 ∷ 2 ∷ 1 ∷ 0 ∷ []) j 9
 
-later_message : RefiledDecl S S' on (message (a u8 ∷ b 5 ∷ [])) (message (b 1 ∷ a u8 ∷ []))
-unfolding stands_for
-later_message =
-    decl_anew 0 _ (each (field_anew 0 _ (primitive_anew 1)) (each (field_anew 1 _ (named_anew (moved_id 5 refl))) nothing here) (later here))
-    nothing (primitive_anew 0)
+module _ (format : ℕ) (v w : Option ℕ) where
+  later_message : RefiledDecl S (S' v w) on (message (a u8 ∷ b 5 ∷ [])) (message (b 1 ∷ a u8 ∷ []))
+  unfolding stands_for
+  later_message =
+      decl_anew 0 _ (each (field_anew 0 _ (primitive_anew 1)) (each (field_anew 1 _ (named_anew (moved_id 5 refl))) nothing here) (later here))
+      nothing (primitive_anew 0)
 
-later_union : RefiledDecl S S' on (union (y (f ∷ h 1 ∷ []) ∷ [])) (union (y (h 4 ∷ f ∷ []) ∷ []))
-unfolding stands_for
-later_union =
-    decl_anew 3 _ nothing
-    (each
-    (item_anew 1 _
-    (each (field_anew 0 _ (primitive_anew 1)) (each (field_anew 1 _ (named_anew (moved_id 1 refl))) nothing here) (later here)))
-    nothing here)
-    (primitive_anew 0)
+  later_union : RefiledDecl S (S' v w) on (union (y (f ∷ h 1 ∷ []) ∷ [])) (union (y (h 4 ∷ f ∷ []) ∷ []))
+  unfolding stands_for
+  later_union =
+      decl_anew 3 _ nothing
+      (each
+      (item_anew 1 _
+      (each (field_anew 0 _ (primitive_anew 1)) (each (field_anew 1 _ (named_anew (moved_id 1 refl))) nothing here) (later here)))
+      nothing here)
+      (primitive_anew 0)
 
-later_flags : RefiledDecl S S' on (flags none (p ∷ [])) (flags (some 4) (p ∷ []))
-later_flags = decl_anew 2 _ nothing (each (item_anew 0 _ nothing) nothing here) (primitive_anew 0)
+  later_flags : RefiledDecl S (S' v w) on (flags none (p ∷ [])) (flags w (p ∷ []))
+  later_flags = decl_anew 2 _ nothing (each (item_anew 0 _ nothing) nothing here) (primitive_anew 0)
 
-enum_anew : RefiledDecl S S' on (enum none (r ∷ s ∷ [])) (enum (some 8) (s ∷ r ∷ []))
-enum_anew = decl_anew 1 _ nothing (each (item_anew 0 _ nothing) (each (item_anew 1 _ nothing) nothing here) (later here)) (primitive_anew 0)
+  enum_anew : RefiledDecl S (S' v w) on (enum none (r ∷ s ∷ [])) (enum v (s ∷ r ∷ []))
+  enum_anew = decl_anew 1 _ nothing (each (item_anew 0 _ nothing) (each (item_anew 1 _ nothing) nothing here) (later here)) (primitive_anew 0)
 
-newtype_anew : RefiledDecl S S' on (newtype (map_of 3)) (newtype (map_of 2))
-unfolding stands_for
-newtype_anew =
-    decl_anew 4 _ nothing nothing
-    (a_two (stays 8 0 [] (λ e. omega arith)) (named_anew (moved_id 3 refl)) (a_leaf (stays 16 0 _ (λ e. omega arith))))
+  newtype_anew : RefiledDecl S (S' v w) on (newtype (map_of 3)) (newtype (map_of 2))
+  unfolding stands_for
+  newtype_anew =
+      decl_anew 4 _ nothing nothing
+      (a_two (stays 8 0 [] (λ e. omega arith)) (named_anew (moved_id 3 refl)) (a_leaf (stays 16 0 _ (λ e. omega arith))))
 
-config_anew : RefiledDecl S S' on config config
-config_anew = decl_anew 5 _ nothing nothing (primitive_anew 0)
+  config_anew : RefiledDecl S (S' v w) on config config
+  config_anew = decl_anew 5 _ nothing nothing (primitive_anew 0)
 
-second_renumbered : Renumbered S S' on off
-unfolding Rows stands_for
-second_renumbered =
-    renumbered_by S S' on off (
-      (_, refl, refl, later_message),
-      (
-        (_, refl, refl, later_union),
+  second_renumbered : Renumbered S (S' v w) on off
+  unfolding Rows stands_for
+  second_renumbered =
+      renumbered_by S (S' v w) on off (
+        (_, refl, refl, later_message),
         (
-          (_, refl, refl, later_flags),
-          ((_, refl, refl, enum_anew), ((_, refl, refl, newtype_anew), ((_, refl, refl, config_anew), tt))),
+          (_, refl, refl, later_union),
+          (
+            (_, refl, refl, later_flags),
+            ((_, refl, refl, enum_anew), ((_, refl, refl, newtype_anew), ((_, refl, refl, config_anew), tt))),
+          ),
         ),
-      ),
-    )
-    ((_, refl, refl), ((_, refl, refl), ((_, refl, refl), ((_, refl, refl), ((_, refl, refl), ((_, refl, refl), tt))))))
+      )
+      ((_, refl, refl), ((_, refl, refl), ((_, refl, refl), ((_, refl, refl), ((_, refl, refl), ((_, refl, refl), tt))))))
 
-second_anew_lem : Refiled (ride_of 1 S (0 ∷ 1 ∷ 2 ∷ 3 ∷ 4 ∷ [])) (ride_of 2 S' (0 ∷ 3 ∷ 5 ∷ 2 ∷ 4 ∷ []))
-unfolding stands_for
-second_anew_lem = record {
-  to = on;
-  from = off;
-  registry = second_renumbered;
-  ids =
-      each (moved_id 0 refl)
-      (each (moved_id 1 refl)
-      (each (moved_id 2 refl)
-      (each (moved_id 3 refl) (each (moved_id 4 refl) nothing here) (later here)) (later here)) (later (later (later here))))
-      (later (later here));
-  namespace = refl;
-}
+  second_anew_lem : Refiled (ride_of 1 S (0 ∷ 1 ∷ 2 ∷ 3 ∷ 4 ∷ [])) (ride_of format (S' v w) (0 ∷ 3 ∷ 5 ∷ 2 ∷ 4 ∷ []))
+  unfolding stands_for
+  second_anew_lem = record {
+    to = on;
+    from = off;
+    registry = second_renumbered;
+    ids =
+        each (moved_id 0 refl)
+        (each (moved_id 1 refl)
+        (each (moved_id 2 refl)
+        (each (moved_id 3 refl) (each (moved_id 4 refl) nothing here) (later here)) (later here)) (later (later (later here))))
+        (later (later here));
+    namespace = refl;
+  }
 
 -- ---- the reports
 
 old_anew_lem : RefiledImage NoRepeats first first_anew
-old_anew_lem = refiled_image first_read first_anew_read first_once first_anew_lem
+old_anew_lem = refiled_image first_read first_anew_read first_once (first_anew_lem 1 none)
+
+old_widened : RefiledImage NoRepeats first first_widened
+old_widened = refiled_image first_read first_widened_read first_once (first_anew_lem 2 (some 1))
 
 new_anew_lem : RefiledImage NoRepeats second second_anew
-new_anew_lem = refiled_image second_read second_anew_read second_once second_anew_lem
+new_anew_lem = refiled_image second_read second_anew_read second_once (second_anew_lem 1 none none)
+
+new_widened : RefiledImage NoRepeats second second_widened
+new_widened = refiled_image second_read second_widened_read second_once (second_anew_lem 2 (some 8) (some 4))
 
 old_same : RefiledImage NoRepeats first first
 old_same = refiled_image first_read first_read first_once (refilings.itself _)
@@ -339,4 +357,8 @@ example = record {
   old_anew = same_told first_anew second old_anew_lem new_same;
   new_anew = same_told first second_anew old_same new_anew_lem;
   both_anew = same_told first_anew second_anew old_anew_lem new_anew_lem;
+  old_widened = old_widened;
+  new_widened = new_widened;
+  both_widened = same_told first_widened second_widened old_widened new_widened;
+  either = same_told first_widened second_anew old_widened new_anew_lem;
 }

@@ -1,4 +1,4 @@
--- R-13 at work: two releases, each filed anew, with the report that all four pairs get; how the readings of its premise differ; and what
+-- R-13 at work: two releases, each filed anew, in either format, with the report that all pairs get; how the readings of its premise differ; and what
 -- can't be left out of it. Assumes nothing.
 use Rattle.std.specs.Prelude.{◌≡◌, List, [], ◌∷◌, map, ℕ}
 use Rattle.std.proofs.Math.Option.{none, some}
@@ -28,10 +28,25 @@ first =
     ∷ "08"
     ∷ [])
 
--- The same filed anew, in format 2 with a wire byte for F: 0 is empty, F is 1, the impls are 2 and 4, U is 3, M is 5; the unresolvable id is 0;
--- every body is the other way round. Listed: 4 5 0 3 1 2.
+-- The same filed anew: 0 is empty, F is 1, the impls are 2 and 4, U is 3, M is 5; the unresolvable id is 0; every body is the other way round.
+-- Listed: 4 5 0 3 1 2.
 abbrev pub first_anew : List ℕ
 first_anew =
+    image
+    ("01 00 06 00 06 00 01 00"
+    ∷ "00 00 00 00 3d 00 11 00 4e 00 01 00 4f 00 2e 00 7d 00 01 00 7e 00 23 00"
+    ∷ "04 00 00 00 05 00 00 00 00 00 00 00 03 00 00 00 01 00 00 00 02 00 00 00"
+    ∷ "04 72 69 64 65"
+    ∷ "02 01 46 02 00 01 00 00 00 01 71 00 00 00 00 01 70"
+    ∷ "08"
+    ∷ "03 01 55 02 00 01 00 00 00 01 79 02 00 01 00 00 00 01 67 00 00 00 03 05 00 00 00 00 00 00 00 01 66 00 00 00 00 01 00 00 00 00 01 78 00 00"
+    ∷ "08"
+    ∷ "00 01 4d 00 02 00 01 00 00 00 01 62 00 00 00 03 00 00 00 00 00 00 00 00 01 61 00 00 00 05 03 03 00 00 00"
+    ∷ [])
+
+-- So filed in format 2, with a wire byte for F.
+abbrev pub first_widened : List ℕ
+first_widened =
     image
     ("02 00 06 00 06 00 01 00"
     ∷ "00 00 00 00 3d 00 12 00 4f 00 01 00 50 00 2e 00 7e 00 01 00 7f 00 23 00"
@@ -61,10 +76,25 @@ second =
     ∷ "05 01 4b"
     ∷ [])
 
--- The same filed anew, in format 2 with 8 wire bits for E and 4 wire bytes for F: N is 0, K is 1, E is 2, F is 3, U is 4, M is 5; every body is
--- the other way round. Listed: 0 3 5 2 4.
+-- The same filed anew: N is 0, K is 1, E is 2, F is 3, U is 4, M is 5; every body is the other way round. Listed: 0 3 5 2 4.
 abbrev pub second_anew : List ℕ
 second_anew =
+    image
+    ("01 00 06 00 05 00 01 00"
+    ∷ "39 00 0f 00 48 00 03 00 4b 00 12 00 5d 00 0b 00 68 00 26 00 8e 00 1f 00"
+    ∷ "00 00 00 00 03 00 00 00 05 00 00 00 02 00 00 00 04 00 00 00"
+    ∷ "04 72 69 64 65"
+    ∷ "04 01 4e 08 03 02 00 00 00 10 02 01 69 01 6a"
+    ∷ "05 01 4b"
+    ∷ "01 01 45 00 02 00 01 00 00 00 01 73 00 00 00 00 01 72"
+    ∷ "02 01 46 01 00 00 00 00 00 01 70"
+    ∷ "03 01 55 01 00 01 00 00 00 01 79 02 00 01 00 00 00 01 68 00 00 00 03 04 00 00 00 00 00 00 00 01 66 00 00 00 00 01"
+    ∷ "00 01 4d 00 02 00 01 00 00 00 01 62 00 00 00 03 01 00 00 00 00 00 00 00 01 61 00 00 00 00 01"
+    ∷ [])
+
+-- So filed in format 2, with 8 wire bits for E and 4 wire bytes for F.
+abbrev pub second_widened : List ℕ
+second_widened =
     image
     ("02 00 06 00 05 00 01 00"
     ∷ "39 00 0f 00 48 00 03 00 4b 00 13 00 5e 00 0c 00 6a 00 26 00 90 00 1f 00"
@@ -96,6 +126,11 @@ pub record Example : Type 0 where
   pub old_anew : told first_anew second ≡ told first second
   pub new_anew : told first second_anew ≡ told first second
   pub both_anew : told first_anew second_anew ≡ told first second
+  -- and in format 2, also beside images of format 1
+  pub old_widened : RefiledImage NoRepeats first first_widened
+  pub new_widened : RefiledImage NoRepeats second second_widened
+  pub both_widened : told first_widened second_widened ≡ told first second
+  pub either : told first_widened second_anew ≡ told first second
 
 -- ---- the readings of the premise
 

@@ -14,10 +14,9 @@ use Rattle.rules.specs.Answer.{plain_reading}
 unfoldable pub told : Schema → Schema → List ℕ
 told old new = report (changes plain_reading (view_of old) (view_of new))
 
--- of format 2, which the mended verdict asks for and the others ignore; no namespace; entry 0 is declared, under the name A; a second entry
--- may follow it
+-- of format 1; no namespace; entry 0 is declared, under the name A; a second entry may follow it
 abbrev pub schema : Decl → List (Option Decl) → Schema
-schema d more = record { format = 2; registry = some d ∷ more; ids = 0 ∷ []; namespace = [] }
+schema d more = record { format = 1; registry = some d ∷ more; ids = 0 ∷ []; namespace = [] }
 
 -- ---- newtypes
 
@@ -66,12 +65,8 @@ non_exhaustive = record { deprecated = false; non_exhaustive = true }
 abbrev pub variant : ℕ → String → Variant
 variant ordinal name = record { ordinal = ordinal; name = bytes name; fields = [] }
 
--- with a width in wire bits
-abbrev pub enum_of : ℕ → Marks → List Variant → Schema
-enum_of width marks vs = schema (decl (number enum_kind) (bytes "A") marks (some width) [] vs no_type) []
-
 abbrev pub enum : Marks → List Variant → Schema
-enum marks vs = enum_of 8 marks vs
+enum marks vs = schema (decl (number enum_kind) (bytes "A") marks none [] vs no_type) []
 
 abbrev pub union : List Variant → Schema
 union vs = schema (decl (number union_kind) (bytes "A") unmarked none [] vs no_type) []

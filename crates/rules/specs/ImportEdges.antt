@@ -84,7 +84,7 @@ links from (suc n) = some (link from) ∷ links (suc from) n
 
 -- entries 0 to n, of which 0 is listed; what n names is unresolvable
 unfoldable pub chain : ℕ → Schema
-chain n = record { format = 2; registry = links 0 (suc n); ids = 0 ∷ []; namespace = [] }
+chain n = record { format = 1; registry = links 0 (suc n); ids = 0 ∷ []; namespace = [] }
 
 pub record ImportEdges : Type 0 where
   -- what is imported has changed

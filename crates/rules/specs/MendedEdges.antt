@@ -3,15 +3,23 @@
 use Rattle.std.specs.Prelude.{◌≡◌, List, [], ◌∷◌, ℕ}
 use Rattle.std.proofs.Math.Option.{none, some}
 use Prim.Native.String.{String}
-use Rattle.image.specs.Schema.{unmarked, Ty, no_type, Variant, Decl, decl, Schema}
-use Rattle.image.specs.Codes.{number, flags_kind, vec2_tag, vec3_tag, vec4_tag, quat_tag, mat3_tag, mat4_tag}
+use Rattle.image.specs.Schema.{Marks, unmarked, Ty, no_type, Variant, Decl, decl, Schema}
+use Rattle.image.specs.Codes.{number, enum_kind, flags_kind, vec2_tag, vec3_tag, vec4_tag, quat_tag, mat3_tag, mat4_tag}
 use Rattle.image.specs.Words.{bytes}
 use Rattle.rules.specs.Types.{resolve}
 use Rattle.rules.specs.Answer.{Policy, plain}
 use Rattle.rules.specs.Imports.{imports}
 use Rattle.rules.specs.Mended.{equal, alike, different, likeness, mended}
-use Rattle.rules.specs.Edges.{schema, newtype, named, around, fixed_array, u8, f32, deprecated, non_exhaustive, field, message, variant, enum_of, union, silent}
-use Rattle.rules.specs.ImportEdges.{told, entry, naming, holding, listing, optional, map, result, under, field_naming}
+use Rattle.rules.specs.Edges.{schema, newtype, named, around, fixed_array, u8, f32, deprecated, non_exhaustive, field, message, variant, union, silent}
+use Rattle.rules.specs.ImportEdges.{told as told_of, entry, naming, holding, listing, optional, map, result, under, field_naming}
+
+-- in format 2, which the mended verdict asks for and the others ignore
+abbrev pub in_two : Schema → Schema
+in_two s = record { format = 2; registry = s.registry; ids = s.ids; namespace = s.namespace }
+
+-- the report of two schemas in format 2
+abbrev pub told : Policy → Schema → Schema → List ℕ
+told p old new = told_of p (in_two old) (in_two new)
 
 abbrev pub vec2 : Ty → Ty
 vec2 t = around (number vec2_tag) t
@@ -44,6 +52,10 @@ by_field t = holding (message (field_naming ∷ [])) (entry "B" t ∷ [])
 -- the type that names B there
 abbrev pub to_b : Ty → Ty
 to_b t = resolve (by_field t).registry (named 1)
+
+-- A is an enum of a width in wire bits
+abbrev pub enum_of : ℕ → Marks → List Variant → Schema
+enum_of width marks vs = schema (decl (number enum_kind) (bytes "A") marks (some width) [] vs no_type) []
 
 -- flags of a width in wire bytes, under a name; A is one, or A an enum and B is one
 abbrev pub flags_named : String → ℕ → List Variant → Decl
