@@ -12,7 +12,7 @@ from pathlib import Path
 ROOT = Path(__file__).resolve().parents[2]
 sys.path.append(str(ROOT / "tools"))
 import pairs  # noqa: E402
-from pairs import SAMPLE, SAMPLE_REPORT, both_bad, files, listings, of_record, output, samples, told  # noqa: E402
+from pairs import SAMPLE, SAMPLE_REPORT, both_bad, files, formats, listings, of_record, output, samples, told  # noqa: E402
 
 CRATE = ROOT / "crates" / "program"
 PROGRAM = ROOT / "target" / "bin" / "vexil_compat"
@@ -141,5 +141,5 @@ def without_output(suite: Suite):
 
 
 if __name__ == "__main__":
-    groups = (of_the_gate, samples, files, both_bad, of_record, without_arguments, paths, long_files, pieces, listings)
+    groups = (of_the_gate, formats, samples, files, both_bad, of_record, without_arguments, paths, long_files, pieces, listings)
     sys.exit(Suite.run(*groups, usage, asked_for_help, without_output))

@@ -7,7 +7,7 @@ pub fn list(rt: &(impl Print + Eprint), image: &[u8]) {
     let mut out = [0u8; 65536];
     let answer = checked(image, out.len());
     if answer.number != 0 {
-        print_refusal(rt, answer.number, answer.side);
+        print_refusal(rt, answer.number as u64, answer.side as u64);
         return;
     }
     write_listing(image, &mut out);

@@ -1,5 +1,5 @@
 // Image files, read as far as their bytes decide anything.
-ghost use Rattle.std.specs.Prelude.{◌≤◌, length};
+ghost use Rattle.std.specs.Prelude.{◌≡◌, ◌≤◌, length, take};
 
 use std::fs;
 use std::io::Read;
@@ -16,7 +16,7 @@ pub fn blank() -> [u8; ROOM] {
 // The start of a file, and how many bytes it has; none if the file can't be opened or read. A path is text: one that is not UTF-8 can't be
 // opened.
 pub fn read_start(files: &impl Files, path: &[u8], image: &mut [u8]) -> usize
-    ensures { result ≤ length image.new }
+    ensures { (result ≤ length image.new) × (result ≡ length (take result image.new)) }
 {
     let Ok(path) = str::from_utf8(path) else {
         return 0;
@@ -28,7 +28,7 @@ pub fn read_start(files: &impl Files, path: &[u8], image: &mut [u8]) -> usize
 }
 
 fn read_opened(file: impl Read + Drop, image: &mut [u8]) -> usize
-    ensures { result ≤ length image.new }
+    ensures { (result ≤ length image.new) × (result ≡ length (take result image.new)) }
 {
     let mut file = file;
     let mut filled = 0;

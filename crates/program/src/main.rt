@@ -14,7 +14,7 @@ fn compare(rt: &(impl Print + Eprint), old: &[u8], new: &[u8]) {
     let mut out = [0u8; 65536];
     let verdict = compat::report(compat::policies::Policy::Plain, old, new, &mut out);
     if verdict.number != 0 {
-        printing::print_refusal(rt, verdict.number, verdict.side);
+        printing::print_refusal(rt, verdict.number as u64, verdict.side as u64);
         return;
     }
     printing::print_text(rt, &out, verdict.length);

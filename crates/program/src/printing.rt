@@ -27,7 +27,7 @@ pub fn print_text(rt: &(impl Print + Eprint), buffer: &[u8], length: usize) {
 }
 
 // As `refused 9 old`.
-pub fn print_refusal(rt: &(impl Print + Eprint), number: u8, side: u8) {
+pub fn print_refusal(rt: &(impl Print + Eprint), number: u64, side: u64) {
     let word = match side {
         1 => "old",
         2 => "new",

@@ -15,7 +15,7 @@ use counting::{Step, Tally, compared, more};
 use file::Number;
 use reader::Acceptance;
 use std::fs;
-use std::io::{self, BufReader, Read, Write};
+use std::io::{self, Read, Write};
 use values::ROOM;
 
 // The largest image that the file may hold.
@@ -283,9 +283,8 @@ fn replay_file(rt: &impl Print, file: &mut impl Read) -> Step {
 }
 
 fn main(rt: HostRuntime) -> io::Result<()> {
-    let file = fs::open(&rt, "answers.bin")?;
-    let mut reader = BufReader::new(rt.alloc(), file)?;
-    let run = replay_file(&rt, &mut reader);
+    let mut file = fs::open(&rt, "answers.bin")?;
+    let run = replay_file(&rt, &mut file);
     let Step::Next(t) = run else {
         return println!(rt; "the file is not as it should be");
     };
