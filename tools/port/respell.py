@@ -1,7 +1,8 @@
 #!/usr/bin/env python3
 """Spells the repository's own definitions and lemmas in snake case, as the library's words are: `readImage` and `entry-part` as `read_image` and `entry_part`.
 
-usage: respell.py [FOLDER]   in FOLDER, or here: crates/ and the code spans of the documents are rewritten in place
+usage: respell.py [FOLDER]           in FOLDER, or here: crates/ and the code spans of the documents are rewritten in place
+       respell.py --names [FOLDER]   writes nothing, and lists the names that would turn, old and new
 
 It was run once, after the toolchain's own port.py, which respells only the names that its library shares. Names stay that Rattle makes (behind `goal.` and `c.`, and what
 Answers and Invariants answer), that a library declares, and of src/ all but clauses. Where a lemma and the definition that it is of would fall together the lemma ends in `_lem`.
@@ -29,8 +30,6 @@ GOALS = {"c", "goal"}
 GOALS_OF = re.compile(r"\.(?:Goals|Given)\b")
 OURS = re.compile(r"Rattle\.(?!std\b|core\b)")
 
-# Names whose words read otherwise than their capitals say.
-WRITTEN = {"fitsU16": "fits_u16", "fitsU32": "fits_u32"}
 # Lemmas that would fall together with the definition that they are of, as they stood; `X` alone is `X_lem`.
 LEMMAS = set(
     """
@@ -51,8 +50,6 @@ def is_odd(name):
 
 
 def snake(name):
-    if name in WRITTEN:
-        return WRITTEN[name]
     words = re.sub(r"(?<=[a-z0-9])(?=[A-Z])", "_", name).replace("-", "_").lower()
     return words + "_lem" if name in LEMMAS else words
 
@@ -173,8 +170,13 @@ def respell_page(path, own):
     return text, SPAN.sub(turn, text)
 
 
-def main(root="."):
+def main(*words):
+    root = words[-1] if words and words[-1] != "--names" else "."
     own = own_names(root)
+    if words[:1] == ("--names",):
+        for name in sorted(own):
+            print(f"{name}\t{own[name]}")
+        return
     pages = [os.path.join(root, "README.md")]
     pages += [os.path.join(d, f) for d, _, fs in os.walk(os.path.join(root, "docs")) for f in sorted(fs) if f.endswith(".md") and not f.startswith("PORT")]
     work = [(p, respell_file(p, own)) for p in files(root, ".antt", ".rt")]
