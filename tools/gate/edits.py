@@ -103,7 +103,7 @@ def errors_of(log: str) -> list[str]:
     for line in log.splitlines():
         if ": error: " in line:
             found.append(line)
-        elif found and line.startswith("  "):
+        elif found and found[-1] and line.startswith("  "):
             found[-1] += line
         else:
             found.append("")

@@ -87,6 +87,10 @@ class Edits(unittest.TestCase):
         hint = FACT + "\n  `k` is not in scope here, so what is shown does not paste back as it stands"
         self.assertEqual(self.found(FIRST, ("proofs/pairs/first/Answers.antt", hint)), (1, []))
 
+    def test_help_that_goes_on_over_lines_is_no_error(self):
+        constant = "# side\nfile: src/pairs.rt\nold: const SIDE: u8 = 1;\nnew: const SIDE: u8 = 2;\n"
+        self.assertEqual(self.said(constant, "help: write the answer\n    pub returns : goal.returns\nlogic=not-proved\n"), (0, ["must-fail maps/1: side: no error in its log"]))
+
     def test_wrong_answers_that_each_break_a_fact_pass(self):
         errors = [("proofs/pairs/first/Answers.antt", FACT), ("proofs/pairs/Pair/second/Answers.antt", FACT)]
         self.assertEqual(self.found(FIRST + SECOND, *errors), (2, []))
