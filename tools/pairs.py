@@ -4,6 +4,7 @@ It needs target/oracle/oracle.
 """
 
 import itertools
+import re
 import struct
 import subprocess
 import tempfile
@@ -181,14 +182,27 @@ def sample_files(*names: str) -> list[Path]:
     return [ROOT / "samples" / f"{name}.img" for name in names]
 
 
+def without_widths(suite: Suite, name: str) -> Path:
+    """A sample of format 2 as format 1 has it, made by the oracle from its text."""
+    text, image = (suite.folder / f"{name}-1.{ending}" for ending in ("txt", "img"))
+    of_two = (ROOT / "samples" / f"{name}.txt").read_text()
+    text.write_text(re.sub(r"(?m) width \d+$", "", of_two.removeprefix("format 2\n")))
+    assert told(ORACLE, "make", text, image)[0] == 0, f"oracle make {text}"
+    return image
+
+
 def formats(suite: Suite):
-    """The sample pair in both formats: the mended verdict needs format 2 on both sides, the others read them alike."""
+    """The sample pair in both formats, and samples of format 2 in format 1: the mended verdict needs format 2 on both sides, the others read both alike."""
     for numbers in itertools.product((1, 2), repeat=2):
         (old, swapped), (same, new) = map(suite.sample, numbers)
         read = suite.verdict != MENDED or numbers == (2, 2)
         suite.files(f"the sample in {numbers}", old, new, SAMPLE_REPORT if read else MIXED)
         suite.files(f"against itself in {numbers}", old, same, "Compatible;Patch;0\n" if read else MIXED)
         suite.files(f"swapped in {numbers}", swapped, same)
+    for name in (*NOT_SEEN, "import", "width"):
+        names = f"{name}-old", f"{name}-new"
+        printed = MIXED if suite.verdict == MENDED else suite.asked(*sample_files(*names))[1]
+        suite.files(f"{name} in format 1", *(without_widths(suite, name) for name in names), printed)
     old, new = suite.sample(2)
     for number in (0, 3, 258):
         other = suite.image("other", in_format(SAMPLE[0].read_bytes(), number))
