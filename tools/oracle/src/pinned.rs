@@ -46,6 +46,23 @@ pub struct Pin {
     pub said: Said,
 }
 
+impl Pin {
+    /// The name of its recorded pair, in which each further word of an image's name
+    /// has a capital: `richOld` for `rich_old`.
+    pub fn recorded(&self) -> String {
+        let names = self.names.each_ref().map(|name| joined(name));
+        format!("pinned {}", names.join(" "))
+    }
+}
+
+fn joined(name: &str) -> String {
+    let mut words = name.split('_');
+    let first = words.next().unwrap_or_default().to_string();
+    words.fold(first, |joined, word| {
+        joined + &word[..1].to_uppercase() + &word[1..]
+    })
+}
+
 /// All that is pinned, in the order of the file.
 pub fn pins() -> &'static [Pin] {
     static PINS: OnceLock<Vec<Pin>> = OnceLock::new();

@@ -8,7 +8,7 @@ use crate::pinned::pins;
 pub fn add(cases: &mut Cases, records: &[&str]) {
     let of_records = |record: &str| records.contains(&record);
     for pin in pins().iter().filter(|pin| of_records(&pin.record)) {
-        let name = format!("pinned {}", pin.names.join(" "));
+        let name = pin.recorded();
         if !cases.has(&name) {
             let [old, new] = pin.images.clone();
             cases.bytes(&name, old, new);

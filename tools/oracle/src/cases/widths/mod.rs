@@ -68,7 +68,7 @@ fn written_anew(cases: &mut Cases, by_hand: usize) {
 /// What is pinned of the mended verdict is of format 2, mostly: the same in format 1.
 fn pinned(cases: &mut Cases) {
     for pin in pins().iter().filter(|pin| pin.record == "PinnedMended") {
-        let name = format!("pinned {}, format 1", pin.names.join(" "));
+        let name = format!("{}, format 1", pin.recorded());
         let [old, new] = pin.images.each_ref().map(|image| written(image, 1));
         if !cases.has(&name) {
             cases.bytes(&name, old, new);
