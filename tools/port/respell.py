@@ -18,7 +18,7 @@ NAME = rf"[^{SEPARATORS}]+"
 CHAIN = re.compile(rf"{NAME}(?:\.{NAME})*")
 ANSWERS = re.compile(r"/proofs/(?:.*/)?(?:Answers|Invariants|Proof)\.antt$")
 ANSWER = re.compile(rf"^(?:(?:pub|abbrev|unfoldable) +)*({NAME}) : *\n? *goal\.", re.M)
-SIGNED = re.compile(rf"^ +(?:(?:pub|abbrev|unfoldable) +)*({NAME})(?: [({{][^\n]*?[)}}])* :(?= |$)", re.M)
+SIGNED = re.compile(rf"^( *)(?:(?:pub|abbrev|unfoldable) +)*({NAME})(?: [({{][^\n]*?[)}}])* :(?= |$)", re.M)
 IMPORT = re.compile(r"\buse ([\w.]+)\.\{([^}]*)\}")
 QUIET = re.compile(r'--[^\n]*|//[^\n]*|"(?:[^"\\\n]|\\.)*"')
 SPAN = re.compile(r"`[^`\n]+`")
@@ -101,7 +101,7 @@ def own_names(root):
         library |= imported(code)[0]
         if ANSWERS.search(path):
             made |= set(ANSWER.findall(code))
-            found |= set(SIGNED.findall(code)) | imported(code)[1]
+            found |= {n for room, n in SIGNED.findall(code) if (room or not path.endswith("/Proof.antt")) and not MADE.match(n)} | imported(code)[1]
         else:
             found |= set(names_in(code))
     return {n: snake(n) for n in found - library - made if is_odd(n)} | {n: snake(n) for n in LEMMAS & found}
@@ -139,7 +139,7 @@ def respell_file(path, own):
     code = code_of(text)
     table = dict(own) | {n: n + "_lem" for n in plain_here(path, code, own)}
     # a library's name that a file declares for itself turns there
-    table |= {n: snake(n) for n in SIGNED.findall(code) if is_odd(n) and not MADE.match(n) and n not in imported(code)[0]}
+    table |= {n: snake(n) for room, n in SIGNED.findall(code) if room and is_odd(n) and not MADE.match(n) and n not in imported(code)[0]}
     return text, respell(text, table, heads(path))
 
 

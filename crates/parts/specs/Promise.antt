@@ -1,5 +1,5 @@
 -- What the crates above may say of an accepted image. Places are positions in the image. `XHere s at` says that an X is well formed at a
--- place, `xIn s at` is its value, `xEnd s at` the place after it, `xPlace` the place of a part of it; of a place where none stands a
+-- place, `x_in s at` is its value, `x_end s at` the place after it, `x_place` the place of a part of it; of a place where none stands a
 -- value is a default and says nothing. proofs/Promise.antt ties all of them to `schema_of`. Assumes nothing.
 use Rattle.std.specs.Prelude.{◌≡◌, Bool, cond, ◌&&◌, ◌||◌, List, [], ◌∷◌, map, ℕ, zero, suc, ◌+◌, ◌-◌, ◌≤◌, ◌<◌, eqb, leb, length, get_or, take, drop}
 use Rattle.std.proofs.Math.Option.{Option, none, some}

@@ -22,36 +22,36 @@ unfolding line_pieces last_line_of
 started t h = owes_start (line_pieces_lem (result_word (result_at t.bump.level) ∷ bump_word t.bump.level ∷ decimal t.changes ∷ [])) h
 
 -- the word of a result that is that of a level
-result-there : {r : ℕ} (l : ℕ) → r ≡ result_at l → 22 + r < 33
-result-there l e = omega (arith, e, result_most l)
+result_there : {r : ℕ} (l : ℕ) → r ≡ result_at l → 22 + r < 33
+result_there l e = omega (arith, e, result_most l)
 
-result-named : {r : ℕ} (l : ℕ) → r ≡ result_at l → word_at (22 + r) ≡ result_word (result_at l)
-result-named l e = ap (λ (n : ℕ). word_at (22 + n)) e ∙ result_word_lem (result_at l) (result_most l)
+result_named : {r : ℕ} (l : ℕ) → r ≡ result_at l → word_at (22 + r) ≡ result_word (result_at l)
+result_named l e = ap (λ (n : ℕ). word_at (22 + n)) e ∙ result_word_lem (result_at l) (result_most l)
 
 pub put_word-at-requires : goal.put_word-at-requires
 unfolding bytes
-put_word-at-requires c = (result-there c.args.t.bump.level c.result-result.ensures, space_as (result-named c.args.t.bump.level c.result-result.ensures) (owes_room (started c.args.t c.requires.1)))
+put_word-at-requires c = (result_there c.args.t.bump.level c.result-result.ensures, space_as (result_named c.args.t.bump.level c.result-result.ensures) (owes_room (started c.args.t c.requires.1)))
 
 pub put_byte-at-requires : goal.put_byte-at-requires
 unfolding bytes
-put_byte-at-requires c = owes_room (owes_next (started c.args.t c.requires.1) (puts_as (result-named c.args.t.bump.level c.result-result.ensures) c.put_word-at.ensures))
+put_byte-at-requires c = owes_room (owes_next (started c.args.t c.requires.1) (puts_as (result_named c.args.t.bump.level c.result-result.ensures) c.put_word-at.ensures))
 
 pub put_word-at-requires-2 : goal.put_word-at-requires-2
 unfolding bytes
-put_word-at-requires-2 c = (omega (arith, c.requires.0), space_as (bump_word_lem _ (omega (arith, c.requires.0))) (owes_room (owes_part (started c.args.t c.requires.1) (puts_as (result-named c.args.t.bump.level c.result-result.ensures) c.put_word-at.ensures) c.put_byte-at.ensures)))
+put_word-at-requires-2 c = (omega (arith, c.requires.0), space_as (bump_word_lem _ (omega (arith, c.requires.0))) (owes_room (owes_part (started c.args.t c.requires.1) (puts_as (result_named c.args.t.bump.level c.result-result.ensures) c.put_word-at.ensures) c.put_byte-at.ensures)))
 
 pub put_byte-at-requires-2 : goal.put_byte-at-requires-2
 unfolding bytes
-put_byte-at-requires-2 c = owes_room (owes_next (owes_part (started c.args.t c.requires.1) (puts_as (result-named c.args.t.bump.level c.result-result.ensures) c.put_word-at.ensures) c.put_byte-at.ensures) (puts_as (bump_word_lem _ (omega (arith, c.requires.0))) c.put_word-at-2.ensures))
+put_byte-at-requires-2 c = owes_room (owes_next (owes_part (started c.args.t c.requires.1) (puts_as (result_named c.args.t.bump.level c.result-result.ensures) c.put_word-at.ensures) c.put_byte-at.ensures) (puts_as (bump_word_lem _ (omega (arith, c.requires.0))) c.put_word-at-2.ensures))
 
 pub put_number-at-requires : goal.put_number-at-requires
 unfolding bytes
-put_number-at-requires c = owes_room (owes_part (owes_part (started c.args.t c.requires.1) (puts_as (result-named c.args.t.bump.level c.result-result.ensures) c.put_word-at.ensures) c.put_byte-at.ensures) (puts_as (bump_word_lem _ (omega (arith, c.requires.0))) c.put_word-at-2.ensures) c.put_byte-at-2.ensures)
+put_number-at-requires c = owes_room (owes_part (owes_part (started c.args.t c.requires.1) (puts_as (result_named c.args.t.bump.level c.result-result.ensures) c.put_word-at.ensures) c.put_byte-at.ensures) (puts_as (bump_word_lem _ (omega (arith, c.requires.0))) c.put_word-at-2.ensures) c.put_byte-at-2.ensures)
 
 pub put_byte-requires : goal.put_byte-requires
 unfolding bytes
-put_byte-requires c = owes_room (owes_next (owes_part (owes_part (started c.args.t c.requires.1) (puts_as (result-named c.args.t.bump.level c.result-result.ensures) c.put_word-at.ensures) c.put_byte-at.ensures) (puts_as (bump_word_lem _ (omega (arith, c.requires.0))) c.put_word-at-2.ensures) c.put_byte-at-2.ensures) c.put_number-at.ensures)
+put_byte-requires c = owes_room (owes_next (owes_part (owes_part (started c.args.t c.requires.1) (puts_as (result_named c.args.t.bump.level c.result-result.ensures) c.put_word-at.ensures) c.put_byte-at.ensures) (puts_as (bump_word_lem _ (omega (arith, c.requires.0))) c.put_word-at-2.ensures) c.put_byte-at-2.ensures) c.put_number-at.ensures)
 
 pub returns : goal.returns
 unfolding bytes
-returns c = owes_end (owes_part (owes_part (owes_part (started c.args.t c.requires.1) (puts_as (result-named c.args.t.bump.level c.result-result.ensures) c.put_word-at.ensures) c.put_byte-at.ensures) (puts_as (bump_word_lem _ (omega (arith, c.requires.0))) c.put_word-at-2.ensures) c.put_byte-at-2.ensures) c.put_number-at.ensures c.put_byte.ensures)
+returns c = owes_end (owes_part (owes_part (owes_part (started c.args.t c.requires.1) (puts_as (result_named c.args.t.bump.level c.result-result.ensures) c.put_word-at.ensures) c.put_byte-at.ensures) (puts_as (bump_word_lem _ (omega (arith, c.requires.0))) c.put_word-at-2.ensures) c.put_byte-at-2.ensures) c.put_number-at.ensures c.put_byte.ensures)
