@@ -10,15 +10,17 @@ BUILT = {"logic-built", "libraries-built", "statements", "batches"}
 ASSUMED = {"libc", "io", "os"}
 # What assumes: an axiom, and a block of functions of C.
 ASSUMES = re.compile(r'^\s*(?:pub )?(?:axiom|postulate)\b.*|^\s*(?:unsafe )?extern "C" \{', re.M)
-# What the crates above `parts` may not name: the modules of `image`, and of the crates between it and `parts`, but for the values and the
-# words; and the laws that the promise of `parts` rests on. `members` reads parts of an accepted image, as `parts` does, and rests on both;
-# `claims` has no code and gathers the theorems of all crates.
+# What the crates above `parts` may not name: the modules of `image`, and of the crates between it and `parts`, but for the values, the words
+# and the types that `parts` hands on, with what the prover derives of these; and the laws that the promise of `parts` rests on. `members` reads
+# parts of an accepted image, as `parts` does, and rests on both; `claims` has no code and gathers the theorems of all crates.
+HANDED = r"contracts\.(?:formats|kinds|refusals|sides|tags)\b"
 BEHIND = re.compile(
-    r"Rattle\.(?:(?:image|refusals|written|reader)\.(?!specs\.Schema\b|specs\.Words\b|specs\.declared\b)\w+|parts\.proofs\.Laws\b)(?:\.\w+)*"
+    rf"Rattle\.(?:(?:image|refusals|written|reader)\.(?!specs\.Schema\b|specs\.Words\b|specs\.declared\b|specs\.{HANDED})\w+|parts\.proofs\.Laws\b)(?:\.\w+)*"
 )
 INSIDE = {"members", "claims"}
 # What their code may not call: what `image` and `reader` read by, but for reading an image; how many inner types a tag has asks for no image.
-CALLED = re.compile(r"\b(?:image::(?!types::inner_types\b)|reader::(?!(?:Acceptance|read_image)\b|\{(?:(?:Acceptance|read_image)(?:, )?)+\})|use (?:image|reader)\b(?!::))[\w:]*")
+# The words and the values are definitions, which code names where it says what proves it.
+CALLED = re.compile(r"\b(?:image::(?!types::inner_types\b|specs::Schema\b|specs::Words\b)|reader::(?!(?:Acceptance|read_image)\b|\{(?:(?:Acceptance|read_image)(?:, )?)+\})|use (?:image|reader)\b(?!::))[\w:]*")
 # Crates above `parts` whose definitions start from what reading an image gives; their proofs rest on the promise.
 DEFINE = {"listing"}
 

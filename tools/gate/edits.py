@@ -23,7 +23,7 @@ MODULE.loader.exec_module(keeping)
 # A refusal that says nothing about a fact: the proof no longer fits the code's shape, or rests on what was refused elsewhere.
 UNFIT = re.compile(r"has no `|has no field|not in scope(?! here, so what is shown)|expected `[^`]*`, found|was not admitted|which was rejected|was not checked")
 FUNCTION = re.compile(r'^(\s*)(?:pub(?:\(crate\))? )?(?:extern "C" )?fn (\w+)')
-IMPL = re.compile(r"^impl (\w+)")
+IMPL = re.compile(r"^impl(?:<[^>]*>)? (?:(\w+)(?:<(\w+)>)? for )?(\w+)")
 CLAUSE = re.compile(r"\b(?:requires|ensures) \{")
 # Texts, arrows and operators. A proof may fail for one operation more although the answer is right, so a wrong answer has the code's.
 TOKEN = re.compile(r'"(?:[^"\\]|\\.)*"|\'(?:\\.|[^\'])\'|=>|->|[-+*/%]=?|[<>=!]=|[<>]|&&|\|\|')
@@ -48,13 +48,14 @@ class Answer(NamedTuple):
 
 
 def names_at(source: str, text: str) -> list[str]:
-    """The name of the function that holds the text, after the type of its `impl` if it is a method; nothing outside of functions."""
+    """The name of the function that holds the text, after what the prover calls its `impl` if it is a method; nothing outside of functions."""
     names: list[str] = []
     for line in source[: source.index(text) + len(text)].splitlines():
         if line == "}":
             names = []
         elif match := IMPL.match(line):
-            names = [match[1]]
+            trait, of, name = match.groups(default="")
+            names = [name + trait + of[:1].upper() + of[1:]]
         elif match := FUNCTION.match(line):
             names = [*(names[:1] if match[1] else []), match[2]]
     return names

@@ -2,11 +2,10 @@
 -- pass has yet to meet. Assumes nothing.
 use mathlib.Core.Path.{◌≡◌, refl, sym, ap, ◌∙◌}
 use mathlib.Core.Bool.{Bool, true, false, ◌&&◌, ◌||◌}
-use mathlib.Core.Option.{Option, none, some}
+use Rattle.std.specs.Prelude.{Option, None, Some}
 use mathlib.Core.List.{List, [], ◌∷◌, ◌++◌}
 use Prim.Native.Nat.{ℕ, suc, ◌+◌, ◌≤◌, ◌<◌}
 use native.Mathlib.Numerals.{add-one}
-use borrow.Author.Tests.{eq-eqb, ne_eqb}
 use lib.Dec.{eqb}
 use lib.ListN.{length, drop, drop_of_length-le}
 use lib.Seq.{drop-cons}
@@ -19,8 +18,6 @@ use Rattle.maps.proofs.Names.{by_name}
 use Rattle.maps.proofs.Survivors.{rising, all_survivors, all_lookup, lookup_key, lookup_own}
 use Rattle.image.specs.Schema.{Name, Decl}
 use Rattle.parts.specs.Promise.{schema_of, decl_in, entry_decl}
-use Rattle.parts.specs.declared.Entry.{Entry}
-use Rattle.parts.specs.declared.Entry.TheVariants.{Body, Unresolvable}
 use Rattle.rules.specs.Survivors.{resolved, listed, name_of}
 use Rattle.rules.specs.Reached.{IdSet}
 use Rattle.rules.specs.Imports.{marked_ids, standing_with, view_with}
@@ -34,18 +31,18 @@ use Rattle.checking.specs.Decls.{standing, both_aliases, aliases_at, aliases_of}
 
 -- ---- whether an entry is an alias
 
-module _ (s : List ℕ) {r : Entry} where
-  pub no_alias : r ≡ Unresolvable → false ≡ is_alias (entry_decl s r)
+module _ (s : List ℕ) {r : Option ℕ} where
+  pub no_alias : r ≡ None → false ≡ is_alias (entry_decl s r)
   unfolding is_alias
   no_alias e = rw (decl_none s e)
 
-  pub alias_kind_lem : {at : ℕ} → r ≡ Body at → {kind : ℕ} → kind ≡ (decl_in s at).kind → eqb kind 6 ≡ is_alias (entry_decl s r)
+  pub alias_kind_lem : {at : ℕ} → r ≡ Some at → {kind : ℕ} → kind ≡ (decl_in s at).kind → eqb kind 6 ≡ is_alias (entry_decl s r)
   unfolding is_alias alias
   alias_kind_lem e k = rw (decl_body s e, k)
 
 -- ---- one name
 
-module _ (old new : List ℕ) (a b : IdSet) {name : Name} {r : Entry} (h : Survives (standing old new a b Side.Old) old name r) {t : Bool} (p : t ≡ is_alias (entry_decl old r)) where
+module _ (old new : List ℕ) (a b : IdSet) {name : Name} {r : Option ℕ} (h : Survives (standing old new a b Side.Old) old name r) {t : Bool} (p : t ≡ is_alias (entry_decl old r)) where
   first : t ≡ is_alias (lookup name_of before name (standing old new a b Side.Old))
   first = p ∙ ap is_alias h.value
 
@@ -53,26 +50,26 @@ module _ (old new : List ℕ) (a b : IdSet) {name : Name} {r : Entry} (h : Survi
   unfolding aliases_at
   old_other e = rw (sym first ∙ e)
 
-  pub new_decides : t ≡ true → {q : Entry} → Survives (standing old new a b Side.New) new name q → {u : Bool} → u ≡ is_alias (entry_decl new q)
+  pub new_decides : t ≡ true → {q : Option ℕ} → Survives (standing old new a b Side.New) new name q → {u : Bool} → u ≡ is_alias (entry_decl new q)
       → u ≡ aliases_at old new a b name
   unfolding aliases_at
   new_decides e k f = rw (sym first ∙ e) (f ∙ ap is_alias k.value)
 
 -- ---- one entry of the old image
 
-module _ (old new : List ℕ) (a b : IdSet) {r : Entry} where
-  pub entry_none : r ≡ Unresolvable → false ≡ aliases_of old new a b (entry_decl old r)
+module _ (old new : List ℕ) (a b : IdSet) {r : Option ℕ} where
+  pub entry_none : r ≡ None → false ≡ aliases_of old new a b (entry_decl old r)
   unfolding aliases_of
   entry_none e = rw (decl_none old e)
 
-  module _ {at : ℕ} (e : r ≡ Body at) {kind : ℕ} (k : kind ≡ (decl_in old at).kind) where
-    pub entry_other : (kind ≡ 6 → ⊥) → false ≡ aliases_of old new a b (entry_decl old r)
+  module _ {at : ℕ} (e : r ≡ Some at) {kind : ℕ} (k : kind ≡ (decl_in old at).kind) where
+    pub entry_other : {t : Bool} → t ≡ eqb kind 6 → t ≡ false → t ≡ aliases_of old new a b (entry_decl old r)
     unfolding aliases_of alias
-    entry_other n = rw (decl_body old e, ← k, ne_eqb kind 6 n)
+    entry_other p q = q ∙ rw (decl_body old e, ← k, sym p ∙ q)
 
-    pub entry_alias : kind ≡ 6 → {u : Bool} → u ≡ aliases_at old new a b (decl_in old at).name → u ≡ aliases_of old new a b (entry_decl old r)
+    pub entry_alias : {t : Bool} → t ≡ eqb kind 6 → t ≡ true → {u : Bool} → u ≡ aliases_at old new a b (decl_in old at).name → u ≡ aliases_of old new a b (entry_decl old r)
     unfolding aliases_of alias
-    entry_alias q p = rw (decl_body old e, ← k, eq-eqb kind 6 q) p
+    entry_alias p q r = rw (decl_body old e, ← k, sym p ∙ q) r
 
 -- ---- any of a list
 
@@ -109,7 +106,7 @@ module _ (l n : List Decl) where
   abbrev told : Decl → Bool
   told d = alias d && (is_alias (lookup name_of before d.name stand) && is_alias (lookup name_of before d.name n))
 
-  own : (d : Decl) → lookup name_of before d.name stand ≡ some d → told d ≡ false → paired d ≡ false
+  own : (d : Decl) → lookup name_of before d.name stand ≡ Some d → told d ≡ false → paired d ≡ false
   unfolding is_alias
   own d e q = go (alias d) (is_alias (lookup name_of before d.name n)) (rw e at q)
     where
@@ -117,7 +114,7 @@ module _ (l n : List Decl) where
       go true v p = p
       go false v p = refl
 
-  owns : (k : List Decl) → All (λ d. lookup name_of before d.name stand ≡ some d) k → All (λ d. told d ≡ false) k → All (λ d. paired d ≡ false) k
+  owns : (k : List Decl) → All (λ d. lookup name_of before d.name stand ≡ Some d) k → All (λ d. told d ≡ false) k → All (λ d. paired d ≡ false) k
   unfolding All
   owns [] f h = tt
   owns (d ∷ k) f h = (own d f.0 h.0, owns k f.1 h.1)
@@ -131,8 +128,8 @@ module _ (l n : List Decl) where
       and_false false = refl
 
       go : (o : Option Decl) → lookup name_of before d.name stand ≡ o → (alias d && (is_alias o && is_alias (lookup name_of before d.name n))) ≡ false
-      go none p = and_false (alias d)
-      go (some f) p =
+      go None p = and_false (alias d)
+      go (Some f) p =
           let e : f.name ≡ d.name = lookup_key name_of by_name d.name stand f p in
           rw (rw e at (all_lookup name_of before (λ g. paired g ≡ false) d.name stand f h p)) (and_false (alias d))
 
@@ -158,20 +155,20 @@ module _ (old new : List ℕ) (a b : IdSet) where
   any_resolved : (o : Option Decl) (ds : List Decl)
       → any (λ d. alias d && aliases_at old new a b d.name) (resolved o ds) ≡ aliases_of old new a b o || any (λ d. alias d && aliases_at old new a b d.name) ds
   unfolding any resolved aliases_of
-  any_resolved none ds = refl
-  any_resolved (some d) ds = refl
+  any_resolved None ds = refl
+  any_resolved (Some d) ds = refl
 
   module _ (i : ℕ) {x : Bool} (p : aliases_from old new a b i ≡ x) where
     pub aliases_done : length (candidates old a) ≤ i → false ≡ x
     unfolding aliases_from present any
     aliases_done h = rw (drop_of_length-le (candidates old a) h) at p
 
-    module _ (h : i < length (candidates old a)) {r : Entry} (v : Candidate old a i r) {t : Bool} (q : t ≡ aliases_of old new a b (entry_decl old r)) where
+    module _ (h : i < length (candidates old a)) {r : Option ℕ} (v : Candidate old a i r) {t : Bool} (q : t ≡ aliases_of old new a b (entry_decl old r)) where
       turn : (t || aliases_from old new a b (i + 1)) ≡ x
       unfolding aliases_from present
       turn =
           rw (add-one, q)
-          (sym (rw (drop-cons (candidates old a) i none h, ← v.value) (any_resolved (entry_decl old r) (present (drop (suc i) (candidates old a))))) ∙ p)
+          (sym (rw (drop-cons (candidates old a) i None h, ← v.value) (any_resolved (entry_decl old r) (present (drop (suc i) (candidates old a))))) ∙ p)
 
       pub aliases_found : t ≡ true → true ≡ x
       aliases_found f = rw f at turn

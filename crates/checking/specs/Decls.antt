@@ -1,13 +1,11 @@
 -- The declarations of two images, compared by name: what is reported of them, part by part. With each image goes a set of its ids that may
 -- stand besides the listed ones. Assumes nothing.
-use Rattle.std.specs.Prelude.{Bool, false, ◌&&◌, List, ℕ}
-use Rattle.std.proofs.Math.Option.{Option, none, some}
+use Rattle.std.specs.Prelude.{Bool, false, ◌&&◌, List, ℕ, Option, None, Some}
 use Rattle.maps.specs.Orders.{before}
 use Rattle.maps.specs.Keyed.{lookup}
 use Rattle.maps.specs.Compare.{unmatched, matched, between}
 use Rattle.image.specs.Schema.{Name, Decl}
 use Rattle.parts.specs.Promise.{schema_of, DeclHere, decl_in}
-use Rattle.parts.specs.declared.Entry.{Entry}
 use Rattle.parts.specs.Kinds.{kind_of}
 use Rattle.rules.specs.Survivors.{name_of}
 use Rattle.rules.specs.Reached.{IdSet}
@@ -37,10 +35,10 @@ module _ (old new : List ℕ) (a b : IdSet) where
 
   -- ---- what the searches answer: the declaration that comes next on a side, and what stands on the other under the name of one
 
-  abbrev pub NextOn : Side → Entry → Entry → Type 0
+  abbrev pub NextOn : Side → Option ℕ → Option ℕ → Type 0
   NextOn s after r = Follows (standing s) (on s old new) after r
 
-  abbrev pub NamesakeOff : Side → ℕ → Entry → Type 0
+  abbrev pub NamesakeOff : Side → ℕ → Option ℕ → Type 0
   NamesakeOff s at r = Survives (standing_off s) (off s old new) (decl_in (on s old new) at).name r
 
   -- whether each name of what may stand on a side stands on the other
@@ -58,8 +56,8 @@ module _ (old new : List ℕ) (a b : IdSet) where
 
   -- of what an id of the old image stands for: it is one too
   unfoldable pub aliases_of : Option Decl → Bool
-  aliases_of none = false
-  aliases_of (some d) = alias d && aliases_at d.name
+  aliases_of None = false
+  aliases_of (Some d) = alias d && aliases_at d.name
 
 module _ (reading : Reading) (old new : List ℕ) where
   -- ---- one declaration: on one side only, where n stand on the other, it is gone or came
@@ -69,11 +67,11 @@ module _ (reading : Reading) (old new : List ℕ) where
   lone side.New = (decl_rules (context_of reading old new)).came
 
   unfoldable pub unmatched_in : List Decl → Side → ℕ → List Change
-  unmatched_in n s at = unmatched (lone s) (some (decl_in (on s old new) at)) (lookup name_of before (decl_in (on s old new) at).name n)
+  unmatched_in n s at = unmatched (lone s) (Some (decl_in (on s old new) at)) (lookup name_of before (decl_in (on s old new) at).name n)
 
   -- an old one that stands among n in the new image too was kept
   unfoldable pub kept_in : List Decl → ℕ → List Change
-  kept_in n i = matched (decl_rules (context_of reading old new)).kept (some (decl_in old i)) (lookup name_of before (decl_in old i).name n)
+  kept_in n i = matched (decl_rules (context_of reading old new)).kept (Some (decl_in old i)) (lookup name_of before (decl_in old i).name n)
 
   -- two of one kind, and any two
   abbrev pub of_kind : ℕ → ℕ → ℕ → List Change

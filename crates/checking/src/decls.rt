@@ -1,5 +1,6 @@
 // 2. and 3. Declarations, by rising name: removed, added, kept.
 ghost use Rattle.tally.specs.Reporting.{Ready, Ran};
+ghost use Rattle.parts.specs.Numbers.{kind_number};
 ghost use Rattle.items.specs.Pairs.{DeclPair, KindPair};
 ghost use Rattle.items.specs.declared.Side.{Side};
 ghost use Rattle.checking.specs.Decls.{BothSearchable, DeclOn, of_kind, of_decls, unmatched_decls, unmatched_decl, kept_decls, kept_decl};
@@ -14,9 +15,8 @@ use clauses::widths::compare_widths;
 use items::{Side, Walk};
 use lines::reporting::emit;
 use lines::sites::{decl_added, decl_removed, kind_changed};
-use parts::Entry;
 use parts::decls::decl_kind;
-use parts::kinds::{ENUM, FLAGS, MESSAGE, NEWTYPE, UNION};
+use parts::kinds::Kind;
 use tally::Tally;
 
 // Two declarations of one kind.
@@ -26,19 +26,19 @@ fn compare_kind(
     new: &[u8],
     out: &mut [u8],
     t: Tally,
-    kind: u8,
+    kind: Kind,
     i: usize,
     j: usize,
 ) -> Tally
-    requires { KindPair kind old.now new.now i j × Ready walk.mode out.old t (of_kind walk.reading old.now new.now kind i j) }
-    ensures { Ran walk.mode out.old t (of_kind walk.reading old.now new.now kind i j) result out.new }
+    requires { KindPair (kind_number kind) old.now new.now i j × Ready walk.mode out.old t (of_kind walk.reading old.now new.now (kind_number kind) i j) }
+    ensures { Ran walk.mode out.old t (of_kind walk.reading old.now new.now (kind_number kind) i j) result out.new }
 {
     match kind {
-        MESSAGE => compare_messages(walk, old, new, out, t, i, j),
-        ENUM => compare_enums(walk, old, new, out, t, i, j),
-        FLAGS => compare_flags(walk, old, new, out, t, i, j),
-        UNION => compare_unions(walk, old, new, out, t, i, j),
-        NEWTYPE => compare_newtypes(walk, old, new, out, t, i, j),
+        Kind::Message => compare_messages(walk, old, new, out, t, i, j),
+        Kind::Enum => compare_enums(walk, old, new, out, t, i, j),
+        Kind::Flags => compare_flags(walk, old, new, out, t, i, j),
+        Kind::Union => compare_unions(walk, old, new, out, t, i, j),
+        Kind::Newtype => compare_newtypes(walk, old, new, out, t, i, j),
         // Config, trait, impl: silent; so is a generic alias, of which a pair is refused.
         _ => t,
     }
@@ -81,9 +81,9 @@ fn unmatched_decl(
     requires { DeclOn old.now new.now old_reached.now new_reached.now side at × Ready walk.mode out.old t (unmatched_decl walk.reading old.now new.now old_reached.now new_reached.now side at) }
     ensures { Ran walk.mode out.old t (unmatched_decl walk.reading old.now new.now old_reached.now new_reached.now side at) result out.new }
 {
-    let Entry::Unresolvable = namesake_off(side, old, new, old_reached, new_reached, at) else {
+    if namesake_off(side, old, new, old_reached, new_reached, at).is_some() {
         return t;
-    };
+    }
     let mode = walk.mode;
     match side {
         Side::Old => emit(mode, old, new, out, t, decl_removed(at)),
@@ -109,11 +109,8 @@ pub fn unmatched_decls(
         return t;
     }
     let mut tally = t;
-    let mut after = Entry::Unresolvable;
-    loop {
-        let Entry::Body(at) = next_on(side, old, new, old_reached, new_reached, after) else {
-            return tally;
-        };
+    let mut after = None;
+    while let Some(at) = next_on(side, old, new, old_reached, new_reached, after) {
         tally = unmatched_decl(
             walk,
             old,
@@ -125,8 +122,9 @@ pub fn unmatched_decls(
             side,
             at,
         );
-        after = Entry::Body(at);
+        after = Some(at);
     }
+    tally
 }
 
 // The old declaration at a place: compared, if a new one stands under its name too.
@@ -143,7 +141,7 @@ fn kept_decl(
     requires { DeclOn old.now new.now old_reached.now new_reached.now Side.Old i × Ready walk.mode out.old t (kept_decl walk.reading old.now new.now old_reached.now new_reached.now i) }
     ensures { Ran walk.mode out.old t (kept_decl walk.reading old.now new.now old_reached.now new_reached.now i) result out.new }
 {
-    let Entry::Body(j) = namesake_off(Side::Old, old, new, old_reached, new_reached, i) else {
+    let Some(j) = namesake_off(Side::Old, old, new, old_reached, new_reached, i) else {
         return t;
     };
     compare_decls(walk, old, new, out, t, i, j)
@@ -163,12 +161,10 @@ pub fn kept_decls(
     ensures { Ran walk.mode out.old t (kept_decls walk.reading old.now new.now old_reached.now new_reached.now) result out.new }
 {
     let mut tally = t;
-    let mut after = Entry::Unresolvable;
-    loop {
-        let Entry::Body(at) = next_on(Side::Old, old, new, old_reached, new_reached, after) else {
-            return tally;
-        };
+    let mut after = None;
+    while let Some(at) = next_on(Side::Old, old, new, old_reached, new_reached, after) {
         tally = kept_decl(walk, old, new, old_reached, new_reached, out, tally, at);
-        after = Entry::Body(at);
+        after = Some(at);
     }
+    tally
 }

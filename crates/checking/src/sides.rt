@@ -5,7 +5,6 @@ ghost use Rattle.items.specs.Sides.{on};
 ghost use Rattle.checking.specs.Decls.{BothSearchable, DeclOn, NextOn, NamesakeOff, all_off};
 
 use items::Side;
-use parts::Entry;
 use parts::decls::decl_name;
 use survivors::decls::{all_named, next_decl, survivor};
 
@@ -16,8 +15,8 @@ pub fn next_on(
     new: &[u8],
     old_reached: &[bool],
     new_reached: &[bool],
-    after: Entry,
-) -> Entry
+    after: Option<usize>,
+) -> Option<usize>
     requires { BothSearchable old.now new.now old_reached.now new_reached.now × EntryHere (on side old.now new.now) after }
     ensures { NextOn old.now new.now old_reached.now new_reached.now side after result }
 {
@@ -35,7 +34,7 @@ pub fn namesake_off(
     old_reached: &[bool],
     new_reached: &[bool],
     at: usize,
-) -> Entry
+) -> Option<usize>
     requires { DeclOn old.now new.now old_reached.now new_reached.now side at }
     ensures { NamesakeOff old.now new.now old_reached.now new_reached.now side at result }
 {

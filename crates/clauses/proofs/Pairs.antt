@@ -1,7 +1,7 @@
 -- Two fields, two variants or two declarations under one key: the items of which a clause reports, and its parts. Assumes nothing.
 use mathlib.Core.Path.{◌≡◌, refl, ◌∙◌}
 use mathlib.Core.Bool.{not, ◌&&◌, beq}
-use mathlib.Core.Option.{none, some}
+use Rattle.std.specs.Prelude.{Option, None, Some}
 use mathlib.Core.List.{List, [], ◌∷◌, ◌++◌}
 use Prim.Native.Nat.{ℕ}
 use lib.Dec.{eqb, ltb}
@@ -21,8 +21,6 @@ use Rattle.types.proofs.Besides.{mended_first, none_after}
 use Rattle.types.specs.declared.Reading.{Reading}
 use Rattle.types.specs.declared.Reading.TheVariants.{Mended}
 use Rattle.survivors.specs.Runs.{item_in, item_ordinal, item_map, items_of, Holds}
-use Rattle.survivors.specs.declared.Found.{Found}
-use Rattle.survivors.specs.declared.Found.TheVariants.{At}
 use Rattle.details.specs.Details.{declaration_of, ScopeHere}
 use Rattle.lines.specs.Clauses.{field_renamed, field_type_changed, field_encoding_changed, field_deprecated, decl_deprecated, width_changed, non_exhaustive_changed, newtype_changed}
 use Rattle.details.specs.declared.Scope.{Scope}
@@ -41,10 +39,10 @@ module _ (reading : Reading) (old new : List ℕ) (c : Scope) (i j : ℕ) where
   abbrev pub field_parts : List (List Change)
   field_parts =
       compare_field_names (declaration_of old new c) (field_in old i) (field_in new j)
-      ∷ compare_types (context_of reading old new) (declaration_of old new c) (some (field_in new j).name) (field_text (field_in new j))
+      ∷ compare_types (context_of reading old new) (declaration_of old new c) (Some (field_in new j).name) (field_text (field_in new j))
       (field_in old i).type (field_in new j).type
       ∷ compare_encodings (declaration_of old new c) (field_in old i) (field_in new j)
-      ∷ compare_deprecated (declaration_of old new c) (some (field_in new j).name) (bytes "field " ++ quoted (field_in new j).name)
+      ∷ compare_deprecated (declaration_of old new c) (Some (field_in new j).name) (bytes "field " ++ quoted (field_in new j).name)
       (field_in old i).marks (field_in new j).marks
       ∷ []
 
@@ -63,7 +61,7 @@ module _ {old new : List ℕ} {c : Scope} {i j : ℕ} (p : FieldPair old new c i
 
   pub type_changed : (reading : Reading) → Reports old new (field_type_changed c j (type_place old i) (type_place new j))
       (types_differ reading old new (type_place old i) (type_place new j))
-      (compare_types (context_of reading old new) (declaration_of old new c) (some (field_in new j).name) (field_text (field_in new j))
+      (compare_types (context_of reading old new) (declaration_of old new c) (Some (field_in new j).name) (field_text (field_in new j))
       (field_in old i).type (field_in new j).type)
   type_changed reading = field_type_changed_lem old new p.accepted.0 p.accepted.1 c p.scope i j p.here.0 p.here.1 (reading_of reading)
 
@@ -74,7 +72,7 @@ module _ {old new : List ℕ} {c : Scope} {i j : ℕ} (p : FieldPair old new c i
 
   pub deprecated : Reports old new (field_deprecated c j)
       (not (field_in old i).marks.deprecated && (field_in new j).marks.deprecated)
-      (compare_deprecated (declaration_of old new c) (some (field_in new j).name) (bytes "field " ++ quoted (field_in new j).name)
+      (compare_deprecated (declaration_of old new c) (Some (field_in new j).name) (bytes "field " ++ quoted (field_in new j).name)
       (field_in old i).marks (field_in new j).marks)
   deprecated = field_deprecated_lem old new p.accepted.0 p.accepted.1 c p.scope i j p.here.0 p.here.1
 
@@ -103,7 +101,7 @@ pub record Kept (reading : Reading) (old new : List ℕ) (x : Items) (k i j : �
   pub here : ItemHere (shape old new x) old i × ItemHere (shape old new x) new j
   pub are : kept_at reading old new x k i ≡ (rules reading old new x).kept (item_in (shape old new x) old i) (item_in (shape old new x) new j)
 
-pub both_stand : {reading : Reading} {old new : List ℕ} {x : Items} {k i j : ℕ} {o : Found} → ItemIn old new x Side.Old i → FoundOff old new x Side.Old k o → o ≡ At j
+pub both_stand : {reading : Reading} {old new : List ℕ} {x : Items} {k i j : ℕ} {o : Option ℕ} → ItemIn old new x Side.Old i → FoundOff old new x Side.Old k o → o ≡ Some j
     → Kept reading old new x k i j
 both_stand {reading} {k = k} {i = i} p f e = record {
   inside = p.items;
@@ -135,7 +133,7 @@ module _ {reading : Reading} {old new : List ℕ} {a b : Run} {k i j : ℕ} wher
 module _ {old new : List ℕ} {i j : ℕ} (p : DeclPair old new i j) where
   pub decl_marked : Reports old new (decl_deprecated i)
       (not (decl_in old i).marks.deprecated && (decl_in new j).marks.deprecated)
-      (compare_deprecated (decl_in old i).name none (bytes "declaration") (decl_in old i).marks (decl_in new j).marks)
+      (compare_deprecated (decl_in old i).name None (bytes "declaration") (decl_in old i).marks (decl_in new j).marks)
   decl_marked = decl_deprecated_lem old new p.accepted.0 p.accepted.1 i j p.here.0 p.here.1
 
   -- what the mended reading reports first
@@ -164,7 +162,7 @@ module _ {old new : List ℕ} {i j : ℕ} (p : KindPair 4 old new i j) where
 -- a message's fields, and its own deprecation
 abbrev pub message_parts : Reading → List ℕ → List ℕ → ℕ → ℕ → Items → List (List Change)
 message_parts reading old new i j x =
-    item_changes reading old new x ∷ compare_deprecated (decl_in old i).name none (bytes "declaration") (decl_in old i).marks (decl_in new j).marks ∷ []
+    item_changes reading old new x ∷ compare_deprecated (decl_in old i).name None (bytes "declaration") (decl_in old i).marks (decl_in new j).marks ∷ []
 
 abbrev pub enum_items : ℕ → ℕ → Run → Run → Items
 enum_items i j a b = record { of = Owner.Enum i j; old = a; new = b }

@@ -1,7 +1,7 @@
 -- Two runs of items by ordinal: what is reported of them part by part, and the walk over those that were kept. Assumes nothing.
 use mathlib.Core.Path.{◌≡◌, refl, ◌∙◌}
 use mathlib.Core.Bool.{Bool}
-use mathlib.Core.Option.{Option, none, some}
+use Rattle.std.specs.Prelude.{Option, None, Some}
 use mathlib.Core.List.{List, [], ◌∷◌, flat_map, append-nil}
 use Prim.Native.Nat.{ℕ, ◌<◌}
 use Rattle.text.specs.declared.Mode.{Mode}
@@ -13,10 +13,6 @@ use Rattle.tally.specs.Reporting.{Ready, Ran}
 use Rattle.tally.specs.declared.Tally.{Tally}
 use Rattle.tally.proofs.Running.{Owed}
 use Rattle.types.specs.declared.Reading.{Reading}
-use Rattle.survivors.specs.declared.Ordinal.{Ordinal}
-use Rattle.survivors.specs.declared.Ordinal.TheVariants as ordinal
-use Rattle.survivors.specs.declared.Next.{Next}
-use Rattle.survivors.specs.declared.Next.TheVariants as next
 use Rattle.items.specs.Items.{ItemsIn, ItemIn, NextOn, rules, unmatched_items, kept_items, kept_at, item_changes}
 use Rattle.items.specs.declared.Side.{Side}
 use Rattle.items.specs.declared.Items.{Items}
@@ -48,22 +44,22 @@ unfolding between flat_map matched
 kept_silent key lt [] n = refl
 kept_silent {E = E} {C = C} key lt (e ∷ m) n = rw (none_matched {E = E} {C = C} e (lookup key lt (key e) n)) (kept_silent key lt m n)
   where
-    none_matched : {E C : Type 0} (e : E) (o : Option E) → matched {C = C} (λ f g. []) (some e) o ≡ []
-    none_matched e none = refl
-    none_matched e (some f) = refl
+    none_matched : {E C : Type 0} (e : E) (o : Option E) → matched {C = C} (λ f g. []) (Some e) o ≡ []
+    none_matched e None = refl
+    none_matched e (Some f) = refl
 
 -- ---- the walk over what was kept
 
 -- what it has yet to report after an ordinal, and how many items it has yet to meet
-abbrev pub rest_kept : Reading → List ℕ → List ℕ → Items → Ordinal → List Change
+abbrev pub rest_kept : Reading → List ℕ → List ℕ → Items → Option ℕ → List Change
 rest_kept reading old new x after = walk_rest old new x (matched (rules reading old new x).kept) Side.Old after
 
-abbrev pub left_kept : List ℕ → List ℕ → Items → Ordinal → ℕ
+abbrev pub left_kept : List ℕ → List ℕ → Items → Option ℕ → ℕ
 left_kept old new x after = walk_left old new x Side.Old after
 
 module _ {old new : List ℕ} {x : Items} (p : ItemsIn old new x) where
-  module _ (after : Ordinal) {r : Next} (a : NextOn old new x Side.Old after r) {k i : ℕ} (e : r ≡ next.Is k i) where
-    pub kept_less : left_kept old new x (ordinal.Is k) < left_kept old new x after
+  module _ (after : Option ℕ) {r : Option (ℕ × ℕ)} (a : NextOn old new x Side.Old after r) {k i : ℕ} (e : r ≡ Some (k, i)) where
+    pub kept_less : left_kept old new x (Some k) < left_kept old new x after
     kept_less = walk_less p Side.Old after a e
 
     -- the old item that is met
@@ -71,12 +67,12 @@ module _ {old new : List ℕ} {x : Items} (p : ItemsIn old new x) where
     kept_met = walk_met p Side.Old after a e
 
   module _ (reading : Reading) {m : Mode} {d : List ℕ} {t : Tally} where
-    pub kept_start : Ready m d t (kept_items reading old new x) → Owed m d t (kept_items reading old new x) t d (rest_kept reading old new x ordinal.Nothing ∷ [])
+    pub kept_start : Ready m d t (kept_items reading old new x) → Owed m d t (kept_items reading old new x) t d (rest_kept reading old new x None ∷ [])
     kept_start q = walk_start p Side.Old (matched (rules reading old new x).kept) (kept_all reading old new x) q
 
-    module _ {all : List Change} {t' : Tally} {d' : List ℕ} (after : Ordinal) (w : Owed m d t all t' d' (rest_kept reading old new x after ∷ [])) {r : Next} (a : NextOn old new x Side.Old after r) where
-      pub kept_turn : {k i : ℕ} → r ≡ next.Is k i → Owed m d t all t' d' (kept_at reading old new x k i ∷ rest_kept reading old new x (ordinal.Is k) ∷ [])
+    module _ {all : List Change} {t' : Tally} {d' : List ℕ} (after : Option ℕ) (w : Owed m d t all t' d' (rest_kept reading old new x after ∷ [])) {r : Option (ℕ × ℕ)} (a : NextOn old new x Side.Old after r) where
+      pub kept_turn : {k i : ℕ} → r ≡ Some (k, i) → Owed m d t all t' d' (kept_at reading old new x k i ∷ rest_kept reading old new x (Some k) ∷ [])
       kept_turn {k} {i} e = walk_turn p Side.Old (matched (rules reading old new x).kept) after w a e (kept_at_lem reading old new x k i)
 
-      pub kept_done : r ≡ next.Nothing → Ran m d t all t' d'
+      pub kept_done : r ≡ None → Ran m d t all t' d'
       kept_done e = walk_done p Side.Old (matched (rules reading old new x).kept) after w a e

@@ -2,20 +2,16 @@
 -- it gives; and the tests that are made of parts. Assumes nothing.
 use mathlib.Core.Path.{◌≡◌, refl}
 use mathlib.Core.Bool.{Bool, true, false, not, ◌&&◌, beq}
-use mathlib.Core.Option.{Option}
+use Rattle.std.specs.Prelude.{Option, None, Some}
+use Rattle.std.specs.Option.{option_eq}
 use mathlib.Core.List.{List}
 use Prim.Native.Nat.{ℕ}
 use lib.Dec.{eqb}
-use borrow.Author.Tests.{eq-eqb, ne_eqb}
 use Rattle.text.specs.declared.Mode.{Mode}
-use Rattle.image.specs.Schema.{Name, Encoding}
-use Rattle.parts.specs.Promise.{TypeHere, coding_of, limit_of, width_of}
-use Rattle.parts.specs.declared.Encoding.{Encoding as Coded}
-use Rattle.parts.specs.declared.Limit.{Limit}
-use Rattle.parts.specs.declared.Width.{Width}
+use Rattle.image.specs.Schema.{Name}
+use Rattle.parts.specs.Promise.{TypeHere}
 use Rattle.rules.specs.Equal.{same_option, same_name}
 use Rattle.rules.specs.Changes.{Change, only}
-use Rattle.rules.specs.Clauses.{same_encoding}
 use Rattle.tally.specs.Reporting.{Ready, Ran}
 use Rattle.tally.specs.declared.Tally.{Tally}
 use Rattle.types.specs.declared.Reading.{Reading}
@@ -64,30 +60,11 @@ same_marks e f = cc
 pub marks_differ : {a b c d : Bool} → a ≡ b → c ≡ d → not (beq a c) ≡ not (beq b d)
 marks_differ e f = cc
 
--- ---- widths
+-- ---- what may be absent: std's equality is that of rules
 
-pub same_widths : {a b x y : Width} → a ≡ x → b ≡ y → same_option eqb (width_of x) (width_of y) ≡ same_option eqb (width_of a) (width_of b)
-same_widths e f = rw (e, f)
-
-pub widths_differ : {r : Bool} {a b x y : Option ℕ} → r ≡ same_option eqb a b → a ≡ x → b ≡ y → not r ≡ not (same_option eqb x y)
-widths_differ e f g = cc
-
--- ---- encodings and limits
-
-pub same_limits : {a b x y : Limit} → a ≡ x → b ≡ y → same_option eqb (limit_of x) (limit_of y) ≡ same_option eqb (limit_of a) (limit_of b)
-same_limits e f = rw (e, f)
-
-module _ (a b : Coded) {x y : Encoding} (e : coding_of a ≡ x) (f : coding_of b ≡ y) where
-  pub other_deltas : (a.deltas ≡ b.deltas → ⊥) → (l : Bool) → false ≡ (same_encoding x y && l)
-  unfolding same_encoding coding_of
-  other_deltas n l = rw (← e, ← f, ne_eqb a.deltas b.deltas n)
-
-  module _ (p : a.deltas ≡ b.deltas) where
-    pub other_base : (a.base ≡ b.base → ⊥) → (l : Bool) → false ≡ (same_encoding x y && l)
-    unfolding same_encoding coding_of
-    other_base n l = rw (← e, ← f, eq-eqb a.deltas b.deltas p, ne_eqb a.base b.base n)
-
-    pub same_base : a.base ≡ b.base → {l : Bool} {k n u v : Option ℕ} → k ≡ u → n ≡ v → l ≡ same_option eqb k n
-        → l ≡ (same_encoding x y && same_option eqb u v)
-    unfolding same_encoding coding_of
-    same_base q g h r = rw (← e, ← f, eq-eqb a.deltas b.deltas p, eq-eqb a.base b.base q, ← g, ← h) r
+pub same_options : (a b : Option ℕ) → option_eq eqb a b ≡ same_option eqb a b
+unfolding same_option
+same_options None None = refl
+same_options None (Some y) = refl
+same_options (Some x) None = refl
+same_options (Some x) (Some y) = refl

@@ -1,8 +1,8 @@
 // 4. Field sets, by ordinal.
-ghost use Rattle.std.specs.Prelude.{◌≡◌, eqb};
-ghost use Rattle.parts.specs.Promise.{ItemHere, field_in, limit_of};
+ghost use Rattle.std.specs.Prelude.{◌≡◌};
+ghost use Rattle.parts.specs.Promise.{ItemHere, field_in, coding_of};
+ghost use Rattle.rules.specs.Clauses.{same_encoding};
 ghost use Rattle.parts.specs.declared.Shape.{Shape};
-ghost use Rattle.rules.specs.Equal.{same_option};
 ghost use Rattle.tally.specs.Reporting.{Ready, Ran};
 ghost use Rattle.items.specs.Pairs.{same_coding, FieldPair, of_fields};
 ghost use Rattle.items.specs.Items.{FieldsIn, kept_fields, field_changes, FieldAsked, FieldTold, FieldsTold};
@@ -16,24 +16,15 @@ use lines::sites::{field_deprecated, field_encoding_changed, field_renamed, fiel
 use members::fields;
 use members::fields::{field_encoding, field_limit, field_type};
 use members::items::item_name;
-use parts::{Limit, Run};
-use survivors::{Found, Next, Ordinal};
+use parts::{Encoding, Run};
 use tally::Tally;
 use types::names::same_name;
 
-fn limits_equal(a: Limit, b: Limit) -> bool
-    ensures { result ≡ same_option eqb (limit_of a) (limit_of b) }
+#[tactic(auto, unfolding(rules::specs::Clauses::same_encoding))]
+fn encoding_equal(a: Encoding, b: Encoding) -> bool
+    ensures { result ≡ same_encoding (coding_of a) (coding_of b) }
 {
-    let Limit::Most(m) = a else {
-        let Limit::Unlimited = b else {
-            return false;
-        };
-        return true;
-    };
-    let Limit::Most(n) = b else {
-        return false;
-    };
-    m == n
+    a.deltas == b.deltas && a.base == b.base
 }
 
 // Whether two fields have the same encoding and the same limit.
@@ -41,15 +32,8 @@ fn encodings_equal(old: &[u8], i: usize, new: &[u8], j: usize) -> bool
     requires { ItemHere Shape.Field old.now i × ItemHere Shape.Field new.now j }
     ensures { result ≡ same_coding (field_in old.now i) (field_in new.now j) }
 {
-    let a = field_encoding(old, i);
-    let b = field_encoding(new, j);
-    if a.deltas != b.deltas {
-        return false;
-    }
-    if a.base != b.base {
-        return false;
-    }
-    limits_equal(field_limit(old, i), field_limit(new, j))
+    encoding_equal(field_encoding(old, i), field_encoding(new, j))
+        && field_limit(old, i) == field_limit(new, j)
 }
 
 // Two fields under one ordinal.
@@ -101,7 +85,7 @@ fn kept_field(
         old: a,
         new: b,
     };
-    let Found::At(j) = found_off(Side::Old, old, new, items, ordinal) else {
+    let Some(j) = found_off(Side::Old, old, new, items, ordinal) else {
         return t;
     };
     compare_fields(walk, old, new, out, t, scope, i, j)
@@ -126,14 +110,12 @@ fn kept_fields(
         new: b,
     };
     let mut tally = t;
-    let mut after = Ordinal::Nothing;
-    loop {
-        let Next::Is(ordinal, i) = next_on(Side::Old, old, new, items, after) else {
-            return tally;
-        };
+    let mut after = None;
+    while let Some((ordinal, i)) = next_on(Side::Old, old, new, items, after) {
         tally = kept_field(walk, old, new, out, tally, scope, a, b, ordinal, i);
-        after = Ordinal::Is(ordinal);
+        after = Some(ordinal);
     }
+    tally
 }
 
 // The fields of what a scope names: removed, added, kept.

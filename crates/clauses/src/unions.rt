@@ -10,7 +10,6 @@ use items::unmatched::unmatched_items;
 use items::{Items, Owner, Side, Walk};
 use members::items::{decl_items, variant_items};
 use parts::Run;
-use survivors::{Found, Next, Ordinal};
 use tally::Tally;
 
 // The old variant at a place, under its ordinal: the fields are compared, if a new variant stands under it too.
@@ -34,7 +33,7 @@ fn kept_variant(
         old: a,
         new: b,
     };
-    let Found::At(j) = found_off(Side::Old, old, new, items, ordinal) else {
+    let Some(j) = found_off(Side::Old, old, new, items, ordinal) else {
         return t;
     };
     let m = variant_items(old, i);
@@ -61,14 +60,12 @@ fn kept_variants(
         new: b,
     };
     let mut tally = t;
-    let mut after = Ordinal::Nothing;
-    loop {
-        let Next::Is(ordinal, i) = next_on(Side::Old, old, new, items, after) else {
-            return tally;
-        };
+    let mut after = None;
+    while let Some((ordinal, i)) = next_on(Side::Old, old, new, items, after) {
         tally = kept_variant(walk, old, new, out, tally, decl, a, b, ordinal, i);
-        after = Ordinal::Is(ordinal);
+        after = Some(ordinal);
     }
+    tally
 }
 
 // Two unions: variants removed, added, kept.

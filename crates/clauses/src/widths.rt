@@ -1,6 +1,6 @@
 // Widths of enums and flags: no clause compares them, and the mended reading reports them first.
-ghost use Rattle.std.specs.Prelude.{◌≡◌, eqb};
-ghost use Rattle.parts.specs.Promise.{width_of};
+ghost use Rattle.std.specs.Prelude.{◌≡◌, not, eqb};
+ghost use Rattle.parts.specs.Promise.{DeclHere, decl_in};
 ghost use Rattle.rules.specs.Equal.{same_option};
 ghost use Rattle.tally.specs.Reporting.{Ready, Ran};
 ghost use Rattle.items.specs.Pairs.{DeclPair, of_first};
@@ -8,25 +8,16 @@ ghost use Rattle.items.specs.Pairs.{DeclPair, of_first};
 use crate::reporting::emit_if;
 use items::Walk;
 use lines::sites::width_changed;
-use parts::Width;
 use parts::decls::width;
 use tally::Tally;
 use types::Reading;
 
-// Both as stored the same, or neither there.
-fn widths_equal(a: Width, b: Width) -> bool
-    ensures { result ≡ same_option eqb (width_of a) (width_of b) }
+// Whether the widths of two declarations differ: as they are stored, or one has none.
+fn widths_differ(old: &[u8], i: usize, new: &[u8], j: usize) -> bool
+    requires { DeclHere old.now i × DeclHere new.now j }
+    ensures { result ≡ not (same_option eqb (decl_in old.now i).width (decl_in new.now j).width) }
 {
-    let Width::Wire(m) = a else {
-        let Width::Absent = b else {
-            return false;
-        };
-        return true;
-    };
-    let Width::Wire(n) = b else {
-        return false;
-    };
-    m == n
+    width(old, i) != width(new, j)
 }
 
 // Two declarations of one kind, before their clause.
@@ -45,7 +36,7 @@ pub fn compare_widths(
     match walk.reading {
         Reading::Plain => t,
         Reading::Mended => {
-            let test = !widths_equal(width(old, i), width(new, j));
+            let test = widths_differ(old, i, new, j);
             emit_if(walk, old, new, out, t, test, width_changed(i, j))
         }
     }

@@ -1,7 +1,8 @@
 -- What is asked of every policy, policy by policy: a further one adds a clause to each. Assumes nothing.
 use mathlib.Core.Path.{◌≡◌, refl, sym, ap, ◌∙◌}
 use mathlib.Core.Bool.{Bool, true, false}
-use mathlib.Core.Option.{Option, none, or_else}
+use Rattle.std.specs.Prelude.{Option, None}
+use Rattle.std.specs.Option.{option_or}
 use mathlib.Core.List.{List, [], ◌∷◌}
 use Prim.Native.Nat.{ℕ}
 use Rattle.image.specs.Schema.{Schema}
@@ -27,10 +28,10 @@ use Rattle.compat.specs.declared.policies.Policy.TheVariants as policy
 
 -- 11 is the last check of the pair
 last_check : (view : Schema → View) (x y : Schema) → alias_fault (alias_pair (view x) (view y)) ≡ first_fault (alias_check view ∷ []) x y
-unfolding alias_fault first_fault alias_check or_else
+unfolding alias_fault first_fault alias_check
 last_check view x y = go (alias_pair (view x) (view y))
   where
-    go : (u : Bool) → alias_fault u ≡ or_else (alias_fault u) none
+    go : (u : Bool) → alias_fault u ≡ option_or (alias_fault u) None
     go true = refl
     go false = refl
 
@@ -57,11 +58,11 @@ policy_view policy.Mended x = sym (view_none x)
 
 -- what its checks of the pair say
 pub policy_pair : (p : Policy) (x y : Schema)
-    → or_else (format_fault p x y) (alias_fault (alias_pair ((policy_of p).view x) ((policy_of p).view y))) ≡ first_fault (policy_of p).pair x y
-unfolding policy_of format_fault first_fault or_else
+    → option_or (format_fault p x y) (alias_fault (alias_pair ((policy_of p).view x) ((policy_of p).view y))) ≡ first_fault (policy_of p).pair x y
+unfolding policy_of format_fault first_fault
 policy_pair policy.Plain x y = last_check view_of x y
 policy_pair policy.Imports x y = last_check imports_view x y
-policy_pair policy.Mended x y = ap (or_else (mixed_check x y)) (last_check view_of x y)
+policy_pair policy.Mended x y = ap (option_or (mixed_check x y)) (last_check view_of x y)
 
 -- how its walk reads
 pub policy_reading : (p : Policy) → reading_of (reading_in p) ≡ (policy_of p).reading
@@ -86,6 +87,6 @@ module _ (p : Policy) {old new : List ℕ} {a b : IdSet} (h : Prepared p old new
 
   -- and 11, after what comes before it, is told by them
   pub policy_aliases : {f : Option Fault} → f ≡ format_fault p (schema_of old) (schema_of new)
-      → or_else f (alias_fault (both_aliases old new a b)) ≡ first_fault (policy_of p).pair (schema_of old) (schema_of new)
+      → option_or f (alias_fault (both_aliases old new a b)) ≡ first_fault (policy_of p).pair (schema_of old) (schema_of new)
   unfolding both_aliases
   policy_aliases e = rw (e, old_view, new_view) (policy_pair p (schema_of old) (schema_of new))

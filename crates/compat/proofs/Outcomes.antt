@@ -1,6 +1,7 @@
 -- Two images by stages: from what the checks say to the outcome, and what the report call makes of the verdict. Assumes nothing.
 use mathlib.Core.Path.{◌≡◌, refl, sym, ap, ◌∙◌}
-use mathlib.Core.Option.{Option, none, or_else}
+use Rattle.std.specs.Prelude.{Option, None, Result, Ok, Err, ⊤}
+use Rattle.std.specs.Option.{option_or}
 use mathlib.Core.List.{List}
 use Prim.Native.Nat.{ℕ, ◌^◌, ◌≤◌, ◌<◌}
 use native.Mathlib.Nat.{zero-add}
@@ -9,6 +10,7 @@ use borrow.Author.Tests.{le-leb, lt-leb}
 use lib.ListN.{length, take, length-take}
 use Rattle.image.specs.Schema.{Schema}
 use Rattle.parts.specs.Codes.{number, old_side, new_side, both_sides}
+use Rattle.parts.specs.Numbers.{refusal_number, side_number}
 use Rattle.text.specs.Text.{put, put_in, Space}
 use Rattle.text.specs.declared.Mode.{Mode}
 use Rattle.text.specs.declared.Mode.TheVariants.{Measure, Write}
@@ -31,39 +33,37 @@ use Rattle.verdicts.specs.declared.Verdict.{Verdict}
 use Rattle.compat.specs.Policies.{policy_of, walk_of, changes_by, HasIds, Prepared, fault_of, Passing}
 use Rattle.compat.specs.Passes.{ReportSpace, Passed, Reported}
 use Rattle.compat.specs.declared.policies.Policy.{Policy}
-use Rattle.compat.specs.declared.policies.Judged.{Judged}
-use Rattle.compat.specs.declared.policies.Judged.TheVariants as judging
+use Rattle.compat.specs.declared.policies.Fault.{Fault as Found}
 use Rattle.compat.proofs.Kept.{policy_numbered, policy_bounded, policy_changes}
 
 -- ---- what a check says
 
-module _ {j : Judged} {o : Option Fault} (e : fault_of j ≡ o) where
-  pub says_none : j ≡ judging.Passes → o ≡ none
+module _ {j : Result ⊤ Found} {o : Option Fault} (e : fault_of j ≡ o) where
+  pub says_none : j ≡ Ok tt → o ≡ None
   unfolding fault_of
   says_none p = sym e ∙ ap fault_of p
 
   -- what comes before another check: it passes, or its fault is told
-  pub first_passes : j ≡ judging.Passes → (k : Judged) {q : Option Fault} → fault_of k ≡ q → fault_of k ≡ or_else o q
-  unfolding or_else
+  pub first_passes : j ≡ Ok tt → (k : Result ⊤ Found) {q : Option Fault} → fault_of k ≡ q → fault_of k ≡ option_or o q
   first_passes p k r = r ∙ rw (says_none p)
 
-  pub first_told : {n s : ℕ} → j ≡ judging.Fault n s → (q : Option Fault) → fault_of (judging.Fault n s) ≡ or_else o q
-  unfolding fault_of or_else
+  pub first_told : {f : Found} → j ≡ Err f → (q : Option Fault) → fault_of (Err f) ≡ option_or o q
+  unfolding fault_of
   first_told p q = rw (sym e ∙ ap fault_of p)
 
-  pub passes_on : j ≡ judging.Passes → (u : Outcome) → u ≡ judged o u
+  pub passes_on : j ≡ Ok tt → (u : Outcome) → u ≡ judged o u
   unfolding judged
   passes_on p u = rw (says_none p)
 
-  pub fault_told : {n s : ℕ} → j ≡ judging.Fault n s → (u : Outcome) → refused_by n s ≡ verdict_is (judged o u)
+  pub fault_told : {f : Found} → j ≡ Err f → (u : Outcome) → refused_by (refusal_number f.refusal) (side_number f.side) ≡ verdict_is (judged o u)
   unfolding fault_of judged verdict_is
   fault_told p u = rw (sym e ∙ ap fault_of p)
 
 -- ---- two images
 
 module _ (p : Policy) (old new : List ℕ) where
-  pub old_refused_lem : {j : Judged} → fault_of j ≡ fault_in (policy_of p) (number old_side) old → {n s : ℕ} → j ≡ judging.Fault n s
-      → refused_by n s ≡ verdict_is (outcome (policy_of p) old new)
+  pub old_refused_lem : {j : Result ⊤ Found} → fault_of j ≡ fault_in (policy_of p) (number old_side) old → {f : Found} → j ≡ Err f
+      → refused_by (refusal_number f.refusal) (side_number f.side) ≡ verdict_is (outcome (policy_of p) old new)
   unfolding fault_of verdict_is
   old_refused_lem e q = sym (ap verdict_is (old_fault (policy_of p) old new (sym e ∙ ap fault_of q)))
 
@@ -72,8 +72,8 @@ module _ (p : Policy) (old new : List ℕ) where
     unfolding Passing
     old_passes = no_fault (policy_of p) (number old_side) old a
 
-    pub new_refused_lem : {j : Judged} → fault_of j ≡ fault_in (policy_of p) (number new_side) new → {n s : ℕ} → j ≡ judging.Fault n s
-        → refused_by n s ≡ verdict_is (outcome (policy_of p) old new)
+    pub new_refused_lem : {j : Result ⊤ Found} → fault_of j ≡ fault_in (policy_of p) (number new_side) new → {f : Found} → j ≡ Err f
+        → refused_by (refusal_number f.refusal) (side_number f.side) ≡ verdict_is (outcome (policy_of p) old new)
     unfolding fault_of verdict_is
     new_refused_lem e q = sym (ap verdict_is (new_fault (policy_of p) old new old_passes.1 (sym e ∙ ap fault_of q)))
 
@@ -90,20 +90,20 @@ module _ (p : Policy) (old new : List ℕ) where
           rw ((read_accepted old old_passes.1.read).1, (read_accepted new new_passes.1.read).1)
           (sym (both_pass (policy_of p) old new old_passes.1 new_passes.1))
 
-  pub passing : (side : ℕ) (s : List ℕ) {j : Judged} → fault_of j ≡ fault_in (policy_of p) side s → j ≡ judging.Passes → Passing p side s
+  pub passing : (side : ℕ) (s : List ℕ) {j : Result ⊤ Found} → fault_of j ≡ fault_in (policy_of p) side s → j ≡ Ok tt → Passing p side s
   unfolding Passing
   passing side s e q = says_none e q
 
   -- ---- two accepted images
 
-  module _ {j : Judged} (e : fault_of j ≡ first_fault (policy_of p).pair (schema_of old) (schema_of new)) where
-    pub pair_passes : j ≡ judging.Passes
+  module _ {j : Result ⊤ Found} (e : fault_of j ≡ first_fault (policy_of p).pair (schema_of old) (schema_of new)) where
+    pub pair_passes : j ≡ Ok tt
         → compared (changes_by p old new) ≡ compare_pair (policy_of p) (schema_of old) (schema_of new)
     unfolding compare_pair changes_by
     pair_passes q = passes_on e q _
 
-    pub pair_refused_lem : {n s : ℕ} → j ≡ judging.Fault n s
-        → refused_by n s ≡ verdict_is (compare_pair (policy_of p) (schema_of old) (schema_of new))
+    pub pair_refused_lem : {f : Found} → j ≡ Err f
+        → refused_by (refusal_number f.refusal) (side_number f.side) ≡ verdict_is (compare_pair (policy_of p) (schema_of old) (schema_of new))
     unfolding compare_pair
     pair_refused_lem q = fault_told e q _
 

@@ -18,7 +18,6 @@ use Rattle.tally.specs.declared.Tally.{Tally}
 use Rattle.tally.proofs.Running.{ready_start, ran_tally, ran_lines}
 use Rattle.lines.specs.Last.{last_line_of}
 use Rattle.lines.proofs.Lines.{last_line_lem}
-use Rattle.details.proofs.Writers.{space_as, puts_as}
 use Rattle.verdicts.specs.Verdicts.{of_tally, verdict_is}
 use Rattle.verdicts.specs.declared.Verdict.{Verdict}
 use Rattle.compat.specs.Passes.{Passed}
@@ -47,11 +46,11 @@ module _ {m : Mode} {d : List ℕ} (cs : List Change) (s : Space m d 0 (length (
     -- what the last line's writer asks
     pub last_ready : (t.bump.level ≤ 2) × Space m d' t.length (length (last_line_of t))
     unfolding bump_of
-    last_ready = (omega (arith, (ran_tally a refl).bump, largest_two cs), space_as last_is (owes_room after))
+    last_ready = (omega (arith, (ran_tally a refl).bump, largest_two cs), rw last_is (owes_room after))
 
     module _ {n : ℕ} {d'' : List ℕ} (w : Puts m d' t.length (last_line_of t) n d'') where
       done : Puts m d 0 (report cs) n d''
-      done = owes_end (owes_next after (puts_as last_is w))
+      done = owes_end (owes_next after (rw last_is at w))
 
       pub passed : {v : Verdict} → v ≡ of_tally t n → Passed m d cs v d''
       passed e = record { verdict = e ∙ tally_verdict cs t n (ran_tally a refl) (omega (arith, done.end)); bytes = done.bytes }

@@ -1,8 +1,8 @@
 -- What the code's policies stand for, and what it says of a check. Assumes nothing.
-use Rattle.std.specs.Prelude.{◌≡◌, Bool, cond, List, [], ℕ, ◌≤◌, length, take}
-use Rattle.std.proofs.Math.Option.{Option, none, some}
+use Rattle.std.specs.Prelude.{◌≡◌, Bool, cond, List, [], ℕ, ◌≤◌, length, take, Option, None, Some, Result, Ok, Err, ⊤}
 use Rattle.image.specs.Schema.{Schema}
 use Rattle.parts.specs.Codes.{number, alias_pair_refusal, both_sides}
+use Rattle.parts.specs.Numbers.{refusal_number, side_number}
 use Rattle.parts.specs.Promise.{schema_of}
 use Rattle.text.specs.declared.Mode.{Mode}
 use Rattle.types.specs.declared.Reading.{Reading}
@@ -18,8 +18,7 @@ use Rattle.checking.specs.Decls.{BothSearchable}
 use Rattle.reached.specs.declared.Reached.{Reached}
 use Rattle.compat.specs.declared.policies.Policy.{Policy}
 use Rattle.compat.specs.declared.policies.Policy.TheVariants as policy
-use Rattle.compat.specs.declared.policies.Judged.{Judged}
-use Rattle.compat.specs.declared.policies.Judged.TheVariants as judged
+use Rattle.compat.specs.declared.policies.Fault.{Fault as Found}
 
 unfoldable pub policy_of : Policy → Definition
 policy_of policy.Plain = plain
@@ -64,18 +63,23 @@ pub record Prepared (p : Policy) (old new : List ℕ) (a b : IdSet) : Type 0 whe
 
 -- what comes before 11: 16 in the mended verdict
 unfoldable pub format_fault : Policy → Schema → Schema → Option Fault
-format_fault policy.Plain x y = none
-format_fault policy.Imports x y = none
+format_fault policy.Plain x y = None
+format_fault policy.Imports x y = None
 format_fault policy.Mended x y = mixed_check x y
 
 -- 11, if there is such a pair
 unfoldable pub alias_fault : Bool → Option Fault
-alias_fault pair = cond pair (some (fault (number alias_pair_refusal) (number both_sides))) none
+alias_fault pair = cond pair (Some (fault (number alias_pair_refusal) (number both_sides))) None
 
-unfoldable pub fault_of : Judged → Option Fault
-fault_of judged.Passes = none
-fault_of (judged.Fault number side) = some (fault number side)
+-- what the code's fault stands for
+abbrev pub fault_by : Found → Fault
+fault_by f = fault (refusal_number f.refusal) (side_number f.side)
+
+-- what a check says: images pass, or the fault that it found
+unfoldable pub fault_of : Result ⊤ Found → Option Fault
+fault_of (Ok u) = None
+fault_of (Err f) = Some (fault_by f)
 
 -- one image alone is not refused
 unfoldable pub Passing : Policy → ℕ → List ℕ → Type 0
-Passing p side image = fault_in (policy_of p) side image ≡ none
+Passing p side image = fault_in (policy_of p) side image ≡ None

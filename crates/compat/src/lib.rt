@@ -7,6 +7,7 @@ pub mod policies;
 ghost use Rattle.std.specs.Prelude.{◌≡◌};
 ghost use Rattle.parts.specs.Promise.{schema_of};
 ghost use Rattle.parts.specs.Codes.{number, old_side};
+ghost use Rattle.parts.specs.Numbers.{side_number};
 ghost use Rattle.rules.specs.Answer.{compared, fault_in, compare_pair, outcome};
 ghost use Rattle.items.specs.Pairs.{BothAccepted};
 ghost use Rattle.checking.specs.Decls.{BothSearchable, all_changes};
@@ -14,23 +15,23 @@ ghost use Rattle.verdicts.specs.Verdicts.{verdict_is};
 ghost use Rattle.compat.specs.Policies.{policy_of, changes_by, Prepared, fault_of, Passing};
 ghost use Rattle.compat.specs.Passes.{ReportSpace, Passed, Reported};
 
-use crate::policies::{Judged, Policy, ids_of, judge_alone, judge_pair, walk_of};
+use crate::policies::{Fault, Policy, ids_of, judge_alone, judge_pair, walk_of};
 use checking::check;
 use items::Walk;
 use lines::reporting::put_last_line;
-use parts::refusals::FULL;
-use parts::sides::{BOTH, NEW, OLD};
-use reader::{Acceptance, read_image};
+use parts::refusals::Refusal;
+use parts::sides::Side;
+use reader::read_image;
 use text::Mode;
 use verdicts::Verdict;
 
 // One image: 1 to 10, and then the check of one image.
-fn accept(policy: Policy, image: &[u8], side: u8) -> Judged
-    ensures { fault_of result ≡ fault_in (policy_of policy) side image.now }
+fn accept(policy: Policy, image: &[u8], side: Side) -> Result<(), Fault>
+    ensures { fault_of result ≡ fault_in (policy_of policy) (side_number side) image.now }
 {
     match read_image(image) {
-        Acceptance::Accepted => judge_alone(policy, image, side),
-        Acceptance::Rejected(number) => Judged::Fault(number, side),
+        Ok(()) => judge_alone(policy, image, side),
+        Err(refusal) => Err(Fault { refusal, side }),
     }
 }
 
@@ -86,8 +87,8 @@ fn compare_with(
     ensures { result ≡ verdict_is (compare_pair (policy_of policy) (schema_of old.now) (schema_of new.now)) }
 {
     match judge_pair(policy, old, new, old_reached, new_reached) {
-        Judged::Passes => measure(policy, old, new, old_reached, new_reached),
-        Judged::Fault(number, side) => Verdict::refused(number, side),
+        Ok(()) => measure(policy, old, new, old_reached, new_reached),
+        Err(fault) => Verdict::refused(fault.refusal, fault.side),
     }
 }
 
@@ -110,9 +111,9 @@ fn verdict_new(policy: Policy, old: &[u8], new: &[u8]) -> Verdict
     requires { Passing policy (number old_side) old.now }
     ensures { result ≡ verdict_is (outcome (policy_of policy) old.now new.now) }
 {
-    match accept(policy, new, NEW) {
-        Judged::Passes => compare(policy, old, new),
-        Judged::Fault(number, side) => Verdict::refused(number, side),
+    match accept(policy, new, Side::New) {
+        Ok(()) => compare(policy, old, new),
+        Err(fault) => Verdict::refused(fault.refusal, fault.side),
     }
 }
 
@@ -120,9 +121,9 @@ fn verdict_new(policy: Policy, old: &[u8], new: &[u8]) -> Verdict
 pub fn verdict(policy: Policy, old: &[u8], new: &[u8]) -> Verdict
     ensures { result ≡ verdict_is (outcome (policy_of policy) old.now new.now) }
 {
-    match accept(policy, old, OLD) {
-        Judged::Passes => verdict_new(policy, old, new),
-        Judged::Fault(number, side) => Verdict::refused(number, side),
+    match accept(policy, old, Side::Old) {
+        Ok(()) => verdict_new(policy, old, new),
+        Err(fault) => Verdict::refused(fault.refusal, fault.side),
     }
 }
 
@@ -156,7 +157,7 @@ pub fn report(policy: Policy, old: &[u8], new: &[u8], out: &mut [u8]) -> Verdict
         return v;
     }
     if out.len() < v.length {
-        return Verdict::refused(FULL, BOTH);
+        return Verdict::refused(Refusal::Full, Side::Both);
     }
     write(policy, old, new, out)
 }

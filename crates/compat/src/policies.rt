@@ -1,7 +1,8 @@
 // What is special to a verdict: a further one is a further case of `Policy`, here and in the functions that take a policy apart.
 ghost use Rattle.std.specs.Prelude.{◌≡◌};
 ghost use Rattle.parts.specs.Promise.{Accepted, schema_of};
-ghost use Rattle.std.proofs.Math.Option.{or_else};
+ghost use Rattle.std.specs.Option.{option_or};
+ghost use Rattle.parts.specs.Numbers.{side_number};
 ghost use Rattle.rules.specs.Answer.{first_fault, on_side};
 ghost use Rattle.rules.specs.Widths.{mixed, mixed_check};
 ghost use Rattle.items.specs.Pairs.{BothAccepted};
@@ -11,8 +12,9 @@ ghost use Rattle.compat.specs.Policies.{policy_of, reading_in, walk_of, HasIds, 
 use checking::aliases::alias_pair;
 use items::Walk;
 use parts::entries::format;
-use parts::refusals::{ALIAS_PAIR, MIXED};
-use parts::sides::BOTH;
+use parts::formats::Format;
+use parts::refusals::Refusal;
+use parts::sides::Side;
 use reached::Reached;
 use reached::follow::{nothing, reached};
 use text::Mode;
@@ -26,12 +28,22 @@ pub enum Policy {
     Mended,
 }
 
-// What a check says: images pass, or the number and the side of the fault that it found.
+// Why images get no verdict: what a check finds, if they do not pass.
 #[derive(Clone, Copy)]
-pub enum Judged {
-    Passes,
-    Fault(u8, u8),
+pub struct Fault {
+    pub refusal: Refusal,
+    pub side: Side,
 }
+
+const ALIAS_PAIR: Fault = Fault {
+    refusal: Refusal::AliasPair,
+    side: Side::Both,
+};
+
+const MIXED: Fault = Fault {
+    refusal: Refusal::Mixed,
+    side: Side::Both,
+};
 
 // How types are read, and whether widths are reported.
 fn reading_of(policy: Policy) -> Reading
@@ -48,10 +60,9 @@ fn reading_of(policy: Policy) -> Reading
 pub fn walk_of(policy: Policy, mode: Mode) -> Walk
     ensures { result ≡ walk_of policy mode }
 {
-    let reading = reading_of(policy);
     Walk {
-        mode: mode,
-        reading: reading,
+        mode,
+        reading: reading_of(policy),
     }
 }
 
@@ -68,56 +79,65 @@ pub fn ids_of(policy: Policy, image: &[u8]) -> Reached
 }
 
 // The check of one image, after its 1 to 10 and before the other is read.
-pub fn judge_alone(policy: Policy, image: &[u8], side: u8) -> Judged
+pub fn judge_alone(policy: Policy, image: &[u8], side: Side) -> Result<(), Fault>
     requires { Accepted image.now }
-    ensures { fault_of result ≡ on_side side ((policy_of policy).alone (schema_of image.now)) }
+    ensures { fault_of result ≡ on_side (side_number side) ((policy_of policy).alone (schema_of image.now)) }
 {
     match policy {
-        Policy::Plain => Judged::Passes,
-        Policy::Imports => Judged::Passes,
-        Policy::Mended => Judged::Passes,
+        Policy::Plain => Ok(()),
+        Policy::Imports => Ok(()),
+        Policy::Mended => Ok(()),
     }
 }
 
 // 11.
-fn judge_aliases(old: &[u8], new: &[u8], old_reached: &[bool], new_reached: &[bool]) -> Judged
+fn judge_aliases(
+    old: &[u8],
+    new: &[u8],
+    old_reached: &[bool],
+    new_reached: &[bool],
+) -> Result<(), Fault>
     requires { BothSearchable old.now new.now old_reached.now new_reached.now }
     ensures { fault_of result ≡ alias_fault (both_aliases old.now new.now old_reached.now new_reached.now) }
 {
     if alias_pair(old, new, old_reached, new_reached) {
-        return Judged::Fault(ALIAS_PAIR, BOTH);
+        return Err(ALIAS_PAIR);
     }
-    Judged::Passes
+    Ok(())
 }
 
 // Whether one of two images, or both, are of format 1, which stores no widths.
+#[tactic(auto, unfolding(rules::specs::Widths::mixed))]
 fn is_mixed(old: &[u8], new: &[u8]) -> bool
     requires { BothAccepted old.now new.now }
     ensures { result ≡ mixed (schema_of old.now) (schema_of new.now) }
 {
-    format(old) == 1 || format(new) == 1
+    matches!(format(old), Format::One) || matches!(format(new), Format::One)
 }
 
 // 16.
-fn judge_formats(old: &[u8], new: &[u8]) -> Judged
+fn judge_formats(old: &[u8], new: &[u8]) -> Result<(), Fault>
     requires { BothAccepted old.now new.now }
     ensures { fault_of result ≡ mixed_check (schema_of old.now) (schema_of new.now) }
 {
     if is_mixed(old, new) {
-        return Judged::Fault(MIXED, BOTH);
+        return Err(MIXED);
     }
-    Judged::Passes
+    Ok(())
 }
 
 // 16, and then 11.
-fn judge_mended(old: &[u8], new: &[u8], old_reached: &[bool], new_reached: &[bool]) -> Judged
+fn judge_mended(
+    old: &[u8],
+    new: &[u8],
+    old_reached: &[bool],
+    new_reached: &[bool],
+) -> Result<(), Fault>
     requires { BothSearchable old.now new.now old_reached.now new_reached.now }
-    ensures { fault_of result ≡ or_else (mixed_check (schema_of old.now) (schema_of new.now)) (alias_fault (both_aliases old.now new.now old_reached.now new_reached.now)) }
+    ensures { fault_of result ≡ option_or (mixed_check (schema_of old.now) (schema_of new.now)) (alias_fault (both_aliases old.now new.now old_reached.now new_reached.now)) }
 {
-    match judge_formats(old, new) {
-        Judged::Passes => judge_aliases(old, new, old_reached, new_reached),
-        Judged::Fault(number, side) => Judged::Fault(number, side),
-    }
+    judge_formats(old, new)?;
+    judge_aliases(old, new, old_reached, new_reached)
 }
 
 // The checks of the pair, in their order.
@@ -127,7 +147,7 @@ pub fn judge_pair(
     new: &[u8],
     old_reached: &[bool],
     new_reached: &[bool],
-) -> Judged
+) -> Result<(), Fault>
     requires { Prepared policy old.now new.now old_reached.now new_reached.now }
     ensures { fault_of result ≡ first_fault (policy_of policy).pair (schema_of old.now) (schema_of new.now) }
 {

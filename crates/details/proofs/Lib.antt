@@ -1,3 +1,2 @@
--- Writers: a writer of one text is one of another that equals it. Table: the table's words, and those of rules in it.
-pub mod Writers
+-- Table: the words of rules in the table of all.
 pub mod Table

@@ -1,7 +1,6 @@
 -- The texts that a detail, a declaration's scope and an item stand for, of the old and the new image's bytes, in the texts of rules; and
 -- that their places are well formed. Assumes nothing.
-use Rattle.std.proofs.Math.Option.{Option, none, some}
-use Rattle.std.specs.Prelude.{List, [], ◌++◌, ℕ}
+use Rattle.std.specs.Prelude.{Option, None, Some, List, [], ◌++◌, ℕ}
 use Rattle.image.specs.Schema.{Name}
 use Rattle.image.specs.Words.{bytes, kind_word}
 use Rattle.parts.specs.Promise.{Accepted, schema_of, TypeHere, tree_in, ItemHere, ordinal_in, item_name, variant_in, field_in, DeclHere, decl_in}
@@ -39,9 +38,9 @@ declaration_of old new (scope.New at) = (decl_in new at).name
 declaration_of old new (scope.Variant decl at) = variant_name old decl at
 
 unfoldable pub item_of : List ℕ → List ℕ → Item → Option Name
-item_of old new item.Nothing = none
-item_of old new (item.Old at) = some (item_name old at)
-item_of old new (item.New at) = some (item_name new at)
+item_of old new item.Nothing = None
+item_of old new (item.Old at) = Some (item_name old at)
+item_of old new (item.New at) = Some (item_name new at)
 
 -- ---- details
 

@@ -1,19 +1,18 @@
 // The detail of a change, apart from its line: what the change is of, what happened to it, and the values that changed; and the other
 // texts of a line, its words and its names.
-#![tactic(auto)]
+#![tactic(auto, using(text::proofs::Writers::after_after))]
 
 pub mod names;
 mod shown;
 mod subjects;
 pub mod words;
 
-ghost use Rattle.std.specs.Prelude.{length};
-ghost use Rattle.text.specs.Text.{Space, Puts};
+ghost use Rattle.text.specs.Writers.{Adds};
 ghost use Rattle.details.specs.Details.{verb_text, detail_text, DetailHere};
 
 use crate::shown::put_values;
 use crate::subjects::put_subject;
-use text::{Mode, put_text};
+use text::Writer;
 
 // The declaration that a change is in: none, for the namespace; the body at a place of the old or of the new image; or a variant of a
 // union, by the places of the union's body and of the variant, both in the old image.
@@ -109,37 +108,31 @@ pub struct Detail {
 }
 
 // What happened to the subject.
-fn put_verb(mode: Mode, out: &mut [u8], at: usize, verb: Verb) -> usize
-    requires { Space mode out.old at (length (verb_text verb)) }
-    ensures { Puts mode out.old at (verb_text verb) result out.new }
+#[tactic(auto, using(text::proofs::Writers::after_after), unfolding(crate::specs::Details::verb_text, crate::specs::Words::bytes))]
+fn put_verb(w: &mut Writer<'_>, verb: Verb)
+    ensures { Adds w.old (verb_text verb) w.new }
 {
     match verb {
-        Verb::Removed => put_text(mode, out, at, b" was removed"),
-        Verb::Added => put_text(mode, out, at, b" was added"),
-        Verb::Changed => put_text(mode, out, at, b" changed"),
-        Verb::Renamed => put_text(mode, out, at, b" renamed"),
-        Verb::TypeChanged => put_text(mode, out, at, b" type changed"),
-        Verb::EncodingChanged => put_text(mode, out, at, b" encoding changed"),
-        Verb::Deprecated => put_text(mode, out, at, b" was marked @deprecated"),
+        Verb::Removed => w.text(b" was removed"),
+        Verb::Added => w.text(b" was added"),
+        Verb::Changed => w.text(b" changed"),
+        Verb::Renamed => w.text(b" renamed"),
+        Verb::TypeChanged => w.text(b" type changed"),
+        Verb::EncodingChanged => w.text(b" encoding changed"),
+        Verb::Deprecated => w.text(b" was marked @deprecated"),
     }
 }
 
 // Subject, verb and values.
-pub fn put_detail(
-    mode: Mode,
-    old: &[u8],
-    new: &[u8],
-    out: &mut [u8],
-    at: usize,
-    detail: Detail,
-) -> usize
-    requires { DetailHere old.now new.now detail × Space mode out.old at (length (detail_text old.now new.now detail)) }
-    ensures { Puts mode out.old at (detail_text old.now new.now detail) result out.new }
+#[tactic(auto, using(text::proofs::Writers::after_after), unfolding(crate::specs::Details::detail_text))]
+pub fn put_detail(w: &mut Writer<'_>, old: &[u8], new: &[u8], detail: Detail)
+    requires { DetailHere old.now new.now detail }
+    ensures { Adds w.old (detail_text old.now new.now detail) w.new }
 {
     let subject = detail.subject;
     let verb = detail.verb;
     let values = detail.values;
-    let at = put_subject(mode, old, new, out, at, subject);
-    let at = put_verb(mode, out, at, verb);
-    put_values(mode, old, new, out, at, values)
+    put_subject(w, old, new, subject);
+    put_verb(w, verb);
+    put_values(w, old, new, values);
 }

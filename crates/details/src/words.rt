@@ -1,11 +1,11 @@
 // The names of `ChangeKind`, `BumpKind` and `CompatResult`, and those of `decl_kind_name`, by their number in one table.
-ghost use Rattle.std.specs.Prelude.{◌≤◌, ◌<◌, length};
-ghost use Rattle.parts.specs.Codes.{number, impl_kind};
 ghost use Rattle.image.specs.Words.{kind_word};
-ghost use Rattle.text.specs.Text.{Space, Puts};
+ghost use Rattle.parts.specs.Numbers.{kind_number};
+ghost use Rattle.text.specs.Writers.{Adds};
 ghost use Rattle.details.specs.Words.{word_at};
 
-use text::{Mode, put_text};
+use parts::kinds::Kind;
+use text::Writer;
 
 // Where the names of bumps, of results and of kinds of declarations begin in the table; it begins with those of kinds of changes.
 pub const BUMPS: usize = 19;
@@ -14,28 +14,52 @@ pub const RESULTS: usize = 22;
 
 const DECLS: usize = 24;
 
-// Where each name starts in their text, and where the last ends.
-const STARTS: [usize; 34] = [
-    0, 10, 22, 38, 57, 69, 84, 104, 116, 130, 151, 167, 185, 207, 223, 243, 256, 271, 293, 305,
-    310, 315, 320, 330, 338, 345, 349, 354, 359, 366, 372, 385, 390, 394,
-];
-
-// The word with a number.
-pub fn put_word(mode: Mode, out: &mut [u8], at: usize, word: usize) -> usize
-    requires { (word < 33) × Space mode out.old at (length (word_at word)) }
-    ensures { Puts mode out.old at (word_at word) result out.new }
+// The word with a number. What is past the last word is empty.
+pub fn put_word(w: &mut Writer<'_>, word: usize)
+    ensures { Adds w.old (word_at word) w.new }
 {
-    let names =
-        *b"FieldAddedFieldRemovedFieldTypeChangedFieldOrdinalChangedFieldRenamedFieldDeprecatedFieldEncodingChangedVariantAddedVariantRemovedVariantOrdinalChangedDeclarationAddedDeclarationRemovedDeclarationKindChangedNamespaceChangedNonExhaustiveChangedFlagsBitAddedFlagsBitRemovedFlagsBitOrdinalChangedWidthChangedPatchMinorMajorCompatibleBreakingmessageenumflagsunionnewtypeconfiggeneric_aliastraitimpl";
-    let start = STARTS[word];
-    let end = STARTS[word + 1];
-    put_text(mode, out, at, &names[start..end])
+    const WORDS: [&[u8]; 33] = [
+        b"FieldAdded",
+        b"FieldRemoved",
+        b"FieldTypeChanged",
+        b"FieldOrdinalChanged",
+        b"FieldRenamed",
+        b"FieldDeprecated",
+        b"FieldEncodingChanged",
+        b"VariantAdded",
+        b"VariantRemoved",
+        b"VariantOrdinalChanged",
+        b"DeclarationAdded",
+        b"DeclarationRemoved",
+        b"DeclarationKindChanged",
+        b"NamespaceChanged",
+        b"NonExhaustiveChanged",
+        b"FlagsBitAdded",
+        b"FlagsBitRemoved",
+        b"FlagsBitOrdinalChanged",
+        b"WidthChanged",
+        b"Patch",
+        b"Minor",
+        b"Major",
+        b"Compatible",
+        b"Breaking",
+        b"message",
+        b"enum",
+        b"flags",
+        b"union",
+        b"newtype",
+        b"config",
+        b"generic_alias",
+        b"trait",
+        b"impl",
+    ];
+    display::words::put_word(w, &WORDS, word);
 }
 
 // The word of a kind of declaration.
-pub fn put_kind(mode: Mode, out: &mut [u8], at: usize, kind: u8) -> usize
-    requires { (kind ≤ number impl_kind) × Space mode out.old at (length (kind_word kind)) }
-    ensures { Puts mode out.old at (kind_word kind) result out.new }
+#[tactic(auto, using(crate::proofs::Table::decl_word))]
+pub fn put_kind(w: &mut Writer<'_>, kind: Kind)
+    ensures { Adds w.old (kind_word (kind_number kind)) w.new }
 {
-    put_word(mode, out, at, DECLS + kind as usize)
+    put_word(w, DECLS + kind as usize);
 }

@@ -1,5 +1,4 @@
--- Names: the names of a run, one at a time. Words: words in one text. Texts: how types and encodings are shown, as pieces one after the
--- other.
+-- Names: the names of a run, one at a time. Words: words by their number. Texts: how types and encodings are shown.
 pub mod Names
 pub mod Words
 pub mod Texts

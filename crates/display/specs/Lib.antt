@@ -1,3 +1,3 @@
--- Words: words by their number, in one text. Display: texts, and what the writer of a type answers.
+-- Words: words by their number. Display: texts at places of an image.
 pub mod Words
 pub mod Display

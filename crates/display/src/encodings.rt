@@ -1,34 +1,28 @@
 // How encodings are shown.
-ghost use Rattle.std.specs.Prelude.{length};
 ghost use Rattle.parts.specs.Promise.{coding_of};
 ghost use Rattle.rules.specs.Text.{show_encoding};
-ghost use Rattle.text.specs.Text.{Space, Puts};
+ghost use Rattle.text.specs.Writers.{Adds};
 ghost use Rattle.display.specs.Display.{repeated};
 
 use crate::words::put_word;
 use parts::Encoding;
-use text::{Mode, put_text};
+use text::Writer;
 
 // A text so many times.
-fn put_times(mode: Mode, out: &mut [u8], at: usize, s: &[u8], times: usize) -> usize
-    requires { Space mode out.old at (length (repeated times s.now)) }
-    ensures { Puts mode out.old at (repeated times s.now) result out.new }
+fn put_times(w: &mut Writer<'_>, s: &[u8], times: usize)
+    ensures { Adds w.old (repeated times s.now) w.new }
 {
-    let mut done = at;
-    let mut left = times;
-    while 0 < left {
-        done = put_text(mode, out, done, s);
-        left -= 1;
+    for _ in 0..times {
+        w.text(s);
     }
-    done
 }
 
 // `delta(varint)`: the base inside of its deltas.
-pub fn encoding_display(mode: Mode, out: &mut [u8], at: usize, e: Encoding) -> usize
-    requires { Space mode out.old at (length (show_encoding (coding_of e))) }
-    ensures { Puts mode out.old at (show_encoding (coding_of e)) result out.new }
+pub fn encoding_display(w: &mut Writer<'_>, e: Encoding)
+    ensures { Adds w.old (show_encoding (coding_of e)) w.new }
 {
-    let opened = put_times(mode, out, at, b"delta(", e.deltas);
-    let based = put_word(mode, out, opened, b"default varint zigzag ", e.base);
-    put_times(mode, out, based, b")", e.deltas)
+    const BASES: [&[u8]; 3] = [b"default", b"varint", b"zigzag"];
+    put_times(w, b"delta(", e.deltas);
+    put_word(w, &BASES, e.base as usize);
+    put_times(w, b")", e.deltas);
 }

@@ -1,55 +1,51 @@
-// How types, encodings and namespaces at places of accepted images are shown: measured, or written into a lent buffer at a place.
-// `at` is a place in the buffer, `node` the place of a type's node in the image.
-#![tactic(auto)]
+// How types, encodings and namespaces at places of accepted images are shown. `node` is the place of a type's node in the image.
+#![tactic(auto, using(text::proofs::Writers::after_after))]
 
 pub mod encodings;
 mod names;
 pub mod namespaces;
-mod words;
+pub mod words;
 
-ghost use Rattle.std.specs.Prelude.{◌≡◌, ◌<◌, length};
+ghost use Rattle.std.specs.Prelude.{◌≡◌, ◌<◌};
 ghost use Rattle.parts.specs.Codes.{number, sub_byte_tag, named_tag};
-ghost use Rattle.parts.specs.Promise.{Accepted, LabelHere, label_in, TypeHere};
+ghost use Rattle.parts.specs.Numbers.{tag_number};
+ghost use Rattle.parts.specs.Promise.{Accepted, LabelHere, label_in, TypeHere, type_end};
 ghost use Rattle.rules.specs.Text.{show_name};
-ghost use Rattle.text.specs.Text.{Space, Puts};
+ghost use Rattle.text.specs.Writers.{Adds};
 ghost use Rattle.types.specs.Names.{LabelNames};
 ghost use Rattle.types.specs.Resolved.{named_by};
-ghost use Rattle.display.specs.Display.{LeafSpace, leaf_text, size_text, type_text, Displayed};
+ghost use Rattle.display.specs.Display.{leaf_text, size_text, type_text};
 
 use crate::names::names_display;
 use crate::words::put_word;
+use parts::Run;
 use parts::decls::decl_name;
 use parts::entries::entry;
+use parts::tags::Tag;
 use parts::types::{bit_names, label_end, type_bits, type_code, type_id, type_size, type_tag};
-use parts::{Entry, Run, tags};
-use text::{Mode, put_byte, put_number, put_text};
+use text::Writer;
 use types::nodes::inner_types;
 
-// The place in the buffer after a type's text, and the place in the image after the type.
-#[derive(Clone, Copy)]
-struct Shown {
-    text: usize,
-    next: usize,
-}
-
 // The name that an id stands for, or `<unknown>`.
-fn named_display(mode: Mode, image: &[u8], out: &mut [u8], at: usize, id: u32) -> usize
-    requires { Accepted image.now × Space mode out.old at (length (show_name (named_by image.now id))) }
-    ensures { Puts mode out.old at (show_name (named_by image.now id)) result out.new }
+fn named_display(w: &mut Writer<'_>, image: &[u8], id: u32)
+    requires { Accepted image.now }
+    ensures { Adds w.old (show_name (named_by image.now id)) w.new }
 {
-    let Entry::Body(p) = entry(image, id) else {
-        return put_text(mode, out, at, b"<unknown>");
+    let Some(p) = entry(image, id) else {
+        w.text(b"<unknown>");
+        return;
     };
-    put_text(mode, out, at, decl_name(image, p))
+    w.text(decl_name(image, p));
 }
 
 // `u3`, `i5`.
-fn sub_byte_display(mode: Mode, image: &[u8], out: &mut [u8], at: usize, node: usize) -> usize
-    requires { LabelHere image.now node × ((label_in image.now node).tag ≡ number sub_byte_tag) × LeafSpace mode out.old at image.now node }
-    ensures { Puts mode out.old at (leaf_text image.now node) result out.new }
+fn sub_byte_display(w: &mut Writer<'_>, image: &[u8], node: usize)
+    requires { LabelHere image.now node × ((label_in image.now node).tag ≡ number sub_byte_tag) }
+    ensures { Adds w.old (leaf_text image.now node) w.new }
 {
-    let signed = put_word(mode, out, at, b"u i ", type_code(image, node));
-    put_number(mode, out, signed, type_bits(image, node) as u64)
+    const SIGNS: [&[u8]; 2] = [b"u", b"i"];
+    put_word(w, &SIGNS, type_code(image, node) as usize);
+    w.number(type_bits(image, node) as u64);
 }
 
 // The names of a node: only bits have any.
@@ -57,114 +53,113 @@ fn label_names(image: &[u8], node: usize) -> Run
     requires { LabelHere image.now node }
     ensures { LabelNames image.now node result }
 {
-    if type_tag(image, node) != tags::BITS {
-        return Run {
+    match type_tag(image, node) {
+        Tag::Bits => bit_names(image, node),
+        _ => Run {
             start: node,
             count: 0,
-        };
+        },
     }
-    bit_names(image, node)
 }
 
 // `bits { a, b }`.
-fn bits_display(mode: Mode, image: &[u8], out: &mut [u8], at: usize, node: usize) -> usize
-    requires { LabelHere image.now node × (number named_tag < (label_in image.now node).tag) × LeafSpace mode out.old at image.now node }
-    ensures { Puts mode out.old at (leaf_text image.now node) result out.new }
+fn bits_display(w: &mut Writer<'_>, image: &[u8], node: usize)
+    requires { LabelHere image.now node × (number named_tag < (label_in image.now node).tag) }
+    ensures { Adds w.old (leaf_text image.now node) w.new }
 {
-    let opened = put_text(mode, out, at, b"bits { ");
-    let named = names_display(mode, image, out, opened, label_names(image, node), b", ");
-    put_text(mode, out, named, b" }")
+    w.text(b"bits { ");
+    names_display(w, image, label_names(image, node), b", ");
+    w.text(b" }");
 }
 
 // A type without inner types.
-fn leaf_display(mode: Mode, image: &[u8], out: &mut [u8], at: usize, node: usize) -> usize
-    requires { Accepted image.now × LabelHere image.now node × LeafSpace mode out.old at image.now node }
-    ensures { Puts mode out.old at (leaf_text image.now node) result out.new }
+fn leaf_display(w: &mut Writer<'_>, image: &[u8], node: usize)
+    requires { Accepted image.now × LabelHere image.now node }
+    ensures { Adds w.old (leaf_text image.now node) w.new }
 {
+    const PRIMITIVES: [&[u8]; 14] = [
+        b"bool", b"u8", b"u16", b"u32", b"u64", b"i8", b"i16", b"i32", b"i64", b"f32", b"f64",
+        b"fixed32", b"fixed64", b"void",
+    ];
+    const SEMANTICS: [&[u8]; 6] = [b"string", b"bytes", b"rgb", b"uuid", b"timestamp", b"hash"];
     let tag = type_tag(image, node);
     match tag {
-        tags::PRIMITIVE => put_word(
-            mode,
-            out,
-            at,
-            b"bool u8 u16 u32 u64 i8 i16 i32 i64 f32 f64 fixed32 fixed64 void ",
-            type_code(image, node),
-        ),
-        tags::SUB_BYTE => sub_byte_display(mode, image, out, at, node),
-        tags::SEMANTIC => put_word(
-            mode,
-            out,
-            at,
-            b"string bytes rgb uuid timestamp hash ",
-            type_code(image, node),
-        ),
-        tags::NAMED => named_display(mode, image, out, at, type_id(image, node)),
-        _ => bits_display(mode, image, out, at, node),
+        Tag::Primitive => put_word(w, &PRIMITIVES, type_code(image, node) as usize),
+        Tag::SubByte => sub_byte_display(w, image, node),
+        Tag::Semantic => put_word(w, &SEMANTICS, type_code(image, node) as usize),
+        Tag::Named => named_display(w, image, type_id(image, node)),
+        _ => bits_display(w, image, node),
     }
 }
 
 // `, 4` in `array<T, 4>`: only a fixed array has a size.
-fn size_display(mode: Mode, image: &[u8], out: &mut [u8], at: usize, node: usize) -> usize
-    requires { LabelHere image.now node × Space mode out.old at (length (size_text image.now node)) }
-    ensures { Puts mode out.old at (size_text image.now node) result out.new }
+fn size_display(w: &mut Writer<'_>, image: &[u8], node: usize)
+    requires { LabelHere image.now node }
+    ensures { Adds w.old (size_text image.now node) w.new }
 {
-    if type_tag(image, node) != tags::FIXED_ARRAY {
-        return at;
+    if let Tag::FixedArray = type_tag(image, node) {
+        w.text(b", ");
+        w.number(type_size(image, node));
     }
-    let parted = put_text(mode, out, at, b", ");
-    put_number(mode, out, parted, type_size(image, node))
 }
 
-// A type of at most `left` nodes on a path: it calls itself on inner types, each from the place where the one before it ended.
-fn node_display(
-    mode: Mode,
-    image: &[u8],
-    out: &mut [u8],
-    at: usize,
-    node: usize,
-    left: usize,
-) -> Shown
-    requires { Accepted image.now × TypeHere left image.now node × Space mode out.old at (length (type_text image.now node)) }
-    ensures { Displayed mode out.old at image.now node result out.new }
+// A tag's number.
+fn number_of(tag: Tag) -> usize
+    ensures { result ≡ tag_number tag }
 {
+    tag as usize
+}
+
+// A type of at most `left` nodes on a path, and the place in the image after it: it calls itself on inner types, each from the place where
+// the one before it ended.
+fn node_display(w: &mut Writer<'_>, image: &[u8], node: usize, left: usize) -> usize
+    requires { Accepted image.now × TypeHere left image.now node }
+    ensures text { Adds w.old (type_text image.now node) w.new }
+    ensures end { result ≡ type_end image.now node }
+{
+    // The four tags before Optional have no opening: empty words.
+    const OPENINGS: [&[u8]; 16] = [
+        b"",
+        b"",
+        b"",
+        b"",
+        b"optional<",
+        b"array<",
+        b"array<",
+        b"set<",
+        b"map<",
+        b"result<",
+        b"vec2<",
+        b"vec3<",
+        b"vec4<",
+        b"quat<",
+        b"mat3<",
+        b"mat4<",
+    ];
     let tag = type_tag(image, node);
     let inner = inner_types(tag);
     let first = label_end(image, node);
     if inner == 0 {
-        return Shown {
-            text: leaf_display(mode, image, out, at, node),
-            next: first,
-        };
+        leaf_display(w, image, node);
+        return first;
     }
-    // The four tags before OPTIONAL have no opening: empty words.
-    let opened = put_word(
-        mode,
-        out,
-        at,
-        b"    optional< array< array< set< map< result< vec2< vec3< vec4< quat< mat3< mat4< ",
-        tag,
-    );
-    let one = node_display(mode, image, out, opened, first, left - 1);
+    put_word(w, &OPENINGS, number_of(tag));
+    let next = node_display(w, image, first, left - 1);
     if inner == 1 {
-        let sized = size_display(mode, image, out, one.text, node);
-        return Shown {
-            text: put_byte(mode, out, sized, b'>'),
-            next: one.next,
-        };
+        size_display(w, image, node);
+        w.byte(b'>');
+        return next;
     }
-    let parted = put_text(mode, out, one.text, b", ");
-    let two = node_display(mode, image, out, parted, one.next, left - 1);
-    Shown {
-        text: put_byte(mode, out, two.text, b'>'),
-        next: two.next,
-    }
+    w.text(b", ");
+    let end = node_display(w, image, next, left - 1);
+    w.byte(b'>');
+    end
 }
 
 // The type at a place.
-pub fn type_display(mode: Mode, image: &[u8], out: &mut [u8], at: usize, node: usize) -> usize
-    requires { Accepted image.now × TypeHere 32 image.now node × Space mode out.old at (length (type_text image.now node)) }
-    ensures { Puts mode out.old at (type_text image.now node) result out.new }
+pub fn type_display(w: &mut Writer<'_>, image: &[u8], node: usize)
+    requires { Accepted image.now × TypeHere 32 image.now node }
+    ensures { Adds w.old (type_text image.now node) w.new }
 {
-    let shown = node_display(mode, image, out, at, node, 32);
-    shown.text
+    node_display(w, image, node, 32);
 }

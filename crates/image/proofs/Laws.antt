@@ -2,7 +2,7 @@
 -- Answers: how one read follows another. Sure: what holds of every value that is read. Good: values that were
 -- read, part by part. Repeats: so many of a kind.
 -- Numbers, Names, Types, Fields, Widths: each part of the format, case by case. Trees: well-formed labels and types.
--- Narrow: positions that a u16 carries. Kinds: a number and the kind that it says; the words of kinds.
+-- Kinds: a number and the kind that it says; the words of kinds.
 pub mod Answers
 pub mod Sure
 pub mod Good
@@ -13,5 +13,4 @@ pub mod Types
 pub mod Trees
 pub mod Fields
 pub mod Widths
-pub mod Narrow
 pub mod Kinds

@@ -1,6 +1,6 @@
 -- Bodies: "A body is a u8 kind, then ..". What a body holds depends on the format, which is handed in. Assumes nothing.
 use Rattle.std.specs.Prelude.{List, [], ℕ, eqb, length}
-use Rattle.std.proofs.Math.Option.{none}
+use Rattle.std.specs.Prelude.{None}
 use Rattle.image.specs.Codes.{number, kind_refusal, body_refusal, message_kind, enum_kind, flags_kind, union_kind, newtype_kind, config_kind, alias_kind, trait_kind, impl_kind}
 use Rattle.image.specs.Kinds.{Kind, message, enum, flags, union, newtype, config, alias, trait, impl, other, kind_of}
 use Rattle.image.specs.Schema.{Decl, decl, unmarked, no_type}
@@ -16,7 +16,7 @@ message_at s at =
     bind (name_at (number body_refusal) s at) (λ x n₁.
     bind (marks_at s n₁) (λ m n₂.
     bind (counted field_at s n₂) (λ fs n₃.
-    ok (decl (number message_kind) x m none fs [] no_type) n₃)))
+    ok (decl (number message_kind) x m None fs [] no_type) n₃)))
 
 -- 1 enum: name, marks, width in wire bits, u16 count, then u32 ordinal and name each
 unfoldable pub enum_at : ℕ → List ℕ → ℕ → Parsed Decl
@@ -40,22 +40,22 @@ unfoldable pub union_at : List ℕ → ℕ → Parsed Decl
 union_at s at =
     bind (name_at (number body_refusal) s at) (λ x n₁.
     bind (counted variant_at s n₁) (λ vs n₂.
-    ok (decl (number union_kind) x unmarked none [] vs no_type) n₂))
+    ok (decl (number union_kind) x unmarked None [] vs no_type) n₂))
 
 -- 4 newtype: name, type
 unfoldable pub newtype_at : List ℕ → ℕ → Parsed Decl
 newtype_at s at =
     bind (name_at (number body_refusal) s at) (λ x n₁.
     bind (type_at s n₁) (λ t n₂.
-    ok (decl (number newtype_kind) x unmarked none [] [] t) n₂))
+    ok (decl (number newtype_kind) x unmarked None [] [] t) n₂))
 
 -- 5 config, 6 generic alias, 7 trait: name
 unfoldable pub other_at : ℕ → List ℕ → ℕ → Parsed Decl
-other_at kind s at = bind (name_at (number body_refusal) s at) (λ x n. ok (decl kind x unmarked none [] [] no_type) n)
+other_at kind s at = bind (name_at (number body_refusal) s at) (λ x n. ok (decl kind x unmarked None [] [] no_type) n)
 
 -- 8 impl: nothing; its name is empty
 unfoldable pub impl_at : List ℕ → ℕ → Parsed Decl
-impl_at s at = ok (decl (number impl_kind) [] unmarked none [] [] no_type) at
+impl_at s at = ok (decl (number impl_kind) [] unmarked None [] [] no_type) at
 
 -- what follows the kind
 unfoldable pub decl_at : ℕ → Kind → List ℕ → ℕ → Parsed Decl

@@ -1,5 +1,5 @@
 -- Marks, encodings and limits, and the items of a body: fields, variants, bits. Assumes nothing.
-use Rattle.std.proofs.Math.Option.{Option, none, some}
+use Rattle.std.specs.Prelude.{Option, None, Some}
 use Rattle.std.specs.Prelude.{List, [], ℕ, zero, suc, ◌/◌, ◌%◌, eqb}
 use Rattle.image.specs.Codes.{number, body_refusal, deep_refusal}
 use Rattle.image.specs.Schema.{Marks, Encoding, Field, Variant}
@@ -33,7 +33,7 @@ encoding_at s at = encoding_of 8 s at
 
 -- "u8 0 or 1 for a limit (1: u64 follows)"
 unfoldable pub limit_at : List ℕ → ℕ → Parsed (Option ℕ)
-limit_at s at = bind (code_at 0 1 s at) (λ b n. pick (eqb b 0) (ok none n) (bind (number_at 8 s n) (λ v m. ok (some v) m)))
+limit_at s at = bind (code_at 0 1 s at) (λ b n. pick (eqb b 0) (ok None n) (bind (number_at 8 s n) (λ v m. ok (Some v) m)))
 
 -- "Field: u32 ordinal, name, marks, encoding, .. limit .., type."
 unfoldable pub field_at : List ℕ → ℕ → Parsed Field

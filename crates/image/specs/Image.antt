@@ -1,6 +1,6 @@
 -- A whole image: head, contents, ids, namespace, bodies; and the order of the refusals. Assumes nothing.
 use Rattle.std.specs.Prelude.{Bool, cond, ◌&&◌, List, [], ◌∷◌, ℕ, zero, suc, ◌+◌, ◌*◌, eqb, leb, length, drop}
-use Rattle.std.proofs.Math.Option.{Option, none, some}
+use Rattle.std.specs.Prelude.{Option, None, Some}
 use Rattle.image.specs.Codes.{number, long_refusal, short_head_refusal, format_refusal, crowded_refusal, contents_refusal}
 use Rattle.image.specs.Schema.{Decl, Schema}
 use Rattle.image.specs.Formats.{known}
@@ -69,8 +69,8 @@ laid (suc count) s i at =
 unfoldable pub entry_of : ℕ → List ℕ → ℕ → Parsed (Option Decl)
 entry_of f s i =
     pick (eqb (entry_length s i) 0)
-    (ok none 0)
-    (bind (body_of f (part (entry_offset s i) (entry_length s i) s)) (λ d n. ok (some d) n))
+    (ok None 0)
+    (bind (body_of f (part (entry_offset s i) (entry_length s i) s)) (λ d n. ok (Some d) n))
 
 -- `count` entries from the i-th on: "then bodies from left to right, first fault met"
 unfoldable pub entries_of : ℕ → ℕ → List ℕ → ℕ → Parsed (List (Option Decl))

@@ -4,6 +4,7 @@
 pub mod Codes
 pub mod Kinds
 pub mod Formats
+pub mod Numbers
 pub mod Schema
 pub mod Parse
 pub mod Names

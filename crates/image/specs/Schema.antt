@@ -1,6 +1,6 @@
 -- What an image holds, as values. Assumes nothing.
 use Rattle.std.specs.Prelude.{Bool, false, List, [], ℕ}
-use Rattle.std.proofs.Math.Option.{Option}
+use Rattle.std.specs.Prelude.{Option}
 use Rattle.image.specs.Codes.{number, primitive_tag}
 
 -- a name is its bytes

@@ -1,5 +1,5 @@
 -- The wire widths of enums and flags: R-6, "Image format 2 stores the width". Assumes nothing.
-use Rattle.std.proofs.Math.Option.{Option, none, some}
+use Rattle.std.specs.Prelude.{Option, None, Some}
 use Rattle.std.specs.Prelude.{Bool, ◌||◌, List, ℕ, eqb}
 use Rattle.image.specs.Codes.{number, body_refusal, code_refusal}
 use Rattle.image.specs.Formats.{has_widths}
@@ -18,4 +18,4 @@ wire_bytes_at s at = bind (byte_at (number body_refusal) s at) (λ b n. need (wi
 
 -- the width that stands there in a format that stores it; in another one none does
 unfoldable pub width_at : ℕ → (List ℕ → ℕ → Parsed ℕ) → List ℕ → ℕ → Parsed (Option ℕ)
-width_at format wire s at = pick (has_widths format) (bind (wire s at) (λ w n. ok (some w) n)) (ok none at)
+width_at format wire s at = pick (has_widths format) (bind (wire s at) (λ w n. ok (Some w) n)) (ok None at)

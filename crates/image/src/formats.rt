@@ -1,20 +1,54 @@
-// The formats of an image, by the number in its head, and what each of them stores.
-ghost use Rattle.std.specs.Prelude.{◌≡◌};
+// The formats of an image, and what each of them stores.
+ghost use Rattle.std.specs.Prelude.{◌≡◌, true};
 ghost use Rattle.image.specs.Formats.{known, has_widths};
+ghost use Rattle.image.specs.Numbers.{format_number, IsFormat};
 
-// Whether images of a format are read.
-pub fn is_known(format: usize) -> bool
-    ensures { result ≡ known format }
-{
-    if format < 1 {
-        return false;
-    }
-    format <= 2
+use crate::refusals::Refusal;
+
+// A format, with its number in the head.
+#[derive(Clone, Copy, Debug, PartialEq, Eq)]
+pub enum Format {
+    One = 1,
+    Two = 2,
 }
 
-// Whether a format stores the widths of enums and flags.
-pub fn has_widths(format: usize) -> bool
-    ensures { result ≡ has_widths format }
-{
-    2 <= format
+impl Format {
+    // The format of a number that is known to be one.
+    #[tactic(auto, unfolding(crate::specs::Formats::known))]
+    pub fn of(number: usize) -> Format
+        requires { known number ≡ true }
+        ensures { format_number result ≡ number }
+    {
+        match number {
+            1 => Format::One,
+            2 => Format::Two,
+            _ => unreachable!(),
+        }
+    }
+
+    // Whether images of the format store the widths of enums and flags.
+    #[tactic(auto, unfolding(crate::specs::Formats::has_widths))]
+    pub fn has_widths(self) -> bool
+        ensures { result ≡ has_widths (format_number self) }
+    {
+        match self {
+            Format::One => false,
+            Format::Two => true,
+        }
+    }
+}
+
+impl TryFrom<usize> for Format {
+    type Error = Refusal;
+
+    ghost try_from_gives = { IsFormat };
+
+    #[tactic(auto, unfolding(crate::specs::Formats::known))]
+    fn try_from(number: usize) -> Result<Format, Refusal> {
+        match number {
+            1 => Ok(Format::One),
+            2 => Ok(Format::Two),
+            _ => Err(Refusal::Format),
+        }
+    }
 }

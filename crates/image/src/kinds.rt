@@ -1,18 +1,54 @@
-// The kinds of declarations, as an image stores them; ALIAS is the generic alias.
-pub const MESSAGE: u8 = 0;
+// The kinds of declarations.
+ghost use Rattle.std.specs.Prelude.{◌≡◌, ◌≤◌};
+ghost use Rattle.image.specs.Codes.{number, impl_kind};
+ghost use Rattle.image.specs.Numbers.{kind_number, IsKind};
 
-pub const ENUM: u8 = 1;
+use crate::refusals::Refusal;
 
-pub const FLAGS: u8 = 2;
+// A kind, with its number in an image. `Alias` is the generic alias.
+#[derive(Clone, Copy, Debug, PartialEq, Eq)]
+pub enum Kind {
+    Message = 0,
+    Enum = 1,
+    Flags = 2,
+    Union = 3,
+    Newtype = 4,
+    Config = 5,
+    Alias = 6,
+    Trait = 7,
+    Impl = 8,
+}
 
-pub const UNION: u8 = 3;
+impl Kind {
+    // The kind of a number that is known to be one.
+    pub fn of(byte: u8) -> Kind
+        requires { byte ≤ number impl_kind }
+        ensures { kind_number result ≡ byte }
+    {
+        match byte {
+            0 => Kind::Message,
+            1 => Kind::Enum,
+            2 => Kind::Flags,
+            3 => Kind::Union,
+            4 => Kind::Newtype,
+            5 => Kind::Config,
+            6 => Kind::Alias,
+            7 => Kind::Trait,
+            8 => Kind::Impl,
+            _ => unreachable!(),
+        }
+    }
+}
 
-pub const NEWTYPE: u8 = 4;
+impl TryFrom<u8> for Kind {
+    type Error = Refusal;
 
-pub const CONFIG: u8 = 5;
+    ghost try_from_gives = { IsKind };
 
-pub const ALIAS: u8 = 6;
-
-pub const TRAIT: u8 = 7;
-
-pub const IMPL: u8 = 8;
+    fn try_from(byte: u8) -> Result<Kind, Refusal> {
+        if 8 < byte {
+            return Err(Refusal::Kind);
+        }
+        Ok(Kind::of(byte))
+    }
+}

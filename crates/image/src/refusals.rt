@@ -1,26 +1,29 @@
-// The numbers of refusals: document 01, "Turned back", and R-6 of document 02.
-pub const LONG: u8 = 1;
+// What images are refused by.
+ghost use Rattle.std.specs.Prelude.{◌≡◌};
+ghost use Rattle.image.specs.Numbers.{refusal_number};
 
-pub const SHORT_HEAD: u8 = 2;
+// A refusal, with its number in the table of refusals.
+#[derive(Clone, Copy, Debug, PartialEq, Eq)]
+pub enum Refusal {
+    Long = 1,
+    ShortHead = 2,
+    Format = 3,
+    Crowded = 4,
+    Contents = 5,
+    Kind = 6,
+    Name = 7,
+    Body = 8,
+    Code = 9,
+    Deep = 10,
+    AliasPair = 11,
+    Full = 12,
+    Mixed = 16,
+}
 
-pub const FORMAT: u8 = 3;
-
-pub const CROWDED: u8 = 4;
-
-pub const CONTENTS: u8 = 5;
-
-pub const KIND: u8 = 6;
-
-pub const NAME: u8 = 7;
-
-pub const BODY: u8 = 8;
-
-pub const CODE: u8 = 9;
-
-pub const DEEP: u8 = 10;
-
-pub const ALIAS_PAIR: u8 = 11;
-
-pub const FULL: u8 = 12;
-
-pub const MIXED: u8 = 16;
+impl Refusal {
+    pub fn number(self) -> u8
+        ensures { result ≡ refusal_number self }
+    {
+        self as u8
+    }
+}

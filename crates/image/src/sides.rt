@@ -1,6 +1,19 @@
-// The sides of a refusal: which image it is of.
-pub const OLD: u8 = 1;
+// The sides of a refusal.
+ghost use Rattle.std.specs.Prelude.{◌≡◌};
+ghost use Rattle.image.specs.Numbers.{side_number};
 
-pub const NEW: u8 = 2;
+// Which image a refusal is of, or both, with the number that a call gives.
+#[derive(Clone, Copy, Debug, PartialEq, Eq)]
+pub enum Side {
+    Old = 1,
+    New = 2,
+    Both = 3,
+}
 
-pub const BOTH: u8 = 3;
+impl Side {
+    pub fn number(self) -> u8
+        ensures { result ≡ side_number self }
+    {
+        self as u8
+    }
+}

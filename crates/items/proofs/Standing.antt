@@ -2,19 +2,17 @@
 -- the other side to what is reported of it. Assumes nothing.
 use mathlib.Core.Path.{◌≡◌, refl, sym, ◌∙◌}
 use mathlib.Core.Bool.{Bool, true, false}
-use mathlib.Core.Option.{Option, none, some}
+use Rattle.std.specs.Prelude.{Option, None, Some}
 use mathlib.Core.List.{List, []}
 use Prim.Native.Nat.{ℕ}
 use lib.Dec.{ltb}
 use Rattle.maps.specs.Keyed.{lookup}
 use Rattle.maps.specs.Compare.{unmatched, matched}
-use Rattle.maps.specs.Walk.{is_some}
+use Rattle.std.specs.Option.{is_some}
 use Rattle.maps.proofs.Tests.{no_both}
 use Rattle.parts.specs.Promise.{ItemHere}
 use Rattle.types.specs.declared.Reading.{Reading}
 use Rattle.survivors.specs.Runs.{item_in, item_ordinal, items_of, Holds}
-use Rattle.survivors.specs.declared.Found.{Found}
-use Rattle.survivors.specs.declared.Found.TheVariants.{At, Nothing}
 use Rattle.survivors.proofs.Runs.{run_holds, found_none, found_item, found_here, has_stands}
 use Rattle.items.specs.Sides.{on, off}
 use Rattle.items.specs.Items.{shape, rules, standing_off, has_off, FoundOff, lone, unmatched_at, kept_at, ItemsIn}
@@ -24,21 +22,21 @@ use Rattle.items.specs.declared.Items.{Items}
 
 -- ---- one entry of each map
 
-unmatched_has : {E C : Type 0} (c : E → List C) (e : E) (o : Option E) → is_some o ≡ true → unmatched c (some e) o ≡ []
-unfolding unmatched is_some
-unmatched_has c e none p = no_both p refl
-unmatched_has c e (some f) p = refl
+pub unmatched_has : {E C : Type 0} (c : E → List C) (e : E) (o : Option E) → is_some o ≡ true → unmatched c (Some e) o ≡ []
+unfolding unmatched
+unmatched_has c e None p = no_both p refl
+unmatched_has c e (Some f) p = refl
 
-unmatched_lacks : {E C : Type 0} (c : E → List C) (e : E) (o : Option E) → is_some o ≡ false → unmatched c (some e) o ≡ c e
-unfolding unmatched is_some
-unmatched_lacks c e none p = refl
-unmatched_lacks c e (some f) p = no_both refl p
+pub unmatched_lacks : {E C : Type 0} (c : E → List C) (e : E) (o : Option E) → is_some o ≡ false → unmatched c (Some e) o ≡ c e
+unfolding unmatched
+unmatched_lacks c e None p = refl
+unmatched_lacks c e (Some f) p = no_both refl p
 
-matched_none : {E C : Type 0} (c : E → E → List C) (e : E) {o : Option E} → o ≡ none → matched c (some e) o ≡ []
+matched_none : {E C : Type 0} (c : E → E → List C) (e : E) {o : Option E} → o ≡ None → matched c (Some e) o ≡ []
 unfolding matched
 matched_none c e p = rw p
 
-matched_some : {E C : Type 0} (c : E → E → List C) (e : E) {o : Option E} {f : E} → o ≡ some f → matched c (some e) o ≡ c e f
+matched_some : {E C : Type 0} (c : E → E → List C) (e : E) {o : Option E} {f : E} → o ≡ Some f → matched c (Some e) o ≡ c e f
 unfolding matched
 matched_some c e p = rw p
 
@@ -71,12 +69,12 @@ module _ {old new : List ℕ} {x : Items} (p : ItemsIn old new x) where
 
   -- ---- what stands on both
 
-  module _ (reading : Reading) (k i : ℕ) {o : Found} (a : FoundOff old new x side.Old k o) where
-    pub kept_none : o ≡ Nothing → kept_at reading old new x k i ≡ []
+  module _ (reading : Reading) (k i : ℕ) {o : Option ℕ} (a : FoundOff old new x side.Old k o) where
+    pub kept_none : o ≡ None → kept_at reading old new x k i ≡ []
     unfolding kept_at
     kept_none e = matched_none (rules reading old new x).kept _ (found_none (shape old new x) new x.new (on_holds side.New) k a e)
 
-    module _ {j : ℕ} (e : o ≡ At j) where
+    module _ {j : ℕ} (e : o ≡ Some j) where
       pub kept_item : kept_at reading old new x k i ≡ (rules reading old new x).kept (item_in (shape old new x) old i) (item_in (shape old new x) new j)
       unfolding kept_at
       kept_item = matched_some (rules reading old new x).kept _ (found_item (shape old new x) new x.new (on_holds side.New) k a e)

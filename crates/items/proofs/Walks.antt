@@ -1,7 +1,7 @@
 -- A walk over the items of a side by rising ordinal, whose parts are reported one after the other: its start, a turn, its end and its
 -- measure. It is stated for any g, what is reported of what the two sides have under one ordinal. Assumes nothing.
 use mathlib.Core.Path.{◌≡◌, refl, sym, ap, ◌∙◌}
-use mathlib.Core.Option.{Option, some}
+use Rattle.std.specs.Prelude.{Option, Some, None}
 use mathlib.Core.List.{List, [], ◌∷◌, ◌++◌}
 use Prim.Native.Nat.{ℕ, ◌<◌}
 use lib.Dec.{ltb}
@@ -13,10 +13,6 @@ use Rattle.parts.specs.Promise.{ItemOf}
 use Rattle.rules.specs.Changes.{Change}
 use Rattle.types.specs.declared.Reading.{Reading}
 use Rattle.survivors.specs.Runs.{item_in, item_ordinal, items_of}
-use Rattle.survivors.specs.declared.Ordinal.{Ordinal}
-use Rattle.survivors.specs.declared.Ordinal.TheVariants as ordinal
-use Rattle.survivors.specs.declared.Next.{Next}
-use Rattle.survivors.specs.declared.Next.TheVariants as next
 use Rattle.survivors.proofs.Runs.{next_here}
 use Rattle.survivors.proofs.Walks.{rest_items, items_left, items_start, items_done, items_turn, items_less}
 use Rattle.tally.specs.Reporting.{Ready, Ran}
@@ -39,10 +35,10 @@ module _ (old new : List ℕ) (x : Items) where
 
   -- of one ordinal, under which the item at a place stands
   unfoldable pub walk_at : Pairing → Side → ℕ → ℕ → List Change
-  walk_at g s k at = g (some (item_in (shape old new x) (on s old new) at)) (lookup (item_ordinal (shape old new x)) ltb k (standing_off old new x s))
+  walk_at g s k at = g (Some (item_in (shape old new x) (on s old new) at)) (lookup (item_ordinal (shape old new x)) ltb k (standing_off old new x s))
 
   -- after an ordinal
-  unfoldable pub walk_rest : Pairing → Side → Ordinal → List Change
+  unfoldable pub walk_rest : Pairing → Side → Option ℕ → List Change
   walk_rest g s after =
       rest_items (shape old new x) g
       (items_of (shape old new x) (on s old new) (on s x.old x.new))
@@ -50,7 +46,7 @@ module _ (old new : List ℕ) (x : Items) where
       after
 
   -- how many items of the side are left after an ordinal
-  unfoldable pub walk_left : Side → Ordinal → ℕ
+  unfoldable pub walk_left : Side → Option ℕ → ℕ
   walk_left s after = items_left (shape old new x) (items_of (shape old new x) (on s old new) (on s x.old x.new)) after
 
 -- ---- the walks that there are
@@ -75,8 +71,8 @@ module _ (reading : Reading) (old new : List ℕ) (x : Items) where
 -- ---- any walk
 
 module _ {old new : List ℕ} {x : Items} (p : ItemsIn old new x) (s : Side) where
-  module _ (after : Ordinal) {r : Next} (a : NextOn old new x s after r) {k at : ℕ} (e : r ≡ next.Is k at) where
-    pub walk_less : walk_left old new x s (ordinal.Is k) < walk_left old new x s after
+  module _ (after : Option ℕ) {r : Option (ℕ × ℕ)} (a : NextOn old new x s after r) {k at : ℕ} (e : r ≡ Some (k, at)) where
+    pub walk_less : walk_left old new x s (Some k) < walk_left old new x s after
     unfolding walk_left
     walk_less =
         items_less (shape old new x) (items_of (shape old new x) (on s old new) (on s x.old x.new))
@@ -87,22 +83,22 @@ module _ {old new : List ℕ} {x : Items} (p : ItemsIn old new x) (s : Side) whe
     walk_met = record { items = p; here = next_here (shape old new x) (on s old new) (on s x.old x.new) (on_holds p s) after a e }
 
   module _ (g : Pairing old new x) {m : Mode} {d : List ℕ} {t : Tally} {all : List Change} where
-    pub walk_start : all ≡ walk_all old new x g s → Ready m d t all → Owed m d t all t d (walk_rest old new x g s ordinal.Nothing ∷ [])
+    pub walk_start : all ≡ walk_all old new x g s → Ready m d t all → Owed m d t all t d (walk_rest old new x g s None ∷ [])
     unfolding walk_all walk_rest together
     walk_start e q = owed_start (e ∙ sym (items_start (shape old new x) g _ _)) q
 
-    module _ (after : Ordinal) {t' : Tally} {d' : List ℕ} (w : Owed m d t all t' d' (walk_rest old new x g s after ∷ []))
-        {r : Next} (a : NextOn old new x s after r) where
+    module _ (after : Option ℕ) {t' : Tally} {d' : List ℕ} (w : Owed m d t all t' d' (walk_rest old new x g s after ∷ []))
+        {r : Option (ℕ × ℕ)} (a : NextOn old new x s after r) where
       -- cs is what the reporter of one ordinal is asked for
-      pub walk_turn : {k at : ℕ} → r ≡ next.Is k at → {cs : List Change} → cs ≡ walk_at old new x g s k at
-          → Owed m d t all t' d' (cs ∷ walk_rest old new x g s (ordinal.Is k) ∷ [])
+      pub walk_turn : {k at : ℕ} → r ≡ Some (k, at) → {cs : List Change} → cs ≡ walk_at old new x g s k at
+          → Owed m d t all t' d' (cs ∷ walk_rest old new x g s (Some k) ∷ [])
       unfolding walk_at walk_rest together
       walk_turn {k} e q =
           owed_cut
           (items_turn (shape old new x) g _ _ (on s old new) (on s x.old x.new) (on_holds p s) after a e
-          ∙ ap (λ (l : List Change). l ++ walk_rest old new x g s (ordinal.Is k)) (sym q))
+          ∙ ap (λ (l : List Change). l ++ walk_rest old new x g s (Some k)) (sym q))
           w
 
-      pub walk_done : r ≡ next.Nothing → Ran m d t all t' d'
+      pub walk_done : r ≡ None → Ran m d t all t' d'
       unfolding walk_rest together
       walk_done e = owed_end (owed_cut (items_done (shape old new x) g _ _ (on s old new) (on s x.old x.new) (on_holds p s) after a e) w)

@@ -1,8 +1,7 @@
 -- Two runs of numbered items, compared by ordinal: what is reported of them, part by part. Assumes nothing.
-use Rattle.std.specs.Prelude.{Bool, List, ℕ, ltb}
-use Rattle.std.proofs.Math.Option.{some}
+use Rattle.std.specs.Prelude.{Bool, List, ℕ, ltb, Option, Some}
 use Rattle.maps.specs.Keyed.{lookup}
-use Rattle.maps.specs.Walk.{is_some}
+use Rattle.std.specs.Option.{is_some}
 use Rattle.maps.specs.Compare.{Rules, unmatched, matched, between, compare}
 use Rattle.parts.specs.Promise.{DeclHere, decl_in, ItemOf, ItemHere, ItemsHere, ordinal_in}
 use Rattle.parts.specs.declared.Shape.{Shape}
@@ -11,9 +10,6 @@ use Rattle.rules.specs.Changes.{Change, level}
 use Rattle.rules.specs.Clauses.{field_rules, enum_bump, enum_rules, flags_rules, union_rules}
 use Rattle.survivors.specs.Answers.{place_map, ItemSurvives, ItemFollows}
 use Rattle.survivors.specs.Runs.{item_in, item_ordinal, item_map, items_of}
-use Rattle.survivors.specs.declared.Found.{Found}
-use Rattle.survivors.specs.declared.Ordinal.{Ordinal}
-use Rattle.survivors.specs.declared.Next.{Next}
 use Rattle.types.specs.declared.Reading.{Reading}
 use Rattle.tally.specs.Reporting.{Ready, Ran}
 use Rattle.tally.specs.declared.Tally.{Tally}
@@ -76,13 +72,13 @@ module _ (old new : List ℕ) (x : Items) where
 
   -- ---- what the searches answer: the item that comes next on a side, and what stands under an ordinal on the other
 
-  abbrev pub NextOn : Side → Ordinal → Next → Type 0
+  abbrev pub NextOn : Side → Option ℕ → Option (ℕ × ℕ) → Type 0
   NextOn s after r = ItemFollows shape (on s old new) (on s x.old x.new) after r
 
   abbrev pub has_off : Side → ℕ → Bool
   has_off s k = is_some (lookup (ordinal_in (off s old new)) ltb k (place_map shape (off s old new) (off s x.old x.new)))
 
-  abbrev pub FoundOff : Side → ℕ → Found → Type 0
+  abbrev pub FoundOff : Side → ℕ → Option ℕ → Type 0
   FoundOff s k r = ItemSurvives shape (off s old new) (off s x.old x.new) k r
 
 module _ (reading : Reading) (old new : List ℕ) (x : Items) where
@@ -100,7 +96,7 @@ module _ (reading : Reading) (old new : List ℕ) (x : Items) where
 
   -- of one ordinal, under which the item at a place stands
   unfoldable pub unmatched_at : Side → ℕ → ℕ → List Change
-  unmatched_at s k at = unmatched (lone s) (some (item_in (shape old new x) (on s old new) at)) (lookup (item_ordinal (shape old new x)) ltb k (standing_off old new x s))
+  unmatched_at s k at = unmatched (lone s) (Some (item_in (shape old new x) (on s old new) at)) (lookup (item_ordinal (shape old new x)) ltb k (standing_off old new x s))
 
   -- ---- what stands on both was kept
 
@@ -109,7 +105,7 @@ module _ (reading : Reading) (old new : List ℕ) (x : Items) where
 
   -- of one ordinal, under which the old item at a place stands
   unfoldable pub kept_at : ℕ → ℕ → List Change
-  kept_at k at = matched rules.kept (some (item_in (shape old new x) old at)) (lookup (item_ordinal (shape old new x)) ltb k (standing old new x side.New))
+  kept_at k at = matched rules.kept (Some (item_in (shape old new x) old at)) (lookup (item_ordinal (shape old new x)) ltb k (standing old new x side.New))
 
   -- ---- all of them
 

@@ -5,21 +5,25 @@ ghost use Rattle.items.specs.Items.{shape_of, ItemsIn, NextOn, has_off, FoundOff
 use crate::{Items, Owner, Side};
 use parts::Shape;
 use survivors::items::{has_item, next_item, survivor_item};
-use survivors::{Found, Next, Ordinal};
 
 fn shape_of(of: Owner) -> Shape
     ensures { result ≡ shape_of of }
 {
     match of {
         Owner::Fields(_) => Shape::Field,
-        Owner::Enum(_, _) => Shape::Bare,
-        Owner::Flags(_) => Shape::Bare,
+        Owner::Enum(_, _) | Owner::Flags(_) => Shape::Bare,
         Owner::Union(_) => Shape::Variant,
     }
 }
 
 // The next item on a side.
-pub fn next_on(side: Side, old: &[u8], new: &[u8], items: Items, after: Ordinal) -> Next
+pub fn next_on(
+    side: Side,
+    old: &[u8],
+    new: &[u8],
+    items: Items,
+    after: Option<u32>,
+) -> Option<(u32, usize)>
     requires { ItemsIn old.now new.now items }
     ensures { NextOn old.now new.now items side after result }
 {
@@ -45,7 +49,7 @@ pub fn has_off(side: Side, old: &[u8], new: &[u8], items: Items, ordinal: u32) -
 }
 
 // The item that stands under an ordinal on the other side.
-pub fn found_off(side: Side, old: &[u8], new: &[u8], items: Items, ordinal: u32) -> Found
+pub fn found_off(side: Side, old: &[u8], new: &[u8], items: Items, ordinal: u32) -> Option<usize>
     requires { ItemsIn old.now new.now items }
     ensures { FoundOff old.now new.now items side ordinal result }
 {

@@ -6,7 +6,6 @@ use crate::sides::{has_off, next_on};
 use crate::sites::{came_site, gone_site};
 use crate::{Items, Side, Walk};
 use lines::reporting::emit;
-use survivors::{Next, Ordinal};
 use tally::Tally;
 
 // The item at a place, under its ordinal: a change, if none stands under it on the other side.
@@ -49,12 +48,10 @@ pub fn unmatched_items(
     ensures { ItemsTold walk old.now new.now out.old t result out.new items side }
 {
     let mut tally = t;
-    let mut after = Ordinal::Nothing;
-    loop {
-        let Next::Is(ordinal, at) = next_on(side, old, new, items, after) else {
-            return tally;
-        };
+    let mut after = None;
+    while let Some((ordinal, at)) = next_on(side, old, new, items, after) {
         tally = unmatched_item(walk, old, new, out, tally, side, items, ordinal, at);
-        after = Ordinal::Is(ordinal);
+        after = Some(ordinal);
     }
+    tally
 }

@@ -1,9 +1,9 @@
 -- The changes that the clauses of rules report are those of sites, by clause. Assumes nothing.
 use mathlib.Core.Path.{◌≡◌, refl, sym, ap}
 use mathlib.Core.Bool.{Bool, true, false, not, ◌&&◌, beq}
-use mathlib.Core.Option.{Option, none, some}
+use Rattle.std.specs.Prelude.{Option, None, Some}
 use mathlib.Core.List.{List, [], ◌∷◌, ◌++◌, append-nil, append_assoc}
-use Prim.Native.Nat.{ℕ, ◌≤◌, ◌<◌}
+use Prim.Native.Nat.{ℕ, ◌≤◌}
 use native.Mathlib.Omega.{arith}
 use lib.Dec.{eqb}
 use Rattle.image.specs.Schema.{Name, Variant}
@@ -14,7 +14,7 @@ use Rattle.parts.proofs.Promise.{item_bare, field_ordinal, field_name, field_typ
 use Rattle.rules.specs.Equal.{same_option, same_name, same_names}
 use Rattle.rules.specs.Types.{resolve}
 use Rattle.text.specs.Decimal.{decimal}
-use Rattle.rules.specs.Changes.{Bump, patch, minor, major, level, kind_count, Change, change, only, quoted, numbered, from_to}
+use Rattle.rules.specs.Changes.{Bump, patch, minor, major, level, Change, change, only, quoted, numbered, from_to}
 use Rattle.rules.specs.Clauses.{compare_namespaces, Reading, Context, context, compare_types, field_text, compare_field_names, same_encoding, compare_encodings, compare_deprecated, field_rules, variant_text, variant_gone, variant_came, compare_non_exhaustive, bit_text, flags_rules, compare_newtypes, decl_text, decl_rules}
 use Rattle.rules.specs.Clauses.{kind_changed as kinds_differ}
 use Rattle.rules.specs.Widths.{compare_widths}
@@ -107,15 +107,14 @@ bump_level major = refl
 module _ (old new : List ℕ) (a : Accepted old) (b : Accepted new) where
   places :
       (s : Site)
-      → s.kind < kind_count
       → s.bump.level ≤ 2
       → ScopeHere old new s.scope
       → ItemOfHere old new s.item
       → SubjectHere old new s.detail.subject
       → ValuesHere old new s.detail.values
       → SiteHere old new s
-  places s k l c i u v =
-      record { known = k; weighed = l; scope = c; item = i; detail = record { accepted = (a, b); subject = u; values = v } }
+  places s l c i u v =
+      record { weighed = l; scope = c; item = i; detail = record { accepted = (a, b); subject = u; values = v } }
 
   -- ---- 1. the namespace
 
@@ -123,7 +122,7 @@ module _ (old new : List ℕ) (a : Accepted old) (b : Accepted new) where
       Reports old new namespace_changed (not (same_names (schema_of old).namespace (schema_of new).namespace))
       (compare_namespaces (schema_of old).namespace (schema_of new).namespace)
   unfolding change_of bump_at declaration_of item_of detail_text subject_text verb_text values_text value_text bytes ScopeHere ItemOfHere SubjectHere ValuesHere ValueHere compare_namespaces
-  namespace_changed_lem = record { here = places namespace_changed (omega arith) (omega arith) tt tt tt (tt, tt); are = refl }
+  namespace_changed_lem = record { here = places namespace_changed (omega arith) tt tt tt (tt, tt); are = refl }
 
   -- ---- 2. and 3. declarations
 
@@ -131,20 +130,20 @@ module _ (old new : List ℕ) (a : Accepted old) (b : Accepted new) where
     pub decl_removed_lem : (i : ℕ) → DeclHere old i → Reports old new (decl_removed i) true ((decl_rules r).gone (decl_in old i))
     unfolding change_of bump_at declaration_of item_of detail_text subject_text verb_text values_text value_text bytes ScopeHere ItemOfHere SubjectHere ValuesHere ValueHere decl_rules
     decl_removed_lem i h = record {
-      here = places (decl_removed i) (omega arith) (omega arith) h tt h tt;
+      here = places (decl_removed i) (omega arith) h tt h tt;
       are = always (same_change refl (said (decl_text (decl_in old i)) (bytes " was removed")));
     }
 
     pub decl_added_lem : (j : ℕ) → DeclHere new j → Reports old new (decl_added j) true ((decl_rules r).came (decl_in new j))
     unfolding change_of bump_at declaration_of item_of detail_text subject_text verb_text values_text value_text bytes ScopeHere ItemOfHere SubjectHere ValuesHere ValueHere decl_rules
     decl_added_lem j h = record {
-      here = places (decl_added j) (omega arith) (omega arith) h tt h tt;
+      here = places (decl_added j) (omega arith) h tt h tt;
       are = always (same_change refl (said (decl_text (decl_in new j)) (bytes " was added")));
     }
 
   pub kind_changed_lem : (i j : ℕ) → DeclHere old i → DeclHere new j → Reports old new (kind_changed i j) true (kinds_differ (decl_in old i) (decl_in new j))
   unfolding change_of bump_at declaration_of item_of detail_text subject_text verb_text values_text value_text bytes ScopeHere ItemOfHere SubjectHere ValuesHere ValueHere kinds_differ
-  kind_changed_lem i j g h = record { here = places (kind_changed i j) (omega arith) (omega arith) g tt g (g, h); are = always refl }
+  kind_changed_lem i j g h = record { here = places (kind_changed i j) (omega arith) g tt g (g, h); are = always refl }
 
   -- ---- 4. fields, and a message's own deprecation
 
@@ -156,8 +155,8 @@ module _ (old new : List ℕ) (a : Accepted old) (b : Accepted new) where
       field_removed_lem i h =
           let n = field_named_lem h in
           record {
-            here = places (field_removed c i) (omega arith) (omega arith) m n.here n.here tt;
-            are = always (same_change (ap some n.called) (item_said n Word.Field (bytes " was removed")));
+            here = places (field_removed c i) (omega arith) m n.here n.here tt;
+            are = always (same_change (ap Some n.called) (item_said n Word.Field (bytes " was removed")));
           }
 
       pub field_added_lem : (j : ℕ) → ItemHere Shape.Field new j
@@ -166,8 +165,8 @@ module _ (old new : List ℕ) (a : Accepted old) (b : Accepted new) where
       field_added_lem j h =
           let n = field_named_lem h in
           record {
-            here = places (field_added c j) (omega arith) (omega arith) m n.here n.here tt;
-            are = always (same_change (ap some n.called) (item_said n Word.Field (bytes " was added")));
+            here = places (field_added c j) (omega arith) m n.here n.here tt;
+            are = always (same_change (ap Some n.called) (item_said n Word.Field (bytes " was added")));
           }
 
     module _ (i j : ℕ) (g : ItemHere Shape.Field old i) (h : ItemHere Shape.Field new j) where
@@ -179,20 +178,20 @@ module _ (old new : List ℕ) (a : Accepted old) (b : Accepted new) where
           let p = field_name old i g in
           let q = field_name new j h in
           record {
-            here = places (field_renamed c i j) (omega arith) (omega arith) m n.here n.here (item_bare old i Shape.Field g, n.here);
-            are = same_only (cc) (same_change (ap some q) (rw (n.numbered, p, q) (sym (append_assoc (bytes "field @") (decimal (ordinal_in new j)) (bytes " renamed" ++ from_to (quoted (item_name old i)) (quoted (item_name new j)))))));
+            here = places (field_renamed c i j) (omega arith) m n.here n.here (item_bare old i Shape.Field g, n.here);
+            are = same_only (cc) (same_change (ap Some q) (rw (n.numbered, p, q) (sym (append_assoc (bytes "field @") (decimal (ordinal_in new j)) (bytes " renamed" ++ from_to (quoted (item_name old i)) (quoted (item_name new j)))))));
           }
 
       pub field_type_changed_lem : (by : Reading) → Reports old new (field_type_changed c j (type_place old i) (type_place new j))
           (not (by.same (resolve (schema_of old).registry (tree_in old (type_place old i))) (resolve (schema_of new).registry (tree_in new (type_place new j)))))
-          (compare_types (context by (schema_of old).registry (schema_of new).registry) (declaration_of old new c) (some (field_in new j).name)
+          (compare_types (context by (schema_of old).registry (schema_of new).registry) (declaration_of old new c) (Some (field_in new j).name)
           (field_text (field_in new j)) (field_in old i).type (field_in new j).type)
       unfolding change_of bump_at declaration_of item_of detail_text subject_text verb_text values_text value_text bytes ScopeHere ItemOfHere SubjectHere ValuesHere ValueHere compare_types field_text word_text item_text
       field_type_changed_lem by =
           let n = field_named_lem h in
           record {
-            here = places (field_type_changed c j (type_place old i) (type_place new j)) (omega arith) (omega arith) m n.here n.here (field_type_here old i g, field_type_here new j h);
-            are = rw (field_type old i g, field_type new j h) (same_only refl (same_change (ap some n.called) (rw (n.called, n.numbered))));
+            here = places (field_type_changed c j (type_place old i) (type_place new j)) (omega arith) m n.here n.here (field_type_here old i g, field_type_here new j h);
+            are = rw (field_type old i g, field_type new j h) (same_only refl (same_change (ap Some n.called) (rw (n.called, n.numbered))));
           }
 
       pub field_encoding_changed_lem : Reports old new (field_encoding_changed c i j)
@@ -202,28 +201,28 @@ module _ (old new : List ℕ) (a : Accepted old) (b : Accepted new) where
       field_encoding_changed_lem =
           let n = field_named_lem h in
           record {
-            here = places (field_encoding_changed c i j) (omega arith) (omega arith) m n.here n.here (g, h);
-            are = same_only refl (same_change (ap some n.called) (rw (n.called, n.numbered)));
+            here = places (field_encoding_changed c i j) (omega arith) m n.here n.here (g, h);
+            are = same_only refl (same_change (ap Some n.called) (rw (n.called, n.numbered)));
           }
 
       pub field_deprecated_lem : Reports old new (field_deprecated c j)
           (not (field_in old i).marks.deprecated && (field_in new j).marks.deprecated)
-          (compare_deprecated (declaration_of old new c) (some (field_in new j).name) (bytes "field " ++ quoted (field_in new j).name)
+          (compare_deprecated (declaration_of old new c) (Some (field_in new j).name) (bytes "field " ++ quoted (field_in new j).name)
           (field_in old i).marks (field_in new j).marks)
       unfolding change_of bump_at declaration_of item_of detail_text subject_text verb_text values_text value_text bytes ScopeHere ItemOfHere SubjectHere ValuesHere ValueHere field_name_text compare_deprecated
       field_deprecated_lem =
           let n = field_named_lem h in
           record {
-            here = places (field_deprecated c j) (omega arith) (omega arith) m n.here n.here tt;
-            are = same_only refl (same_change (ap some n.called) (rw n.called (said (bytes "field " ++ quoted (item_name new j)) (bytes " was marked @deprecated"))));
+            here = places (field_deprecated c j) (omega arith) m n.here n.here tt;
+            are = same_only refl (same_change (ap Some n.called) (rw n.called (said (bytes "field " ++ quoted (item_name new j)) (bytes " was marked @deprecated"))));
           }
 
   module _ (i j : ℕ) (g : DeclHere old i) (h : DeclHere new j) where
     pub decl_deprecated_lem : Reports old new (decl_deprecated i)
         (not (decl_in old i).marks.deprecated && (decl_in new j).marks.deprecated)
-        (compare_deprecated (decl_in old i).name none (bytes "declaration") (decl_in old i).marks (decl_in new j).marks)
+        (compare_deprecated (decl_in old i).name None (bytes "declaration") (decl_in old i).marks (decl_in new j).marks)
     unfolding change_of bump_at declaration_of item_of detail_text subject_text verb_text values_text value_text bytes ScopeHere ItemOfHere SubjectHere ValuesHere ValueHere compare_deprecated
-    decl_deprecated_lem = record { here = places (decl_deprecated i) (omega arith) (omega arith) g tt tt tt; are = refl }
+    decl_deprecated_lem = record { here = places (decl_deprecated i) (omega arith) g tt tt tt; are = refl }
 
     -- ---- widths of enums and flags
 
@@ -231,7 +230,7 @@ module _ (old new : List ℕ) (a : Accepted old) (b : Accepted new) where
         (not (same_option eqb (decl_in old i).width (decl_in new j).width))
         (compare_widths (decl_in old i) (decl_in new j))
     unfolding change_of bump_at declaration_of item_of detail_text subject_text verb_text values_text value_text bytes ScopeHere ItemOfHere SubjectHere ValuesHere ValueHere compare_widths
-    width_changed_lem = record { here = places (width_changed i j) (omega arith) (omega arith) g tt tt (g, h); are = refl }
+    width_changed_lem = record { here = places (width_changed i j) (omega arith) g tt tt (g, h); are = refl }
 
     -- ---- 5. and 7. variants of enums and of unions
 
@@ -239,23 +238,23 @@ module _ (old new : List ℕ) (a : Accepted old) (b : Accepted new) where
         (not (beq (decl_in old i).marks.non_exhaustive (decl_in new j).marks.non_exhaustive))
         (compare_non_exhaustive (decl_in old i).name (decl_in old i).marks (decl_in new j).marks)
     unfolding change_of bump_at declaration_of item_of detail_text subject_text verb_text values_text value_text bytes ScopeHere ItemOfHere SubjectHere ValuesHere ValueHere compare_non_exhaustive
-    non_exhaustive_changed_lem = record { here = places (non_exhaustive_changed i j) (omega arith) (omega arith) g tt tt (g, h); are = refl }
+    non_exhaustive_changed_lem = record { here = places (non_exhaustive_changed i j) (omega arith) g tt tt (g, h); are = refl }
 
   module _ (d : ℕ) (g : DeclHere old d) where
     module _ (v : Variant) where
       pub variant_removed_lem : (i : ℕ) → Named old i v.name v.ordinal → Reports old new (variant_removed d i) true (variant_gone (decl_in old d).name v)
       unfolding change_of bump_at declaration_of item_of detail_text subject_text verb_text values_text value_text bytes ScopeHere ItemOfHere SubjectHere ValuesHere ValueHere variant_gone variant_text word_text
       variant_removed_lem i n = record {
-        here = places (variant_removed d i) (omega arith) (omega arith) g n.here n.here tt;
-        are = always (same_change (ap some n.called) (item_said n Word.Variant (bytes " was removed")));
+        here = places (variant_removed d i) (omega arith) g n.here n.here tt;
+        are = always (same_change (ap Some n.called) (item_said n Word.Variant (bytes " was removed")));
       }
 
       pub variant_added_lem : (b : Bump) (j : ℕ) → Named new j v.name v.ordinal
           → Reports old new (variant_added (level b) d j) true (variant_came b (decl_in old d).name v)
       unfolding change_of declaration_of item_of detail_text subject_text verb_text values_text value_text bytes ScopeHere ItemOfHere SubjectHere ValuesHere ValueHere variant_came variant_text word_text
       variant_added_lem b j n = record {
-        here = places (variant_added (level b) d j) (omega arith) (bump_bound b) g n.here n.here tt;
-        are = always (rw (bump_level b) (same_change (ap some n.called) (item_said n Word.Variant (bytes " was added"))));
+        here = places (variant_added (level b) d j) (bump_bound b) g n.here n.here tt;
+        are = always (rw (bump_level b) (same_change (ap Some n.called) (item_said n Word.Variant (bytes " was added"))));
       }
 
     -- ---- 6. flags
@@ -263,14 +262,14 @@ module _ (old new : List ℕ) (a : Accepted old) (b : Accepted new) where
     pub bit_removed_lem : (i : ℕ) → ItemHere Shape.Bare old i → Reports old new (bit_removed d i) true ((flags_rules (decl_in old d).name).gone (bare_in old i))
     unfolding change_of bump_at declaration_of item_of detail_text subject_text verb_text values_text value_text bytes ScopeHere ItemOfHere SubjectHere ValuesHere ValueHere flags_rules bit_text word_text
     bit_removed_lem i h = record {
-      here = places (bit_removed d i) (omega arith) (omega arith) g h h tt;
+      here = places (bit_removed d i) (omega arith) g h h tt;
       are = always (same_change refl (item_said (bare_named h) Word.Bit (bytes " was removed")));
     }
 
     pub bit_added_lem : (j : ℕ) → ItemHere Shape.Bare new j → Reports old new (bit_added d j) true ((flags_rules (decl_in old d).name).came (bare_in new j))
     unfolding change_of bump_at declaration_of item_of detail_text subject_text verb_text values_text value_text bytes ScopeHere ItemOfHere SubjectHere ValuesHere ValueHere flags_rules bit_text word_text
     bit_added_lem j h = record {
-      here = places (bit_added d j) (omega arith) (omega arith) g h h tt;
+      here = places (bit_added d j) (omega arith) g h h tt;
       are = always (same_change refl (item_said (bare_named h) Word.Bit (bytes " was added")));
     }
 
@@ -282,6 +281,6 @@ module _ (old new : List ℕ) (a : Accepted old) (b : Accepted new) where
         (compare_newtypes (context by (schema_of old).registry (schema_of new).registry) (decl_in old i).name (decl_in old i) (decl_in new j))
     unfolding change_of bump_at declaration_of item_of detail_text subject_text verb_text values_text value_text bytes ScopeHere ItemOfHere SubjectHere ValuesHere ValueHere newtype_text compare_newtypes compare_types
     newtype_changed_lem by = record {
-      here = places (newtype_changed i (inner_place old i) (inner_place new j)) (omega arith) (omega arith) g tt g (inner_here old i g e, inner_here new j h f);
+      here = places (newtype_changed i (inner_place old i) (inner_place new j)) (omega arith) g tt g (inner_here old i g e, inner_here new j h f);
       are = rw (inner_tree old i g e, inner_tree new j h f);
     }

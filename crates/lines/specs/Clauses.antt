@@ -1,6 +1,6 @@
 -- A site for each change that a clause reports, by clause; i and j are places in the old and in the new image. Assumes nothing.
 use Rattle.std.specs.Prelude.{ℕ}
-use Rattle.rules.specs.Changes.{kind_at, FieldAdded, FieldRemoved, FieldTypeChanged, FieldRenamed, FieldDeprecated, FieldEncodingChanged, VariantAdded, VariantRemoved, DeclarationAdded, DeclarationRemoved, DeclarationKindChanged, NamespaceChanged, NonExhaustiveChanged, FlagsBitAdded, FlagsBitRemoved, WidthChanged}
+use Rattle.tally.specs.declared.ChangeKind.{ChangeKind}
 use Rattle.details.specs.declared.Scope.{Scope}
 use Rattle.details.specs.declared.Item.{Item}
 use Rattle.details.specs.declared.Word.{Word}
@@ -11,7 +11,7 @@ use Rattle.details.specs.declared.Values.{Values}
 use Rattle.lines.specs.declared.Site.{Site}
 
 -- of a kind and a level
-abbrev pub site_of : ℕ → ℕ → Scope → Item → Subject → Verb → Values → Site
+abbrev pub site_of : ChangeKind → ℕ → Scope → Item → Subject → Verb → Values → Site
 site_of kind level scope item subject verb values = record {
   kind = kind;
   bump = record { level = level };
@@ -23,76 +23,76 @@ site_of kind level scope item subject verb values = record {
 -- 1. the namespace
 
 abbrev pub namespace_changed : Site
-namespace_changed = site_of (kind_at NamespaceChanged) 2 Scope.Schema Item.Nothing Subject.Namespace Verb.Changed (Values.FromTo Value.Namespace Value.Namespace)
+namespace_changed = site_of ChangeKind.NamespaceChanged 2 Scope.Schema Item.Nothing Subject.Namespace Verb.Changed (Values.FromTo Value.Namespace Value.Namespace)
 
 -- 2. and 3. declarations
 
 abbrev pub decl_removed : ℕ → Site
-decl_removed i = site_of (kind_at DeclarationRemoved) 2 (Scope.Old i) Item.Nothing (Subject.OldDecl i) Verb.Removed Values.Unsaid
+decl_removed i = site_of ChangeKind.DeclarationRemoved 2 (Scope.Old i) Item.Nothing (Subject.OldDecl i) Verb.Removed Values.Unsaid
 
 abbrev pub decl_added : ℕ → Site
-decl_added j = site_of (kind_at DeclarationAdded) 1 (Scope.New j) Item.Nothing (Subject.NewDecl j) Verb.Added Values.Unsaid
+decl_added j = site_of ChangeKind.DeclarationAdded 1 (Scope.New j) Item.Nothing (Subject.NewDecl j) Verb.Added Values.Unsaid
 
 abbrev pub kind_changed : ℕ → ℕ → Site
 kind_changed i j =
-    site_of (kind_at DeclarationKindChanged) 2 (Scope.Old i) Item.Nothing (Subject.DeclName i) Verb.Changed (Values.FromTo (Value.Kind i) (Value.Kind j))
+    site_of ChangeKind.DeclarationKindChanged 2 (Scope.Old i) Item.Nothing (Subject.DeclName i) Verb.Changed (Values.FromTo (Value.Kind i) (Value.Kind j))
 
 -- 4. fields, and a message's own deprecation
 
 abbrev pub field_removed : Scope → ℕ → Site
-field_removed scope i = site_of (kind_at FieldRemoved) 2 scope (Item.Old i) (Subject.OldItem Word.Field i) Verb.Removed Values.Unsaid
+field_removed scope i = site_of ChangeKind.FieldRemoved 2 scope (Item.Old i) (Subject.OldItem Word.Field i) Verb.Removed Values.Unsaid
 
 abbrev pub field_added : Scope → ℕ → Site
-field_added scope j = site_of (kind_at FieldAdded) 2 scope (Item.New j) (Subject.NewItem Word.Field j) Verb.Added Values.Unsaid
+field_added scope j = site_of ChangeKind.FieldAdded 2 scope (Item.New j) (Subject.NewItem Word.Field j) Verb.Added Values.Unsaid
 
 abbrev pub field_renamed : Scope → ℕ → ℕ → Site
 field_renamed scope i j =
-    site_of (kind_at FieldRenamed) 0 scope (Item.New j) (Subject.FieldOrdinal j) Verb.Renamed (Values.FromTo (Value.Name i) (Value.Name j))
+    site_of ChangeKind.FieldRenamed 0 scope (Item.New j) (Subject.FieldOrdinal j) Verb.Renamed (Values.FromTo (Value.Name i) (Value.Name j))
 
 -- with the places of the two types
 abbrev pub field_type_changed : Scope → ℕ → ℕ → ℕ → Site
 field_type_changed scope j from to =
-    site_of (kind_at FieldTypeChanged) 2 scope (Item.New j) (Subject.NewItem Word.Field j) Verb.TypeChanged (Values.FromTo (Value.Type from) (Value.Type to))
+    site_of ChangeKind.FieldTypeChanged 2 scope (Item.New j) (Subject.NewItem Word.Field j) Verb.TypeChanged (Values.FromTo (Value.Type from) (Value.Type to))
 
 abbrev pub field_encoding_changed : Scope → ℕ → ℕ → Site
 field_encoding_changed scope i j =
-    site_of (kind_at FieldEncodingChanged) 2 scope (Item.New j) (Subject.NewItem Word.Field j) Verb.EncodingChanged (Values.FromTo (Value.Encoding i) (Value.Encoding j))
+    site_of ChangeKind.FieldEncodingChanged 2 scope (Item.New j) (Subject.NewItem Word.Field j) Verb.EncodingChanged (Values.FromTo (Value.Encoding i) (Value.Encoding j))
 
 abbrev pub field_deprecated : Scope → ℕ → Site
-field_deprecated scope j = site_of (kind_at FieldDeprecated) 0 scope (Item.New j) (Subject.FieldName j) Verb.Deprecated Values.Unsaid
+field_deprecated scope j = site_of ChangeKind.FieldDeprecated 0 scope (Item.New j) (Subject.FieldName j) Verb.Deprecated Values.Unsaid
 
 abbrev pub decl_deprecated : ℕ → Site
-decl_deprecated i = site_of (kind_at FieldDeprecated) 0 (Scope.Old i) Item.Nothing Subject.Declaration Verb.Deprecated Values.Unsaid
+decl_deprecated i = site_of ChangeKind.FieldDeprecated 0 (Scope.Old i) Item.Nothing Subject.Declaration Verb.Deprecated Values.Unsaid
 
 -- widths of enums and flags, which the clauses do not compare
 
 abbrev pub width_changed : ℕ → ℕ → Site
 width_changed i j =
-    site_of (kind_at WidthChanged) 2 (Scope.Old i) Item.Nothing Subject.Width Verb.Changed (Values.FromTo (Value.Width i) (Value.Width j))
+    site_of ChangeKind.WidthChanged 2 (Scope.Old i) Item.Nothing Subject.Width Verb.Changed (Values.FromTo (Value.Width i) (Value.Width j))
 
 -- 5. and 7. variants of enums and of unions
 
 abbrev pub non_exhaustive_changed : ℕ → ℕ → Site
 non_exhaustive_changed i j =
-    site_of (kind_at NonExhaustiveChanged) 2 (Scope.Old i) Item.Nothing Subject.NonExhaustive Verb.Changed (Values.FromTo (Value.NonExhaustive i) (Value.NonExhaustive j))
+    site_of ChangeKind.NonExhaustiveChanged 2 (Scope.Old i) Item.Nothing Subject.NonExhaustive Verb.Changed (Values.FromTo (Value.NonExhaustive i) (Value.NonExhaustive j))
 
 -- in the declaration at a place of the old image
 abbrev pub variant_removed : ℕ → ℕ → Site
-variant_removed decl i = site_of (kind_at VariantRemoved) 2 (Scope.Old decl) (Item.Old i) (Subject.OldItem Word.Variant i) Verb.Removed Values.Unsaid
+variant_removed decl i = site_of ChangeKind.VariantRemoved 2 (Scope.Old decl) (Item.Old i) (Subject.OldItem Word.Variant i) Verb.Removed Values.Unsaid
 
 abbrev pub variant_added : ℕ → ℕ → ℕ → Site
-variant_added level decl j = site_of (kind_at VariantAdded) level (Scope.Old decl) (Item.New j) (Subject.NewItem Word.Variant j) Verb.Added Values.Unsaid
+variant_added level decl j = site_of ChangeKind.VariantAdded level (Scope.Old decl) (Item.New j) (Subject.NewItem Word.Variant j) Verb.Added Values.Unsaid
 
 -- 6. flags
 
 abbrev pub bit_removed : ℕ → ℕ → Site
-bit_removed decl i = site_of (kind_at FlagsBitRemoved) 2 (Scope.Old decl) (Item.Old i) (Subject.OldItem Word.Bit i) Verb.Removed Values.Unsaid
+bit_removed decl i = site_of ChangeKind.FlagsBitRemoved 2 (Scope.Old decl) (Item.Old i) (Subject.OldItem Word.Bit i) Verb.Removed Values.Unsaid
 
 abbrev pub bit_added : ℕ → ℕ → Site
-bit_added decl j = site_of (kind_at FlagsBitAdded) 1 (Scope.Old decl) (Item.New j) (Subject.NewItem Word.Bit j) Verb.Added Values.Unsaid
+bit_added decl j = site_of ChangeKind.FlagsBitAdded 1 (Scope.Old decl) (Item.New j) (Subject.NewItem Word.Bit j) Verb.Added Values.Unsaid
 
 -- 8. newtypes, with the places of the two types
 
 abbrev pub newtype_changed : ℕ → ℕ → ℕ → Site
 newtype_changed decl from to =
-    site_of (kind_at FieldTypeChanged) 2 (Scope.Old decl) Item.Nothing (Subject.Newtype decl) Verb.TypeChanged (Values.FromTo (Value.Type from) (Value.Type to))
+    site_of ChangeKind.FieldTypeChanged 2 (Scope.Old decl) Item.Nothing (Subject.Newtype decl) Verb.TypeChanged (Values.FromTo (Value.Type from) (Value.Type to))

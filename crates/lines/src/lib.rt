@@ -5,12 +5,12 @@ pub mod reporting;
 pub mod sites;
 
 use details::{Detail, Item, Scope};
-use tally::Bump;
+use tally::{Bump, ChangeKind};
 
-// A change: its kind, numbered in the order of `ChangeKind`, and where all that its line shows is found.
+// A change: its kind, and where all that its line shows is found.
 #[derive(Clone, Copy)]
 pub struct Site {
-    pub kind: usize,
+    pub kind: ChangeKind,
     pub bump: Bump,
     pub scope: Scope,
     pub item: Item,

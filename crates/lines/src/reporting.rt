@@ -2,6 +2,7 @@
 ghost use Rattle.std.specs.Prelude.{[], ◌∷◌, ◌≤◌, length};
 ghost use Rattle.rules.specs.Report.{change_line};
 ghost use Rattle.text.specs.Text.{Space, Puts};
+ghost use Rattle.text.specs.Writers.{Adds, Fills};
 ghost use Rattle.tally.specs.Reporting.{Ready, Ran};
 ghost use Rattle.lines.specs.Sites.{change_of, SiteHere};
 ghost use Rattle.lines.specs.Last.{last_line_of};
@@ -11,27 +12,33 @@ use details::names::{put_declaration, put_field};
 use details::put_detail;
 use details::words::{BUMPS, RESULTS, put_word};
 use tally::Tally;
-use text::{Mode, put_byte, put_number, start_in};
+use text::{Mode, Writer, start_in};
 
-// The line of a change, from the start of the part of the buffer that it is lent.
-fn put_line(mode: Mode, old: &[u8], new: &[u8], out: &mut [u8], site: Site) -> usize
-    requires { SiteHere old.now new.now site × Space mode out.old 0 (length (change_line (change_of old.now new.now site))) }
-    ensures { Puts mode out.old 0 (change_line (change_of old.now new.now site)) result out.new }
+// The line of a change.
+fn put_line(w: &mut Writer<'_>, old: &[u8], new: &[u8], site: Site)
+    requires { SiteHere old.now new.now site }
+    ensures { Adds w.old (change_line (change_of old.now new.now site)) w.new }
 {
-    let level = site.bump.level as usize;
-    let scope = site.scope;
-    let item = site.item;
-    let detail = site.detail;
-    let at = put_word(mode, out, 0, site.kind);
-    let at = put_byte(mode, out, at, b';');
-    let at = put_word(mode, out, at, BUMPS + level);
-    let at = put_byte(mode, out, at, b';');
-    let at = put_declaration(mode, old, new, out, at, scope);
-    let at = put_byte(mode, out, at, b';');
-    let at = put_field(mode, old, new, out, at, item);
-    let at = put_byte(mode, out, at, b';');
-    let at = put_detail(mode, old, new, out, at, detail);
-    put_byte(mode, out, at, b'\n')
+    put_word(w, site.kind.place());
+    w.byte(b';');
+    put_word(w, BUMPS + site.bump.level as usize);
+    w.byte(b';');
+    put_declaration(w, old, new, site.scope);
+    w.byte(b';');
+    put_field(w, old, new, site.item);
+    w.byte(b';');
+    put_detail(w, old, new, site.detail);
+    w.byte(b'\n');
+}
+
+// The same from the start of a buffer: how long it is.
+fn line_into(out: &mut [u8], old: &[u8], new: &[u8], site: Site) -> usize
+    requires { SiteHere old.now new.now site }
+    ensures { Fills out.old (change_line (change_of old.now new.now site)) result out.new }
+{
+    let mut w = Writer::new(out);
+    put_line(&mut w, old, new, site);
+    w.at
 }
 
 // A change is counted, and its line measured or written after the lines before it.
@@ -39,27 +46,35 @@ pub fn emit(mode: Mode, old: &[u8], new: &[u8], out: &mut [u8], t: Tally, site: 
     requires { SiteHere old.now new.now site × Ready mode out.old t (change_of old.now new.now site ∷ []) }
     ensures { Ran mode out.old t (change_of old.now new.now site ∷ []) result out.new }
 {
-    let kind = site.kind;
-    let bump = site.bump;
-    let done = start_in(mode, t.length);
-    let n = put_line(mode, old, new, &mut out[done..], site);
-    t.with_change(kind, bump, n)
+    let done = start_in(mode, out.len(), t.length);
+    let n = line_into(&mut out[done..], old, new, site);
+    t.with_change(site.kind, site.bump, n)
 }
 
-// The last line, from the start of the part of the buffer that it is lent.
-fn put_result(mode: Mode, out: &mut [u8], t: Tally) -> usize
-    requires { (t.bump.level ≤ 2) × Space mode out.old 0 (length (last_line_of t)) }
-    ensures { Puts mode out.old 0 (last_line_of t) result out.new }
+// The last line.
+fn put_result(w: &mut Writer<'_>, t: Tally)
+    requires { t.bump.level ≤ 2 }
+    ensures { Adds w.old (last_line_of t) w.new }
 {
     let level = t.bump.level as usize;
     let bump = t.bump;
     let result = bump.result();
-    let at = put_word(mode, out, 0, RESULTS + result);
-    let at = put_byte(mode, out, at, b';');
-    let at = put_word(mode, out, at, BUMPS + level);
-    let at = put_byte(mode, out, at, b';');
-    let at = put_number(mode, out, at, t.changes as u64);
-    put_byte(mode, out, at, b'\n')
+    put_word(w, RESULTS + result);
+    w.byte(b';');
+    put_word(w, BUMPS + level);
+    w.byte(b';');
+    w.number(t.changes as u64);
+    w.byte(b'\n');
+}
+
+// The same from the start of a buffer: how long it is.
+fn result_into(out: &mut [u8], t: Tally) -> usize
+    requires { t.bump.level ≤ 2 }
+    ensures { Fills out.old (last_line_of t) result out.new }
+{
+    let mut w = Writer::new(out);
+    put_result(&mut w, t);
+    w.at
 }
 
 // "Last line, in the same way: result, bump, number of changes." The length of the whole report.
@@ -68,7 +83,7 @@ pub fn put_last_line(mode: Mode, out: &mut [u8], t: Tally) -> usize
     ensures { Puts mode out.old t.length (last_line_of t) result out.new }
 {
     let at = t.length;
-    let done = start_in(mode, at);
-    let n = put_result(mode, &mut out[done..], t);
+    let done = start_in(mode, out.len(), at);
+    let n = result_into(&mut out[done..], t);
     at + n
 }

@@ -5,44 +5,11 @@ ghost use Rattle.lines.specs.Clauses.{site_of, namespace_changed, decl_removed, 
 
 use crate::Site;
 use details::{Detail, Item, Scope, Subject, Value, Values, Verb, Word};
-use tally::Bump;
-
-// The kinds of `ChangeKind` that are reported, by their places in it.
-const FIELD_ADDED: usize = 0;
-
-const FIELD_REMOVED: usize = 1;
-
-const FIELD_TYPE_CHANGED: usize = 2;
-
-const FIELD_RENAMED: usize = 4;
-
-const FIELD_DEPRECATED: usize = 5;
-
-const FIELD_ENCODING_CHANGED: usize = 6;
-
-const VARIANT_ADDED: usize = 7;
-
-const VARIANT_REMOVED: usize = 8;
-
-const DECLARATION_ADDED: usize = 10;
-
-const DECLARATION_REMOVED: usize = 11;
-
-const DECLARATION_KIND_CHANGED: usize = 12;
-
-const NAMESPACE_CHANGED: usize = 13;
-
-const NON_EXHAUSTIVE_CHANGED: usize = 14;
-
-const FLAGS_BIT_ADDED: usize = 15;
-
-const FLAGS_BIT_REMOVED: usize = 16;
-
-const WIDTH_CHANGED: usize = 18;
+use tally::{Bump, ChangeKind};
 
 // Of a kind and a bump.
 fn site(
-    kind: usize,
+    kind: ChangeKind,
     bump: Bump,
     scope: Scope,
     item: Item,
@@ -70,7 +37,7 @@ pub fn namespace_changed() -> Site
     ensures { result ≡ namespace_changed }
 {
     site(
-        NAMESPACE_CHANGED,
+        ChangeKind::NamespaceChanged,
         Bump::MAJOR,
         Scope::Schema,
         Item::Nothing,
@@ -85,7 +52,7 @@ pub fn decl_removed(i: usize) -> Site
     ensures { result ≡ decl_removed i }
 {
     site(
-        DECLARATION_REMOVED,
+        ChangeKind::DeclarationRemoved,
         Bump::MAJOR,
         Scope::Old(i),
         Item::Nothing,
@@ -100,7 +67,7 @@ pub fn decl_added(j: usize) -> Site
     ensures { result ≡ decl_added j }
 {
     site(
-        DECLARATION_ADDED,
+        ChangeKind::DeclarationAdded,
         Bump::MINOR,
         Scope::New(j),
         Item::Nothing,
@@ -115,7 +82,7 @@ pub fn kind_changed(i: usize, j: usize) -> Site
     ensures { result ≡ kind_changed i j }
 {
     site(
-        DECLARATION_KIND_CHANGED,
+        ChangeKind::DeclarationKindChanged,
         Bump::MAJOR,
         Scope::Old(i),
         Item::Nothing,
@@ -130,7 +97,7 @@ pub fn field_removed(scope: Scope, i: usize) -> Site
     ensures { result ≡ field_removed scope i }
 {
     site(
-        FIELD_REMOVED,
+        ChangeKind::FieldRemoved,
         Bump::MAJOR,
         scope,
         Item::Old(i),
@@ -145,7 +112,7 @@ pub fn field_added(scope: Scope, j: usize) -> Site
     ensures { result ≡ field_added scope j }
 {
     site(
-        FIELD_ADDED,
+        ChangeKind::FieldAdded,
         Bump::MAJOR,
         scope,
         Item::New(j),
@@ -160,7 +127,7 @@ pub fn field_renamed(scope: Scope, i: usize, j: usize) -> Site
     ensures { result ≡ field_renamed scope i j }
 {
     site(
-        FIELD_RENAMED,
+        ChangeKind::FieldRenamed,
         Bump::PATCH,
         scope,
         Item::New(j),
@@ -175,7 +142,7 @@ pub fn field_type_changed(scope: Scope, j: usize, from: usize, to: usize) -> Sit
     ensures { result ≡ field_type_changed scope j from to }
 {
     site(
-        FIELD_TYPE_CHANGED,
+        ChangeKind::FieldTypeChanged,
         Bump::MAJOR,
         scope,
         Item::New(j),
@@ -190,7 +157,7 @@ pub fn field_encoding_changed(scope: Scope, i: usize, j: usize) -> Site
     ensures { result ≡ field_encoding_changed scope i j }
 {
     site(
-        FIELD_ENCODING_CHANGED,
+        ChangeKind::FieldEncodingChanged,
         Bump::MAJOR,
         scope,
         Item::New(j),
@@ -205,7 +172,7 @@ pub fn field_deprecated(scope: Scope, j: usize) -> Site
     ensures { result ≡ field_deprecated scope j }
 {
     site(
-        FIELD_DEPRECATED,
+        ChangeKind::FieldDeprecated,
         Bump::PATCH,
         scope,
         Item::New(j),
@@ -220,7 +187,7 @@ pub fn decl_deprecated(i: usize) -> Site
     ensures { result ≡ decl_deprecated i }
 {
     site(
-        FIELD_DEPRECATED,
+        ChangeKind::FieldDeprecated,
         Bump::PATCH,
         Scope::Old(i),
         Item::Nothing,
@@ -235,7 +202,7 @@ pub fn width_changed(i: usize, j: usize) -> Site
     ensures { result ≡ width_changed i j }
 {
     site(
-        WIDTH_CHANGED,
+        ChangeKind::WidthChanged,
         Bump::MAJOR,
         Scope::Old(i),
         Item::Nothing,
@@ -250,7 +217,7 @@ pub fn non_exhaustive_changed(i: usize, j: usize) -> Site
     ensures { result ≡ non_exhaustive_changed i j }
 {
     site(
-        NON_EXHAUSTIVE_CHANGED,
+        ChangeKind::NonExhaustiveChanged,
         Bump::MAJOR,
         Scope::Old(i),
         Item::Nothing,
@@ -265,7 +232,7 @@ pub fn variant_removed(decl: usize, i: usize) -> Site
     ensures { result ≡ variant_removed decl i }
 {
     site(
-        VARIANT_REMOVED,
+        ChangeKind::VariantRemoved,
         Bump::MAJOR,
         Scope::Old(decl),
         Item::Old(i),
@@ -280,7 +247,7 @@ pub fn variant_added(bump: Bump, decl: usize, j: usize) -> Site
     ensures { result ≡ variant_added bump.level decl j }
 {
     site(
-        VARIANT_ADDED,
+        ChangeKind::VariantAdded,
         bump,
         Scope::Old(decl),
         Item::New(j),
@@ -295,7 +262,7 @@ pub fn bit_removed(decl: usize, i: usize) -> Site
     ensures { result ≡ bit_removed decl i }
 {
     site(
-        FLAGS_BIT_REMOVED,
+        ChangeKind::FlagsBitRemoved,
         Bump::MAJOR,
         Scope::Old(decl),
         Item::Old(i),
@@ -310,7 +277,7 @@ pub fn bit_added(decl: usize, j: usize) -> Site
     ensures { result ≡ bit_added decl j }
 {
     site(
-        FLAGS_BIT_ADDED,
+        ChangeKind::FlagsBitAdded,
         Bump::MINOR,
         Scope::Old(decl),
         Item::New(j),
@@ -325,7 +292,7 @@ pub fn newtype_changed(decl: usize, from: usize, to: usize) -> Site
     ensures { result ≡ newtype_changed decl from to }
 {
     site(
-        FIELD_TYPE_CHANGED,
+        ChangeKind::FieldTypeChanged,
         Bump::MAJOR,
         Scope::Old(decl),
         Item::Nothing,

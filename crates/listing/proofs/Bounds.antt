@@ -1,6 +1,6 @@
 -- The listing of an accepted image is shorter than 2^62 bytes. Assumes nothing.
 use mathlib.Core.Path.{◌≡◌, refl}
-use mathlib.Core.Option.{Option, none, some}
+use Rattle.std.specs.Prelude.{Option, None, Some}
 use mathlib.Core.List.{List, [], ◌∷◌}
 use Prim.Native.Nat.{ℕ, suc, ◌+◌, ◌*◌, ◌^◌, ◌≤◌, ◌<◌}
 use native.Mathlib.Omega.{arith}
@@ -17,7 +17,7 @@ line_length_lem : (id kind : ℕ) (name : Name) → length (line_of id kind name
 unfolding line_of bytes
 line_length_lem id kind name = simp length-append (omega (arith, decimal_length id, kind_length kind))
 
-lines_length : (most id : ℕ) (R : List (Option Decl)) → ((j : ℕ) → j < length R → (i : ℕ) → length (entry_text i (get_or R j none)) ≤ most)
+lines_length : (most id : ℕ) (R : List (Option Decl)) → ((j : ℕ) → j < length R → (i : ℕ) → length (entry_text i (get_or R j None)) ≤ most)
     → length (lines_from id R) ≤ most * length R
 unfolding lines_from
 lines_length most id [] h = omega arith
@@ -27,13 +27,13 @@ module _ (s : List ℕ) (g : Accepted s) where
   few : length (schema_of s).registry ≤ 32768
   few = omega (arith, entries_most s g, accepted_most s g)
 
-  short : (j : ℕ) → j < length (schema_of s).registry → (i : ℕ) → length (entry_text i (get_or (schema_of s).registry j none)) ≤ 32804
+  short : (j : ℕ) → j < length (schema_of s).registry → (i : ℕ) → length (entry_text i (get_or (schema_of s).registry j None)) ≤ 32804
   unfolding entry_text entry_line
-  short j l i = go (get_or (schema_of s).registry j none) refl
+  short j l i = go (get_or (schema_of s).registry j None) refl
     where
-      go : (e : Option Decl) → get_or (schema_of s).registry j none ≡ e → length (entry_text i e) ≤ 32804
-      go none q = omega arith
-      go (some d) q = omega (arith, line_length_lem i d.kind d.name, entry_short s g j l d q, accepted_most s g)
+      go : (e : Option Decl) → get_or (schema_of s).registry j None ≡ e → length (entry_text i e) ≤ 32804
+      go None q = omega arith
+      go (Some d) q = omega (arith, line_length_lem i d.kind d.name, entry_short s g j l d q, accepted_most s g)
 
   lines_small : (id : ℕ) → length (lines_from id (schema_of s).registry) < 2 ^ 62
   lines_small id = omega (arith, lines_length 32804 id (schema_of s).registry short, few)

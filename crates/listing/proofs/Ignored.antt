@@ -1,7 +1,7 @@
 -- R-6: the listing ignores the format and the widths. Assumes nothing.
 use mathlib.Core.Path.{◌≡◌, refl}
 use mathlib.Core.List.{List, [], ◌∷◌, map}
-use mathlib.Core.Option.{Option, none, some, map as map_option}
+use Rattle.std.specs.Prelude.{Option, None, Some, option_map}
 use Prim.Native.Nat.{ℕ, suc}
 use Rattle.image.specs.Schema.{Decl, Schema}
 use Rattle.rules.specs.Ignored.{unsized, unsized_schema, SameUnsized}
@@ -9,12 +9,12 @@ use Rattle.listing.specs.Listing.{entry_line, entry_text, lines_from, listing, a
 use Rattle.listing.specs.Ignored.{ListingIgnores}
 
 -- of the entries without their widths
-entry_ignores : (id : ℕ) (e : Option Decl) → entry_text id (map_option unsized e) ≡ entry_text id e
+entry_ignores : (id : ℕ) (e : Option Decl) → entry_text id (option_map unsized e) ≡ entry_text id e
 unfolding entry_text entry_line unsized
-entry_ignores id none = refl
-entry_ignores id (some d) = refl
+entry_ignores id None = refl
+entry_ignores id (Some d) = refl
 
-lines_ignore : (id : ℕ) (es : List (Option Decl)) → lines_from id (map (map_option unsized) es) ≡ lines_from id es
+lines_ignore : (id : ℕ) (es : List (Option Decl)) → lines_from id (map (option_map unsized) es) ≡ lines_from id es
 unfolding lines_from
 lines_ignore id [] = refl
 lines_ignore id (e ∷ es) = rw (entry_ignores id e, lines_ignore (suc id) es)

@@ -3,16 +3,17 @@
 use mathlib.Core.Path.{◌≡◌, refl, sym, ap, ◌∙◌}
 use mathlib.Core.Bool.{Bool, true, false, cond}
 use mathlib.Core.List.{List}
-use Prim.Native.Nat.{ℕ, ◌≤◌, ◌<◌}
+use Prim.Native.Nat.{ℕ, ◌-◌, ◌^◌, ◌≤◌, ◌<◌, min}
 use native.Mathlib.Omega.{arith}
 use borrow.Author.Tests.{le-leb, lt-leb, leb-true, leb-false}
 use lib.Dec.{leb}
+use native.Mathlib.Nat.{zero-add}
 use lib.ListN.{length}
+use lib.Seq.{take_all}
 use Rattle.parts.specs.Promise.{Accepted, schema_of}
 use Rattle.parts.proofs.Promise.{accepted_read, read_accepted}
-use Rattle.text.specs.Text.{Space, Puts}
-use Rattle.text.specs.declared.Mode.TheVariants.{Measure, Write}
-use Rattle.text.proofs.Writing.{space_measure, space_write, puts_written}
+use Rattle.text.specs.Text.{put}
+use Rattle.text.specs.Writers.{Fills}
 use Rattle.rules.specs.Outcome.{Outcome, refused, answered, text_only, fit, text_length, written}
 use Rattle.parts.specs.Codes.{number, old_side}
 use Rattle.rules.specs.Answer.{plain}
@@ -44,19 +45,17 @@ module _ (s : List ℕ) (g : Accepted s) where
 
   -- ---- the pass that measures
 
-  pub measure_space : {d : List ℕ} → Space Measure d 0 (length (text s))
-  measure_space = space_measure (omega (arith, listing_small s g))
+  pub measured_is : {n : ℕ} → n ≡ min (length (text s)) (2 ^ 64 - 1) → n ≡ length (text s)
+  measured_is q = omega (arith, q, listing_small s g)
 
-  module _ (room : ℕ) {d : List ℕ} {n : ℕ} {d' : List ℕ} (p : Puts Measure d 0 (text s) n d') where
+  module _ (room : ℕ) {n : ℕ} (p : n ≡ length (text s)) where
     pub measured_full : room < n → refused_by 12 (number old_side) ≡ verdict_is (outcome s room)
     unfolding verdict_is
-    measured_full h = sym (ap verdict_is (full_is room (omega (arith, p.end))))
+    measured_full h = sym (ap verdict_is (full_is room (omega arith)))
 
     pub measured_fits : n ≤ room → {t : Tally} → t ≡ no_change → of_tally t n ≡ verdict_is (outcome s room)
     unfolding verdict_is of_tally no_change
-    measured_fits h q =
-        let e : n ≡ length (text s) = omega (arith, p.end) in
-        rw (q, e) (sym (ap verdict_is (fits_is room (omega (arith, p.end)))))
+    measured_fits h q = rw (q, p) (sym (ap verdict_is (fits_is room (omega arith))))
 
 -- ---- the three cases of an image and a buffer
 
@@ -110,11 +109,12 @@ module _ (s d : List ℕ) {v : Verdict} (e : v ≡ verdict_is (outcome s (length
         go (full g l) q = absurd (omega arith)
         go (fits g l) q = (g, l)
 
-    pub call_ready : Accepted s × Space Write d 0 (length (text s))
-    call_ready = let r = ready in (r.0, space_write (omega (arith, listing_small s r.0)) (omega arith))
+    pub call_accepted : Accepted s
+    call_accepted = ready.0
 
-    pub call_done : {r : ℕ} {d' : List ℕ} → Puts Write d 0 (text s) r d' → Wrote s d r d'
-    unfolding text_length written
-    call_done p =
+    pub call_done : {r : ℕ} {d' : List ℕ} → Fills d (text s) r d' → Wrote s d r d'
+    unfolding text_length written put
+    call_done f =
         let q = fits_is s ready.0 (length d) ready.1 in
-        (rw q (omega (arith, p.end)), rw q (puts_written p))
+        let all = take_all (length d) (text s) ready.1 in
+        (rw q (measured_is s ready.0 f.long), rw q (f.bytes ∙ rw (all, zero-add (length (text s)))))

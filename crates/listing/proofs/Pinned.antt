@@ -1,7 +1,7 @@
 -- What is computed from the definition alone: entries that are empty have no line and keep their ids; an impl has the empty name; a listing
 -- of no line is empty. Assumes nothing.
 use mathlib.Core.Path.{◌≡◌, refl}
-use mathlib.Core.Option.{none, some}
+use Rattle.std.specs.Prelude.{None, Some}
 use mathlib.Core.List.{[], ◌∷◌}
 use Rattle.image.specs.Schema.{unmarked, no_type, decl, Schema}
 use Rattle.parts.specs.Kinds.{kind_of}
@@ -13,7 +13,7 @@ pub two : Schema
 unfolding bytes
 two = record {
   format = 1;
-  registry = none ∷ some (decl 0 (bytes "Drive") unmarked none [] [] no_type) ∷ none ∷ some (decl 8 [] unmarked none [] [] no_type) ∷ none ∷ [];
+  registry = None ∷ Some (decl 0 (bytes "Drive") unmarked None [] [] no_type) ∷ None ∷ Some (decl 8 [] unmarked None [] [] no_type) ∷ None ∷ [];
   ids = 3 ∷ 1 ∷ [];
   namespace = [];
 }
@@ -22,6 +22,6 @@ pub two_lines : listing two ≡ bytes "1;message;Drive\n3;impl;\n"
 unfolding two listing lines_from entry_text entry_line line_of decimal digits kind_of kind_word bytes
 two_lines = refl
 
-pub no_line : listing (record { format = 1; registry = none ∷ none ∷ []; ids = []; namespace = [] }) ≡ []
+pub no_line : listing (record { format = 1; registry = None ∷ None ∷ []; ids = []; namespace = [] }) ≡ []
 unfolding listing lines_from entry_text
 no_line = refl

@@ -1,7 +1,7 @@
 -- When an image is listed and when each refusal is given, exactly as specs/Refusals says. Assumes nothing.
 use mathlib.Core.Path.{◌≡◌, refl, ◌∙◌}
 use mathlib.Core.Bool.{cond}
-use mathlib.Core.Option.{Option, none}
+use Rattle.std.specs.Prelude.{Option, None}
 use mathlib.Core.List.{List, [], ◌∷◌}
 use Prim.Native.Nat.{ℕ, zero, suc, ◌≤◌, ◌<◌}
 use native.Mathlib.Omega.{arith}
@@ -20,12 +20,12 @@ use Rattle.listing.specs.Refusals.{Holds, RefusedBy, ListingRefusals}
 use Rattle.listing.proofs.Outcomes.{Case, turned, full, fits, case}
 
 -- entries that are all empty
-lines_none : (id : ℕ) (R : List (Option Decl)) → ((j : ℕ) → get_or R j none ≡ none) → lines_from id R ≡ []
+lines_none : (id : ℕ) (R : List (Option Decl)) → ((j : ℕ) → get_or R j None ≡ None) → lines_from id R ≡ []
 unfolding lines_from entry_text
 lines_none id [] h = refl
 lines_none id (e ∷ R) h = rw (h 0, lines_none (suc id) R (λ j. h (suc j)))
 
-listing_none : (x : Schema) → ((id : ℕ) → get_or x.registry id none ≡ none) → listing x ≡ []
+listing_none : (x : Schema) → ((id : ℕ) → get_or x.registry id None ≡ None) → listing x ≡ []
 unfolding listing
 listing_none x h = lines_none _ x.registry h
 
@@ -113,7 +113,7 @@ module _ (s : List ℕ) (room : ℕ) where
   unfolding select selected
   full_given a = rw (held_is a, lt-leb (length (listing a.schema)) room a.holds)
 
-  empty_given : Holds s (λ x. (id : ℕ) → get_or x.registry id none ≡ none) → outcome s room ≡ text_only []
+  empty_given : Holds s (λ x. (id : ℕ) → get_or x.registry id None ≡ None) → outcome s room ≡ text_only []
   empty_given a = held_is a ∙ rw (listing_none a.schema a.holds, le-leb 0 room (omega arith))
 
 pub listing_refusals : (image : List ℕ) (room : ℕ) → ListingRefusals image room

@@ -1,6 +1,5 @@
 -- The contents listing of one image: document 01, "From Rust shapes". Assumes nothing.
-use Rattle.std.specs.Prelude.{◌≡◌, List, [], ◌∷◌, ◌++◌, ℕ, suc, length, get_or}
-use Rattle.std.proofs.Math.Option.{Option, none, some}
+use Rattle.std.specs.Prelude.{◌≡◌, List, [], ◌∷◌, ◌++◌, ℕ, suc, length, get_or, Option, None, Some}
 use Rattle.image.specs.Schema.{Name, Decl, Schema}
 use Rattle.image.specs.Words.{bytes, kind_word}
 use Rattle.image.specs.Parse.{Parsed, ok, no}
@@ -21,8 +20,8 @@ entry_line id d = line_of id d.kind d.name
 
 -- "a line for each entry that isn't empty"
 unfoldable pub entry_text : ℕ → Option Decl → List ℕ
-entry_text id none = []
-entry_text id (some d) = entry_line id d
+entry_text id None = []
+entry_text id (Some d) = entry_line id d
 
 -- "in id order": entries, the first of which has this id
 unfoldable pub lines_from : ℕ → List (Option Decl) → List ℕ
@@ -31,7 +30,7 @@ lines_from id (e ∷ es) = entry_text id e ++ lines_from (suc id) es
 
 -- of an entry of an accepted image
 abbrev pub entry_in : List ℕ → ℕ → List ℕ
-entry_in image id = entry_text id (get_or (schema_of image).registry id none)
+entry_in image id = entry_text id (get_or (schema_of image).registry id None)
 
 unfoldable pub listing : Schema → List ℕ
 listing x = lines_from 0 x.registry

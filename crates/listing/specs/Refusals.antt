@@ -1,7 +1,6 @@
 -- Document 01, "From Rust shapes" and "Turned back", for the listing of one image: when each number is given, with which side, what a
 -- refusal is, and when the length is 0. When an image alone is refused is said by the crates image and refusals. Assumes nothing.
-use Rattle.std.specs.Prelude.{◌≡◌, ◌↔◌, List, ℕ, ◌≤◌, ◌<◌, length, get_or}
-use Rattle.std.proofs.Math.Option.{none}
+use Rattle.std.specs.Prelude.{◌≡◌, ◌↔◌, List, ℕ, ◌≤◌, ◌<◌, length, get_or, None}
 use Rattle.image.specs.Schema.{Schema}
 use Rattle.image.specs.Parse.{ok, no}
 use Rattle.image.specs.Image.{read_image}
@@ -40,5 +39,5 @@ pub record ListingRefusals (image : List ℕ) (room : ℕ) : Type 0 where
   pub untouched : (listing_verdict image room 0 ≡ 0 → ⊥) → (out : List ℕ) → written (outcome image room) out ≡ out
   -- both calls give one length, and "with no such entry the length is 0", which fits any buffer
   pub same : text_length (outcome image room) ≡ listing_verdict image room 4
-  pub empty : Holds image (λ x. (id : ℕ) → get_or x.registry id none ≡ none)
+  pub empty : Holds image (λ x. (id : ℕ) → get_or x.registry id None ≡ None)
       → (listing_verdict image room 0 ≡ 0) × (listing_verdict image room 4 ≡ 0)

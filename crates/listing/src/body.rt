@@ -1,12 +1,14 @@
 // A reader over the body of an entry: a struct that holds the lent slice, and the position of the declaration in it.
-ghost use Rattle.std.specs.Prelude.{◌≡◌, length};
+ghost use Rattle.std.specs.Prelude.{◌≡◌};
+ghost use Rattle.parts.specs.Numbers.{kind_number};
 ghost use Rattle.parts.specs.Promise.{StartHere, start_kind, start_name};
-ghost use Rattle.text.specs.Text.{Space, Puts};
+ghost use Rattle.text.specs.Writers.{Adds};
 ghost use Rattle.listing.specs.Listing.{line_of};
 
 use crate::line::put_line;
+use parts::kinds::Kind;
 use parts::starts::{start_kind, start_name};
-use text::Mode;
+use text::Writer;
 
 // A body, and where its declaration stands in it.
 #[derive(Clone, Copy)]
@@ -23,9 +25,9 @@ pub fn new<'a>(src: &'a [u8]) -> Reader<'a>
 }
 
 // The kind of the declaration that starts at the position.
-pub fn kind<'a>(r: Reader<'a>) -> u8
+pub fn kind<'a>(r: Reader<'a>) -> Kind
     requires { StartHere r.src.now r.at }
-    ensures { result ≡ start_kind r.entry.src.now r.entry.at }
+    ensures { kind_number result ≡ start_kind r.entry.src.now r.entry.at }
 {
     start_kind(r.src, r.at)
 }
@@ -38,11 +40,11 @@ pub fn name<'a>(r: Reader<'a>) -> &'a [u8]
     start_name(r.src, r.at)
 }
 
-// The line of a body's declaration, from the start of the part of the buffer that it is lent.
-pub fn put_entry(mode: Mode, id: usize, body: &[u8], out: &mut [u8]) -> usize
-    requires { StartHere body.now 0 × Space mode out.old 0 (length (line_of id (start_kind body.now 0) (start_name body.now 0))) }
-    ensures { Puts mode out.old 0 (line_of id (start_kind body.now 0) (start_name body.now 0)) result out.new }
+// The line of a body's declaration.
+pub fn put_entry(w: &mut Writer<'_>, id: usize, body: &[u8])
+    requires { StartHere body.now 0 }
+    ensures { Adds w.old (line_of id (start_kind body.now 0) (start_name body.now 0)) w.new }
 {
     let r = new(body);
-    put_line(mode, id, kind(r), name(r), out)
+    put_line(w, id, kind(r), name(r));
 }

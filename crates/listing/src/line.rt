@@ -1,20 +1,21 @@
 // The line of an entry.
-ghost use Rattle.std.specs.Prelude.{◌≤◌, length};
-ghost use Rattle.text.specs.Text.{Space, Puts};
+ghost use Rattle.parts.specs.Numbers.{kind_number};
+ghost use Rattle.text.specs.Writers.{Adds};
 ghost use Rattle.listing.specs.Listing.{line_of};
 
 use details::words::put_kind;
-use text::{Mode, put_byte, put_number, put_text};
+use parts::kinds::Kind;
+use text::Writer;
 
-// "id, the kind's word .. and the name, parted by `;`. Each line ends with byte 10", from the start of the part of the buffer that it is lent.
-pub fn put_line(mode: Mode, id: usize, kind: u8, name: &[u8], out: &mut [u8]) -> usize
-    requires { (kind ≤ 8) × Space mode out.old 0 (length (line_of id kind name.now)) }
-    ensures { Puts mode out.old 0 (line_of id kind name.now) result out.new }
+// "id, the kind's word .. and the name, parted by `;`. Each line ends with byte 10"
+#[tactic(auto, using(text::proofs::Writers::after_after), unfolding(crate::specs::Listing::line_of, image::specs::Words::bytes))]
+pub fn put_line(w: &mut Writer<'_>, id: usize, kind: Kind, name: &[u8])
+    ensures { Adds w.old (line_of id (kind_number kind) name.now) w.new }
 {
-    let at = put_number(mode, out, 0, id as u64);
-    let at = put_byte(mode, out, at, b';');
-    let at = put_kind(mode, out, at, kind);
-    let at = put_byte(mode, out, at, b';');
-    let at = put_text(mode, out, at, name);
-    put_byte(mode, out, at, b'\n')
+    w.number(id as u64);
+    w.byte(b';');
+    put_kind(w, kind);
+    w.byte(b';');
+    w.text(name);
+    w.byte(b'\n');
 }

@@ -3,7 +3,7 @@
 use mathlib.Core.Path.{◌≡◌, refl}
 use mathlib.Core.Bool.{true, false}
 use mathlib.Core.List.{List, [], ◌∷◌, flat_map}
-use mathlib.Core.Option.{none, some}
+use Rattle.std.specs.Prelude.{None, Some}
 use Prim.Native.Nat.{ℕ}
 use lib.Dec.{ltb}
 use Rattle.maps.specs.Lists.{pass, largest, total, count}
@@ -34,11 +34,11 @@ rises : survivors number ltb (entry 10 0 ∷ entry 9 1 ∷ entry 100 2 ∷ []) �
 unfolding survivors pass insert
 rises = refl
 
-found : lookup number ltb 3 (entry 1 20 ∷ entry 3 30 ∷ []) ≡ some (entry 3 30)
+found : lookup number ltb 3 (entry 1 20 ∷ entry 3 30 ∷ []) ≡ Some (entry 3 30)
 unfolding lookup same
 found = refl
 
-not_found : lookup number ltb 2 (entry 1 20 ∷ entry 3 30 ∷ []) ≡ none
+not_found : lookup number ltb 2 (entry 1 20 ∷ entry 3 30 ∷ []) ≡ None
 unfolding lookup same
 not_found = refl
 

@@ -4,7 +4,7 @@
 use mathlib.Core.Path.{◌≡◌, refl, sym, ◌∙◌}
 use mathlib.Core.Bool.{Bool}
 use mathlib.Core.List.{List, [], ◌++◌, flat_map}
-use mathlib.Core.Option.{Option, none, some}
+use Rattle.std.specs.Prelude.{Option, None, Some}
 use Prim.Native.Nat.{ℕ, ◌≤◌, max}
 use native.Mathlib.Nat.{le_refl, le_trans}
 use native.Mathlib.Omega.{arith}
@@ -54,15 +54,15 @@ worst w ws h cs = largest_bound w (largest w ws) cs (all h cs)
 
 -- what the rules report of a key, by what the two maps have under it
 unfoldable pub report_at : {E C : Type 0} → Rules E C → Option E → Option E → List C
-report_at r none none = []
-report_at r none (some f) = r.came f
-report_at r (some e) none = r.gone e
-report_at r (some e) (some f) = r.kept e f
+report_at r None None = []
+report_at r None (Some f) = r.came f
+report_at r (Some e) None = r.gone e
+report_at r (Some e) (Some f) = r.kept e f
 
 -- an entry, if there is one, has the key k
 unfoldable pub Under : {K E : Type 0} → (E → K) → K → Option E → Type 0
-Under key k none = Unit {0}
-Under key k (some e) = key e ≡ k
+Under key k None = Unit {0}
+Under key k (Some e) = key e ≡ k
 
 -- what is reported of a key stands in one of the three parts of `compare`
 module _ {E C : Type 0} (w : C → ℕ) (r : Rules E C) where
@@ -71,17 +71,17 @@ module _ {E C : Type 0} (w : C → ℕ) (r : Rules E C) where
 
   at_parts : (x y : Option E) (b : ℕ) → largest w (report_at r x y) ≤ b → AtParts x y b
   unfolding report_at unmatched matched largest
-  at_parts none none b h = omega arith
-  at_parts none (some f) b h = omega arith
-  at_parts (some e) none b h = omega arith
-  at_parts (some e) (some f) b h = omega arith
+  at_parts None None b h = omega arith
+  at_parts None (Some f) b h = omega arith
+  at_parts (Some e) None b h = omega arith
+  at_parts (Some e) (Some f) b h = omega arith
 
   at_whole : (x y : Option E) (b : ℕ) → AtParts x y b → largest w (report_at r x y) ≤ b
   unfolding report_at unmatched matched largest
-  at_whole none none b h = omega arith
-  at_whole none (some f) b h = h.1
-  at_whole (some e) none b h = h.0
-  at_whole (some e) (some f) b h = h.2
+  at_whole None None b h = omega arith
+  at_whole None (Some f) b h = h.1
+  at_whole (Some e) None b h = h.0
+  at_whole (Some e) (Some f) b h = h.2
 
 -- The facts of single entries from which the rules t, from a first map to a third, are chained by r, to a second, and s, from it. An entry
 -- that is gone has the highest level.
@@ -96,13 +96,13 @@ module _ {K E C : Type 0} (key : E → K) (w : C → ℕ) (b : ℕ) (r s t : Rul
 
   links_at : Links → (k : K) (x y z : Option E) → Under key k x → Under key k y → Under key k z → Chained w b (report_at r x y) (report_at s y z) (report_at t x z)
   unfolding report_at Under largest
-  links_at h k none none none p q u = record { bound = omega arith }
-  links_at h k none none (some g) p q u = h.came_last g
-  links_at h k none (some f) none p q u = record { bound = omega arith }
-  links_at h k none (some f) (some g) p q u = h.came_first f g (q ∙ sym u)
-  links_at h k (some e) none z p q u = chained (λ κ i j l. le_trans (worst w (r.gone e) (h.gone_first e) (report_at t (some e) z)) j)
-  links_at h k (some e) (some f) none p q u = chained (λ κ i j l. le_trans (worst w (s.gone f) (h.gone_second f) (t.gone e)) l)
-  links_at h k (some e) (some f) (some g) p q u = h.kept_both e f g (p ∙ sym q) (q ∙ sym u)
+  links_at h k None None None p q u = record { bound = omega arith }
+  links_at h k None None (Some g) p q u = h.came_last g
+  links_at h k None (Some f) None p q u = record { bound = omega arith }
+  links_at h k None (Some f) (Some g) p q u = h.came_first f g (q ∙ sym u)
+  links_at h k (Some e) None z p q u = chained (λ κ i j l. le_trans (worst w (r.gone e) (h.gone_first e) (report_at t (Some e) z)) j)
+  links_at h k (Some e) (Some f) None p q u = chained (λ κ i j l. le_trans (worst w (s.gone f) (h.gone_second f) (t.gone e)) l)
+  links_at h k (Some e) (Some f) (Some g) p q u = h.kept_both e f g (p ∙ sym q) (q ∙ sym u)
 
 module _ {K E : Type 0} {lt : K → K → Bool} (key : E → K) (S : Strict K lt) where
   lookup_under : (k : K) (m : List E) → Under key k (lookup key lt k m)
@@ -110,24 +110,24 @@ module _ {K E : Type 0} {lt : K → K → Bool} (key : E → K) (S : Strict K lt
   lookup_under k m = go (lookup key lt k m) refl
     where
       go : (o : Option E) → lookup key lt k m ≡ o → Under key k o
-      go none p = tt
-      go (some e) p = lookup_key key S k m e p
+      go None p = tt
+      go (Some e) p = lookup_key key S k m e p
 
   module _ {C : Type 0} (w : C → ℕ) where
     -- ---- whole maps, by what they have under each key
 
     module _ (g : Option E → Option E → List C) (m n : List E) where
-      pub between_reach : ((o : Option E) → largest w (g none o) ≡ 0) → (k : K)
+      pub between_reach : ((o : Option E) → largest w (g None o) ≡ 0) → (k : K)
           → largest w (g (lookup key lt k m) (lookup key lt k n)) ≤ largest w (between key lt g m n)
       unfolding between
       between_reach h k = go (lookup key lt k m) refl
         where
           here : E → List C
-          here e = g (some e) (lookup key lt (key e) n)
+          here e = g (Some e) (lookup key lt (key e) n)
 
           go : (o : Option E) → lookup key lt k m ≡ o → largest w (g o (lookup key lt k n)) ≤ largest w (flat_map here m)
-          go none p = omega (arith, h (lookup key lt k n))
-          go (some e) p =
+          go None p = omega (arith, h (lookup key lt k n))
+          go (Some e) p =
               let q : largest w (here e) ≤ largest (λ a. largest w (here a)) m = all_lookup key lt _ k m e (largest_each (λ a. largest w (here a)) m) p in
               rw (← lookup_key key S k m e p, largest_flat_map here w m) q
 
@@ -135,8 +135,8 @@ module _ {K E : Type 0} {lt : K → K → Bool} (key : E → K) (S : Strict K lt
           → largest w (between key lt g m n) ≤ b
       unfolding between
       between_bound R b h =
-          rw (largest_flat_map (λ e. g (some e) (lookup key lt (key e) n)) w m)
-          (largest_bound (λ e. largest w (g (some e) (lookup key lt (key e) n))) b m (all_map {P = λ e. lookup key lt (key e) m ≡ some e} (λ e p. rw p at (h (key e))) m (lookup_own key S m R)))
+          rw (largest_flat_map (λ e. g (Some e) (lookup key lt (key e) n)) w m)
+          (largest_bound (λ e. largest w (g (Some e) (lookup key lt (key e) n))) b m (all_map {P = λ e. lookup key lt (key e) m ≡ Some e} (λ e p. rw p at (h (key e))) m (lookup_own key S m R)))
 
     module _ (r : Rules E C) (m n : List E) where
       abbrev Parts : ℕ → Type 0
@@ -193,9 +193,9 @@ module _ {K E : Type 0} {lt : K → K → Bool} (key : E → K) (S : Strict K lt
   -- ---- from a map to itself
 
   module _ {C : Type 0} (m : List E) (R : Rising key lt m) where
-    pub between_self : (g : Option E → Option E → List C) → between key lt g m m ≡ flat_map (λ e. g (some e) (some e)) m
+    pub between_self : (g : Option E → Option E → List C) → between key lt g m m ≡ flat_map (λ e. g (Some e) (Some e)) m
     unfolding between
-    between_self g = flat_map_same _ _ m (all_map {P = λ e. lookup key lt (key e) m ≡ some e} (λ e p. rw p) m (lookup_own key S m R))
+    between_self g = flat_map_same _ _ m (all_map {P = λ e. lookup key lt (key e) m ≡ Some e} (λ e p. rw p) m (lookup_own key S m R))
 
     module _ (r : Rules E C) where
       -- nothing is gone, nothing came

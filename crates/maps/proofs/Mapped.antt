@@ -3,7 +3,7 @@
 use mathlib.Core.Path.{◌≡◌, refl, sym, ap, ◌∙◌}
 use mathlib.Core.Bool.{Bool, true, false, cond}
 use mathlib.Core.List.{List, [], ◌∷◌, map, Forall₂}
-use mathlib.Core.Option.{some, map as map_option}
+use Rattle.std.specs.Prelude.{Some, option_map}
 use Rattle.std.proofs.lemmas.List.{map-id}
 use Rattle.maps.specs.Lists.{pass}
 use Rattle.maps.specs.Orders.{same}
@@ -40,13 +40,13 @@ module _ {K E : Type 0} (key : E → K) (lt : K → K → Bool) (g : E → E) (k
   survivors_map l =
       pass_map (insert key lt) g [] l ∙ sym (pass_view (insert key lt) (λ m e. insert key lt m (g e)) (map g) insert_map [] l)
 
-  pub lookup_map : (k : K) (m : List E) → lookup key lt k (map g m) ≡ map_option g (lookup key lt k m)
+  pub lookup_map : (k : K) (m : List E) → lookup key lt k (map g m) ≡ option_map g (lookup key lt k m)
   unfolding lookup
   lookup_map k [] = refl
   lookup_map k (e ∷ m) = rw (keeps e) (go (same lt k (key e)) (lookup_map k m))
     where
-      go : (u : Bool) → lookup key lt k (map g m) ≡ map_option g (lookup key lt k m)
-          → cond u (some (g e)) (lookup key lt k (map g m)) ≡ map_option g (cond u (some e) (lookup key lt k m))
+      go : (u : Bool) → lookup key lt k (map g m) ≡ option_map g (lookup key lt k m)
+          → cond u (Some (g e)) (lookup key lt k (map g m)) ≡ option_map g (cond u (Some e) (lookup key lt k m))
       go true ih = refl
       go false ih = ih
 

@@ -4,8 +4,7 @@
 use mathlib.Core.Path.{◌≡◌, refl, ap, ◌∙◌}
 use mathlib.Core.Bool.{Bool, true, false, cond}
 use mathlib.Core.List.{List, [], ◌∷◌, map}
-use mathlib.Core.Option
-use mathlib.Core.Option.{Option, some}
+use Rattle.std.specs.Prelude.{option_map, Option, Some}
 use Rattle.maps.specs.Lists.{pass, All}
 use Rattle.maps.specs.Orders.{same}
 use Rattle.maps.specs.Keyed.{insert, survivors, lookup}
@@ -37,32 +36,32 @@ module _ {K E P : Type 0} (key : E → K) (lt : K → K → Bool) (f : P → E) 
   unfolding survivors All
   survivors_map ps h = inserts_map [] ps tt h
 
-  pub lookup_map : (k : K) (m : List P) → Placed m → lookup key lt k (map f m) ≡ Option.map f (lookup at lt k m)
+  pub lookup_map : (k : K) (m : List P) → Placed m → lookup key lt k (map f m) ≡ option_map f (lookup at lt k m)
   unfolding lookup All
   lookup_map k [] h = refl
   lookup_map k (p ∷ m) h = rw h.0 (go (same lt k (at p)) (lookup_map k m h.1))
     where
-      go : (u : Bool) → lookup key lt k (map f m) ≡ Option.map f (lookup at lt k m)
-          → cond u (some (f p)) (lookup key lt k (map f m)) ≡ Option.map f (cond u (some p) (lookup at lt k m))
+      go : (u : Bool) → lookup key lt k (map f m) ≡ option_map f (lookup at lt k m)
+          → cond u (Some (f p)) (lookup key lt k (map f m)) ≡ option_map f (cond u (Some p) (lookup at lt k m))
       go true ih = refl
       go false ih = ih
 
-  following_map : (b : Option K) (m : List P) → Placed m → following key lt b (map f m) ≡ Option.map f (following at lt b m)
+  following_map : (b : Option K) (m : List P) → Placed m → following key lt b (map f m) ≡ option_map f (following at lt b m)
   unfolding following All
   following_map b [] h = refl
   following_map b (p ∷ m) h = rw h.0 (go (past lt b (at p)) (following_map b m h.1))
     where
-      go : (u : Bool) → following key lt b (map f m) ≡ Option.map f (following at lt b m)
-          → cond u (some (f p)) (following key lt b (map f m)) ≡ Option.map f (cond u (some p) (following at lt b m))
+      go : (u : Bool) → following key lt b (map f m) ≡ option_map f (following at lt b m)
+          → cond u (Some (f p)) (following key lt b (map f m)) ≡ option_map f (cond u (Some p) (following at lt b m))
       go true ih = refl
       go false ih = ih
 
   -- the place that stands has the entry that stands
-  pub lookup_placed : (k : K) (ps : List P) → Placed ps → lookup key lt k (survivors key lt (map f ps)) ≡ Option.map f (lookup at lt k (survivors at lt ps))
+  pub lookup_placed : (k : K) (ps : List P) → Placed ps → lookup key lt k (survivors key lt (map f ps)) ≡ option_map f (lookup at lt k (survivors at lt ps))
   lookup_placed k ps h =
       ap (lookup key lt k) (survivors_map ps h) ∙ lookup_map k (survivors at lt ps) (all_survivors at lt (λ p. key (f p) ≡ at p) ps h)
 
   pub following_placed : (b : Option K) (ps : List P) → Placed ps
-      → following key lt b (survivors key lt (map f ps)) ≡ Option.map f (following at lt b (survivors at lt ps))
+      → following key lt b (survivors key lt (map f ps)) ≡ option_map f (following at lt b (survivors at lt ps))
   following_placed b ps h =
       ap (following key lt b) (survivors_map ps h) ∙ following_map b (survivors at lt ps) (all_survivors at lt (λ p. key (f p) ≡ at p) ps h)

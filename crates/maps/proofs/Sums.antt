@@ -4,7 +4,7 @@
 use mathlib.Core.Path.{◌≡◌, refl, sym}
 use mathlib.Core.Bool.{Bool, true, false, cond}
 use mathlib.Core.List.{List, [], ◌∷◌, ◌++◌}
-use mathlib.Core.Option.{Option, none, some}
+use Rattle.std.specs.Prelude.{Option, None, Some}
 use Prim.Native.Nat.{ℕ, ◌+◌, ◌≤◌}
 use native.Mathlib.Omega.{arith}
 use Rattle.maps.specs.Lists.{pass, total, count}
@@ -38,8 +38,8 @@ module _ {K E : Type 0} (key : E → K) (lt : K → K → Bool) (w : E → ℕ) 
 
 -- c of an entry, if there is one
 unfoldable if_any : {E : Type 0} → (E → ℕ) → Option E → ℕ
-if_any c none = 0
-if_any c (some e) = c e
+if_any c None = 0
+if_any c (Some e) = c e
 
 module _ {K E : Type 0} {lt : K → K → Bool} (key : E → K) (S : Strict K lt) where
   -- the sum of c over the entries of m that n has entries for, with those
@@ -47,19 +47,19 @@ module _ {K E : Type 0} {lt : K → K → Bool} (key : E → K) (S : Strict K lt
   met c m n = total (λ e. if_any (c e) (lookup key lt (key e) n)) m
 
   -- one entry more in the second map
-  met_more : (c : E → E → ℕ) (f : E) (m : List E) → lookup key lt (key f) m ≡ none → (n : List E) → Rising key lt n
+  met_more : (c : E → E → ℕ) (f : E) (m : List E) → lookup key lt (key f) m ≡ None → (n : List E) → Rising key lt n
       → met c n (f ∷ m) ≡ if_any (λ e. c e f) (lookup key lt (key f) n) + met c n m
   unfolding met total lookup if_any Rising
   met_more c f m h [] R = refl
   met_more c f m h (e ∷ n) R = go (same lt (key e) (key f)) refl (met_more c f m h n R.1)
     where
       go : (u : Bool) → same lt (key e) (key f) ≡ u → met c n (f ∷ m) ≡ if_any (λ e. c e f) (lookup key lt (key f) n) + met c n m
-          → if_any (c e) (cond (same lt (key e) (key f)) (some f) (lookup key lt (key e) m)) + met c n (f ∷ m)
-          ≡ if_any (λ e. c e f) (cond (same lt (key f) (key e)) (some e) (lookup key lt (key f) n)) + (if_any (c e) (lookup key lt (key e) m) + met c n m)
+          → if_any (c e) (cond (same lt (key e) (key f)) (Some f) (lookup key lt (key e) m)) + met c n (f ∷ m)
+          ≡ if_any (λ e. c e f) (cond (same lt (key f) (key e)) (Some e) (lookup key lt (key f) n)) + (if_any (c e) (lookup key lt (key e) m) + met c n m)
       go true p ih =
           let q : key e ≡ key f = same_eq S (key e) (key f) p in
-          let i : lookup key lt (key e) m ≡ none = rw q h in
-          let j : lookup key lt (key f) n ≡ none = rw q at (lookup_after key S (key e) n R.0) in
+          let i : lookup key lt (key e) m ≡ None = rw q h in
+          let j : lookup key lt (key f) n ≡ None = rw q at (lookup_after key S (key e) n R.0) in
           let ih' : met c n (f ∷ m) ≡ 0 + met c n m = rw j at ih in
           rw (p, eq_same S (key f) (key e) (sym q), i) (omega (arith, ih'))
       go false p ih = rw (p, ne_same S (key f) (key e) (λ q. same_ne S (key e) (key f) p (sym q))) (omega (arith, ih))
@@ -77,11 +77,11 @@ module _ {K E : Type 0} {lt : K → K → Bool} (key : E → K) (S : Strict K lt
   module _ {C : Type 0} (w : C → ℕ) where
     -- the weight of what `between` gives, entry by entry
     abbrev sum_of : (Option E → Option E → List C) → List E → List E → ℕ
-    sum_of g m n = total (λ e. total w (g (some e) (lookup key lt (key e) n))) m
+    sum_of g m n = total (λ e. total w (g (Some e) (lookup key lt (key e) n))) m
 
     total_between : (g : Option E → Option E → List C) (m n : List E) → total w (between key lt g m n) ≡ sum_of g m n
     unfolding between
-    total_between g m n = total_flat_map (λ e. g (some e) (lookup key lt (key e) n)) w m
+    total_between g m n = total_flat_map (λ e. g (Some e) (lookup key lt (key e) n)) w m
 
     total_compare : (r : Rules E C) (m n : List E) → total w (compare key lt r m n)
         ≡ sum_of (unmatched r.gone) m n + (sum_of (unmatched r.came) n m + sum_of (matched r.kept) m n)
@@ -98,7 +98,7 @@ module _ {K E : Type 0} {lt : K → K → Bool} (key : E → K) (S : Strict K lt
 
     sum_matched : (k : E → E → List C) (m n : List E) → sum_of (matched k) m n ≡ met (λ e f. total w (k e f)) m n
     unfolding met if_any matched total
-    sum_matched k m n = total_same _ _ m (all (λ e. lookup_cases key S e n (λ o. total w (matched k (some e) o) ≡ if_any (λ f. total w (k e f)) o) refl (λ f p. refl)) m)
+    sum_matched k m n = total_same _ _ m (all (λ e. lookup_cases key S e n (λ o. total w (matched k (Some e) o) ≡ if_any (λ f. total w (k e f)) o) refl (λ f p. refl)) m)
 
     -- ---- weights: linear in those of the two maps
 
@@ -115,22 +115,22 @@ module _ {K E : Type 0} {lt : K → K → Bool} (key : E → K) (S : Strict K lt
           omega (
             arith,
             total_compare r m n,
-            total_sum (λ e. total w (unmatched r.gone (some e) (lookup key lt (key e) n))) (λ e. total w (matched r.kept (some e) (lookup key lt (key e) n))) m,
+            total_sum (λ e. total w (unmatched r.gone (Some e) (lookup key lt (key e) n))) (λ e. total w (matched r.kept (Some e) (lookup key lt (key e) n))) m,
             total_less _ (λ e. a e + if_any b (lookup key lt (key e) n)) m (all old m),
             both,
-            total_sum (λ f. total w (unmatched r.came (some f) (lookup key lt (key f) m))) (λ f. if_any (λ e. b f) (lookup key lt (key f) m)) n,
+            total_sum (λ f. total w (unmatched r.came (Some f) (lookup key lt (key f) m))) (λ f. if_any (λ e. b f) (lookup key lt (key f) m)) n,
             total_less _ b n (all new n),
           )
         where
           old : (e : E)
-              → total w (unmatched r.gone (some e) (lookup key lt (key e) n)) + total w (matched r.kept (some e) (lookup key lt (key e) n)) ≤ a e + if_any b (lookup key lt (key e) n)
+              → total w (unmatched r.gone (Some e) (lookup key lt (key e) n)) + total w (matched r.kept (Some e) (lookup key lt (key e) n)) ≤ a e + if_any b (lookup key lt (key e) n)
           old e =
-              lookup_cases key S e n (λ o. total w (unmatched r.gone (some e) o) + total w (matched r.kept (some e) o) ≤ a e + if_any b o)
+              lookup_cases key S e n (λ o. total w (unmatched r.gone (Some e) o) + total w (matched r.kept (Some e) o) ≤ a e + if_any b o)
               (omega (arith, p e)) (λ f h. omega (arith, k e f h))
 
-          new : (f : E) → total w (unmatched r.came (some f) (lookup key lt (key f) m)) + if_any (λ e. b f) (lookup key lt (key f) m) ≤ b f
+          new : (f : E) → total w (unmatched r.came (Some f) (lookup key lt (key f) m)) + if_any (λ e. b f) (lookup key lt (key f) m) ≤ b f
           new f =
-              lookup_cases key S f m (λ o. total w (unmatched r.came (some f) o) + if_any (λ e. b f) o ≤ b f)
+              lookup_cases key S f m (λ o. total w (unmatched r.came (Some f) o) + if_any (λ e. b f) o ≤ b f)
               (omega (arith, q f)) (λ e h. omega arith)
 
   -- ---- the opposite comparison
@@ -139,7 +139,7 @@ module _ {K E : Type 0} {lt : K → K → Bool} (key : E → K) (S : Strict K lt
     sum_unmatched : (c d : E → List C) → ((e : E) → total v (c e) ≡ total w (d e)) → (m n : List E) → sum_of v (unmatched c) m n ≡ sum_of w (unmatched d) m n
     unfolding unmatched total
     sum_unmatched c d h m n =
-        total_same _ _ m (all (λ e. lookup_cases key S e n (λ o. total v (unmatched c (some e) o) ≡ total w (unmatched d (some e) o)) (h e) (λ f p. refl)) m)
+        total_same _ _ m (all (λ e. lookup_cases key S e n (λ o. total v (unmatched c (Some e) o) ≡ total w (unmatched d (Some e) o)) (h e) (λ f p. refl)) m)
 
     -- what r weighs by v from old to new, s weighs by w from new to old
     pub swap_total : (r s : Rules E C) → ((e : E) → total v (r.gone e) ≡ total w (s.came e)) → ((e : E) → total v (r.came e) ≡ total w (s.gone e))

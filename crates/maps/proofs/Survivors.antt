@@ -3,7 +3,8 @@
 use mathlib.Core.Path.{◌≡◌, refl, sym, ap, ◌∙◌, subst}
 use mathlib.Core.Bool.{Bool, true, false, cond}
 use mathlib.Core.List.{List, [], ◌∷◌}
-use mathlib.Core.Option.{Option, none, some, some-injective, none-ne-some}
+use Rattle.std.specs.Prelude.{Option, None, Some}
+use Rattle.std.proofs.lemmas.Option.{same_Some, none-some}
 use Rattle.maps.specs.Lists.{All}
 use Rattle.maps.specs.Orders.{Strict, same}
 use Rattle.maps.specs.Keyed.{insert, survivors, lookup}
@@ -42,13 +43,13 @@ module _ {K E : Type 0} (key : E → K) (lt : K → K → Bool) (P : E → Type 
   all_survivors l h = pass_keeps (insert key lt) (All P) P all_insert [] l tt h
 
   -- what is found was there
-  pub all_lookup : (k : K) (m : List E) (e : E) → All P m → lookup key lt k m ≡ some e → P e
+  pub all_lookup : (k : K) (m : List E) (e : E) → All P m → lookup key lt k m ≡ Some e → P e
   unfolding lookup All
-  all_lookup k [] e h p = absurd (none-ne-some e p)
+  all_lookup k [] e h p = absurd (none-some e p)
   all_lookup k (f ∷ m) e h p = go (same lt k (key f)) p (all_lookup k m e h.1)
     where
-      go : (u : Bool) → cond u (some f) (lookup key lt k m) ≡ some e → (lookup key lt k m ≡ some e → P e) → P e
-      go true q ih = subst P (some-injective f e q) h.0
+      go : (u : Bool) → cond u (Some f) (lookup key lt k m) ≡ Some e → (lookup key lt k m ≡ Some e → P e) → P e
+      go true q ih = subst P (same_Some f e q) h.0
       go false q ih = ih q
 
 -- every key of m is after k
@@ -82,56 +83,56 @@ module _ {K E : Type 0} {lt : K → K → Bool} (key : E → K) (S : Strict K lt
   lookup_insert k (f ∷ m) e =
       insert_cases key lt f m e (λ l. lookup key lt k l ≡ seen key lt k (lookup key lt k (f ∷ m)) e)
       (λ u. refl)
-      (λ u v. ap (cond (same lt k (key f)) (some f)) (lookup_insert k m e) ∙ other v (same lt k (key e)) (same lt k (key f)) refl refl)
+      (λ u v. ap (cond (same lt k (key f)) (Some f)) (lookup_insert k m e) ∙ other v (same lt k (key e)) (same lt k (key f)) refl refl)
       (λ u v. equal (same lt k (key e)) (same lt k (key f)) (ap (same lt k) (S.total (key e) (key f) u v)))
     where
       -- k is the key of one of them at most
       other : lt (key f) (key e) ≡ true → (s t : Bool) → same lt k (key e) ≡ s → same lt k (key f) ≡ t
-          → cond t (some f) (cond s (some e) (lookup key lt k m)) ≡ cond s (some e) (cond t (some f) (lookup key lt k m))
+          → cond t (Some f) (cond s (Some e) (lookup key lt k m)) ≡ cond s (Some e) (cond t (Some f) (lookup key lt k m))
       other v true true p q = no_both q (after_other S k (key f) (rw (same_eq S k (key e) p) v))
       other v true false p q = refl
       other v false t p q = refl
 
-      equal : (s t : Bool) → s ≡ t → cond s (some e) (lookup key lt k m) ≡ cond s (some e) (cond t (some f) (lookup key lt k m))
+      equal : (s t : Bool) → s ≡ t → cond s (Some e) (lookup key lt k m) ≡ cond s (Some e) (cond t (Some f) (lookup key lt k m))
       equal true t p = refl
       equal false t p = rw (← p)
 
   -- the search in what stands finds what a pass from the front keeps
-  pub lookup_last_seen : (k : K) (l : List E) → lookup key lt k (survivors key lt l) ≡ last_seen key lt k none l
+  pub lookup_last_seen : (k : K) (l : List E) → lookup key lt k (survivors key lt l) ≡ last_seen key lt k None l
   unfolding survivors lookup last_seen
   lookup_last_seen k l = pass_view (insert key lt) (seen key lt k) (lookup key lt k) (lookup_insert k) [] l
 
   -- ---- entries under their keys
 
-  pub lookup_key : (k : K) (m : List E) (e : E) → lookup key lt k m ≡ some e → key e ≡ k
+  pub lookup_key : (k : K) (m : List E) (e : E) → lookup key lt k m ≡ Some e → key e ≡ k
   unfolding lookup
-  lookup_key k [] e p = absurd (none-ne-some e p)
+  lookup_key k [] e p = absurd (none-some e p)
   lookup_key k (f ∷ m) e p = go (same lt k (key f)) refl p (lookup_key k m e)
     where
-      go : (u : Bool) → same lt k (key f) ≡ u → cond u (some f) (lookup key lt k m) ≡ some e → (lookup key lt k m ≡ some e → key e ≡ k) → key e ≡ k
-      go true q r ih = ap key (sym (some-injective f e r)) ∙ sym (same_eq S k (key f) q)
+      go : (u : Bool) → same lt k (key f) ≡ u → cond u (Some f) (lookup key lt k m) ≡ Some e → (lookup key lt k m ≡ Some e → key e ≡ k) → key e ≡ k
+      go true q r ih = ap key (sym (same_Some f e r)) ∙ sym (same_eq S k (key f) q)
       go false q r ih = ih r
 
   -- a key before all those of a map is under none of them
-  pub lookup_after : (k : K) (m : List E) → After key lt k m → lookup key lt k m ≡ none
+  pub lookup_after : (k : K) (m : List E) → After key lt k m → lookup key lt k m ≡ None
   unfolding lookup All
   lookup_after k [] h = refl
   lookup_after k (f ∷ m) h = rw (before_other S k (key f) h.0) (lookup_after k m h.1)
 
   -- in a rising map each entry is found under its key
-  pub lookup_own : (m : List E) → Rising key lt m → All (λ e. lookup key lt (key e) m ≡ some e) m
+  pub lookup_own : (m : List E) → Rising key lt m → All (λ e. lookup key lt (key e) m ≡ Some e) m
   unfolding lookup Rising All
   lookup_own [] R = tt
   lookup_own (f ∷ m) R = (rw (same_self S (key f)), go m R.0 (lookup_own m R.1))
     where
-      go : (l : List E) → After key lt (key f) l → All (λ e. lookup key lt (key e) m ≡ some e) l → All (λ e. lookup key lt (key e) (f ∷ m) ≡ some e) l
+      go : (l : List E) → After key lt (key f) l → All (λ e. lookup key lt (key e) m ≡ Some e) l → All (λ e. lookup key lt (key e) (f ∷ m) ≡ Some e) l
       go [] h q = tt
       go (e ∷ l) h q = (rw (after_other S (key e) (key f) h.0) q.0, go l h.1 q.1)
 
   -- by what a map has under the key of an entry
-  pub lookup_cases : (e : E) (m : List E) (P : Option E → Type 0) → P none → ((f : E) → key e ≡ key f → P (some f)) → P (lookup key lt (key e) m)
+  pub lookup_cases : (e : E) (m : List E) (P : Option E → Type 0) → P None → ((f : E) → key e ≡ key f → P (Some f)) → P (lookup key lt (key e) m)
   lookup_cases e m P z h = go (lookup key lt (key e) m) refl
     where
       go : (o : Option E) → lookup key lt (key e) m ≡ o → P o
-      go none p = z
-      go (some f) p = h f (sym (lookup_key (key e) m f p))
+      go None p = z
+      go (Some f) p = h f (sym (lookup_key (key e) m f p))

@@ -1,7 +1,6 @@
 -- Lists of entries with keys. A map is such a list with each key once, in the order of the keys.
 -- Assumes nothing.
-use Rattle.std.specs.Prelude.{Bool, cond, List, [], ◌∷◌}
-use Rattle.std.proofs.Math.Option.{Option, none, some}
+use Rattle.std.specs.Prelude.{Bool, cond, List, [], ◌∷◌, Option, None, Some}
 use Rattle.maps.specs.Lists.{pass}
 use Rattle.maps.specs.Orders.{same}
 
@@ -18,5 +17,5 @@ module _ {K E : Type 0} (key : E → K) (lt : K → K → Bool) where
 
   -- the entry that a map has under a key
   unfoldable pub lookup : K → List E → Option E
-  lookup k [] = none
-  lookup k (e ∷ m) = cond (same lt k (key e)) (some e) (lookup k m)
+  lookup k [] = None
+  lookup k (e ∷ m) = cond (same lt k (key e)) (Some e) (lookup k m)

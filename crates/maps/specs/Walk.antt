@@ -1,22 +1,17 @@
 -- For the walk: code that meets the entries of a map by rising key, and finds each by a search in the list that the map is made of. What is
 -- reported does not rest on these definitions: contracts of searches cite them, and laws tie them to `survivors`, `lookup` and `between`.
 -- Assumes nothing.
-use Rattle.std.specs.Prelude.{◌≡◌, Bool, true, false, cond, not, ◌&&◌, ◌||◌, List, [], ◌∷◌}
-use Rattle.std.proofs.Math.Option.{Option, none, some, or_else}
+use Rattle.std.specs.Prelude.{◌≡◌, Bool, true, false, cond, not, ◌&&◌, ◌||◌, List, [], ◌∷◌, Option, None, Some}
+use Rattle.std.specs.Option.{is_some, option_or}
 use Rattle.maps.specs.Lists.{pass, every, All}
 use Rattle.maps.specs.Orders.{same}
 use Rattle.maps.specs.Keyed.{lookup}
 use Rattle.maps.specs.Compare.{between}
 
--- whether there is something
-unfoldable pub is_some : {A : Type 0} → Option A → Bool
-is_some none = false
-is_some (some a) = true
-
 -- whether k is past a bound: none is before all keys, some a is just after a
 unfoldable pub past : {K : Type 0} → (K → K → Bool) → Option K → K → Bool
-past lt none k = true
-past lt (some a) k = lt a k
+past lt None k = true
+past lt (Some a) k = lt a k
 
 module _ {K E : Type 0} (key : E → K) (lt : K → K → Bool) where
   -- each key is before all that follow it
@@ -31,8 +26,8 @@ module _ {K E : Type 0} (key : E → K) (lt : K → K → Bool) where
 
   -- the first entry of a map past a bound
   unfoldable pub following : Option K → List E → Option E
-  following b [] = none
-  following b (e ∷ m) = cond (past lt b (key e)) (some e) (following b m)
+  following b [] = None
+  following b (e ∷ m) = cond (past lt b (key e)) (Some e) (following b m)
 
   -- what a walk has yet to give past a bound
   unfoldable pub rest : {C : Type 0} → (Option E → Option E → List C) → List E → List E → Option K → List C
@@ -40,12 +35,12 @@ module _ {K E : Type 0} (key : E → K) (lt : K → K → Bool) where
 
   -- whether e takes the place of the best entry so far, if any: that one is not before it, and it is past a bound
   unfoldable pub nearer : Option K → Option E → E → Bool
-  nearer b none e = past lt b (key e)
-  nearer b (some f) e = not (lt (key f) (key e)) && past lt b (key e)
+  nearer b None e = past lt b (key e)
+  nearer b (Some f) e = not (lt (key f) (key e)) && past lt b (key e)
 
   -- the best entry after one more: of one key the later
   unfoldable pub better : Option K → Option E → E → Option E
-  better b best e = cond (nearer b best e) (some e) best
+  better b best e = cond (nearer b best e) (Some e) best
 
   -- the best entry of a list past a bound, in one pass from the front that starts with the best so far
   unfoldable pub least : Option K → Option E → List E → Option E
@@ -62,7 +57,7 @@ module _ {K E : Type 0} (key : E → K) (lt : K → K → Bool) where
 
   -- what was found last under k, after one entry more
   unfoldable pub seen : K → Option E → E → Option E
-  seen k o e = cond (same lt k (key e)) (some e) o
+  seen k o e = cond (same lt k (key e)) (Some e) o
 
   -- the same after the entries of a list, in one pass from the front
   unfoldable pub last_seen : K → Option E → List E → Option E
@@ -70,5 +65,5 @@ module _ {K E : Type 0} (key : E → K) (lt : K → K → Bool) where
 
   -- what a search from the end finds first
   unfoldable pub latest : K → List E → Option E
-  latest k [] = none
-  latest k (e ∷ l) = or_else (latest k l) (seen k none e)
+  latest k [] = None
+  latest k (e ∷ l) = option_or (latest k l) (seen k None e)

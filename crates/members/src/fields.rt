@@ -3,13 +3,14 @@ ghost use Rattle.std.specs.Prelude.{◌≡◌, ◌&&◌, ◌+◌, ◌<◌, eqb, 
 ghost use Rattle.image.specs.Fields.{encoding_at};
 ghost use Rattle.image.specs.WellFormed.{Good};
 ghost use Rattle.parts.specs.declared.Shape.{Shape};
-ghost use Rattle.parts.specs.Promise.{ItemHere, item_end, field_in, encoding_in, limit_place, type_place, coding_of, limit_of};
+ghost use Rattle.parts.specs.Promise.{ItemHere, item_end, field_in, encoding_in, limit_place, type_place, coding_of};
 
+use parts::Encoding;
 use parts::names::name_end;
 use parts::types::type_end;
-use parts::{Encoding, Limit};
 
 // Whether a field is marked as deprecated.
+#[tactic(auto, using(parts::proofs::Laws::Items::field_parts_lem, parts::proofs::Laws::Fields::marks_there), unfolding(image::specs::Fields::marks_of, parts::specs::Promise::marks_place))]
 pub fn field_deprecated(image: &[u8], at: usize) -> bool
     requires { ItemHere Shape.Field image.now at }
     ensures { result ≡ (field_in image.now at).marks.deprecated }
@@ -19,6 +20,7 @@ pub fn field_deprecated(image: &[u8], at: usize) -> bool
 }
 
 // The deltas of an encoding: so many bytes 3 before its base.
+#[tactic(auto, using(parts::proofs::Laws::Fields::counting))]
 fn deltas(image: &[u8], at: usize) -> usize
     requires { Good (encoding_at image.now at) }
     ensures { result ≡ (encoding_in image.now at).deltas }
@@ -31,6 +33,7 @@ fn deltas(image: &[u8], at: usize) -> usize
 }
 
 // A field's encoding.
+#[tactic(auto, using(parts::proofs::Laws::Fields::encodings))]
 pub fn field_encoding(image: &[u8], at: usize) -> Encoding
     requires { ItemHere Shape.Field image.now at }
     ensures { coding_of result ≡ (field_in image.now at).encoding }
@@ -44,6 +47,7 @@ pub fn field_encoding(image: &[u8], at: usize) -> Encoding
 }
 
 // Where a field's limit stands.
+#[tactic(auto, using(parts::proofs::Laws::Fields::encodings))]
 fn limit_place(image: &[u8], at: usize) -> usize
     requires { ItemHere Shape.Field image.now at }
     ensures { result ≡ limit_place image.now at }
@@ -53,15 +57,16 @@ fn limit_place(image: &[u8], at: usize) -> usize
 }
 
 // A field's limit, if it has one.
-pub fn field_limit(image: &[u8], at: usize) -> Limit
+#[tactic(auto, using(parts::proofs::Laws::Fields::limits))]
+pub fn field_limit(image: &[u8], at: usize) -> Option<u64>
     requires { ItemHere Shape.Field image.now at }
-    ensures { limit_of result ≡ (field_in image.now at).limit }
+    ensures { result ≡ (field_in image.now at).limit }
 {
     let place = limit_place(image, at);
     if image[place] == 0 {
-        return Limit::Unlimited;
+        return None;
     }
-    Limit::Most(image::numbers::number(image, place + 1, 8))
+    Some(image::numbers::number::<8>(image, place + 1))
 }
 
 // Whether an encoding at a place is the default, and no limit follows.
@@ -69,13 +74,11 @@ fn is_plain(image: &[u8], at: usize) -> bool
     requires { at + 1 < length image.now }
     ensures { result ≡ (eqb (get_or image.now at 0) 0 && eqb (get_or image.now (at + 1) 0) 0) }
 {
-    if image[at] != 0 {
-        return false;
-    }
-    image[at + 1] == 0
+    image[at] == 0 && image[at + 1] == 0
 }
 
 // Where a field's type stands. Most fields are plain: their type is found by the length of the name alone.
+#[tactic(auto, using(parts::proofs::Laws::Fields::types))]
 pub fn field_type(image: &[u8], at: usize) -> usize
     requires { ItemHere Shape.Field image.now at }
     ensures { result ≡ type_place image.now at }
@@ -92,6 +95,7 @@ pub fn field_type(image: &[u8], at: usize) -> usize
 }
 
 // The end of a field.
+#[tactic(auto, using(parts::proofs::Laws::Items::field_parts_lem))]
 pub(crate) fn field_end(image: &[u8], at: usize) -> usize
     requires { ItemHere Shape.Field image.now at }
     ensures { result ≡ item_end Shape.Field image.now at }

@@ -10,6 +10,7 @@ use parts::names::{name_at, name_end};
 use parts::{Run, Shape};
 
 // The ordinal of an item; of flags it is the bit.
+#[tactic(auto, using(parts::proofs::Laws::Items::bares))]
 pub fn ordinal_at(image: &[u8], at: usize) -> u32
     requires { ItemHere Shape.Bare image.now at }
     ensures { result ≡ ordinal_in image.now at }
@@ -18,6 +19,7 @@ pub fn ordinal_at(image: &[u8], at: usize) -> u32
 }
 
 // The bytes of the name of an item.
+#[tactic(auto, using(parts::proofs::Laws::Items::bares))]
 pub fn item_name(image: &[u8], at: usize) -> &[u8]
     requires { ItemHere Shape.Bare image.now at }
     ensures { result.now ≡ item_name image.now at }
@@ -26,6 +28,7 @@ pub fn item_name(image: &[u8], at: usize) -> &[u8]
 }
 
 // A count at a place, and the items after it.
+#[tactic(auto, unfolding(parts::specs::Promise::items_at))]
 fn items_at(image: &[u8], at: usize) -> Run
     requires { at + 2 ≤ length image.now }
     ensures { result ≡ items_at image.now at }
@@ -37,6 +40,7 @@ fn items_at(image: &[u8], at: usize) -> Run
 }
 
 // The items of a message, an enum, flags or a union.
+#[tactic(auto, using(parts::proofs::Laws::Counted::counts))]
 pub fn decl_items(image: &[u8], at: usize) -> Run
     requires { DeclHere image.now at × ((decl_in image.now at).kind ≤ number union_kind) }
     ensures { result ≡ items_in image.now at }
@@ -49,6 +53,7 @@ pub fn decl_items(image: &[u8], at: usize) -> Run
 }
 
 // The fields of a union's variant.
+#[tactic(auto, using(parts::proofs::Laws::Items::variants), unfolding(parts::specs::Promise::variant_items))]
 pub fn variant_items(image: &[u8], at: usize) -> Run
     requires { ItemHere Shape.Variant image.now at }
     ensures { result ≡ variant_items image.now at }
@@ -57,20 +62,20 @@ pub fn variant_items(image: &[u8], at: usize) -> Run
 }
 
 // The end of so many fields.
+#[tactic(auto, using(parts::proofs::Laws::Items::runs))]
 fn fields_end(image: &[u8], at: usize, count: usize) -> usize
     requires { ItemsHere Shape.Field image.now count at }
     ensures { result ≡ items_end Shape.Field image.now count at }
 {
     let mut next = at;
-    let mut left = count;
-    while 0 < left {
+    for _ in 0..count {
         next = field_end(image, next);
-        left -= 1;
     }
     next
 }
 
 // The end of a union's variant.
+#[tactic(auto, using(parts::proofs::Laws::Items::variants))]
 fn variant_end(image: &[u8], at: usize) -> usize
     requires { ItemHere Shape.Variant image.now at }
     ensures { result ≡ item_end Shape.Variant image.now at }
@@ -80,6 +85,7 @@ fn variant_end(image: &[u8], at: usize) -> usize
 }
 
 // The end of a bare item.
+#[tactic(auto, using(parts::proofs::Laws::Items::bares))]
 fn bare_end(image: &[u8], at: usize) -> usize
     requires { ItemHere Shape.Bare image.now at }
     ensures { result ≡ item_end Shape.Bare image.now at }

@@ -1,8 +1,8 @@
 -- What the crates above may rest on: everything of an accepted image is well formed at its place, and is this part of its schema.
 -- From `read_image` to `Accepted`; from `entry` to a declaration; from a declaration to its items or its inner type; from an item to its
 -- name, its type, its fields; from a type to its inner types. Assumes nothing.
-use mathlib.Core.Path.{◌≡◌, refl, sym, ap, ◌∙◌}
-use mathlib.Core.Option.{none, some}
+use mathlib.Core.Path.{◌≡◌, refl, sym, ◌∙◌}
+use Rattle.std.specs.Prelude.{Option, None, Some, Ok, Err}
 use mathlib.Core.List.{List, [], ◌∷◌}
 use Prim.Native.Nat.{ℕ, ◌-◌, ◌≤◌, ◌<◌}
 use native.Mathlib.Omega.{arith}
@@ -11,12 +11,12 @@ use Rattle.image.specs.Schema.{Schema}
 use Rattle.image.specs.Parse.{Parsed, ok, no}
 use Rattle.image.specs.Image.{read_image}
 use Rattle.image.specs.WellFormed.{Good, value_or}
-use Rattle.reader.specs.Answer.{Answers}
-use Rattle.reader.specs.declared.Acceptance.{Acceptance}
+use Rattle.image.specs.Numbers.{refusal_number}
+use Rattle.image.specs.declared.refusals.Refusal.{Refusal}
+use Rattle.reader.specs.Answer.{Acceptance, Answers}
 use Rattle.reader.proofs.Laws.Answers.{accepted_good, rejected_no}
-use Rattle.parts.specs.Promise.{Accepted, schema_of, name_end, name_places, item_end, places_from, DeclHere, decl_in, entry_decl, EntryHere, Resolved}
+use Rattle.parts.specs.Promise.{Accepted, schema_of, name_end, name_places, item_end, places_from, DeclHere, decl_in, Resolved}
 use Rattle.parts.specs.declared.Shape.{Shape}
-use Rattle.parts.specs.declared.Entry.{Entry}
 use Rattle.parts.proofs.Laws.Places.{places_none as by_none, places_more as by_more}
 use Rattle.parts.proofs.Laws.Decls.{decl_head}
 -- the image: its length, how many entries and ids it has, and its namespace by the names at their places
@@ -39,7 +39,7 @@ pub use Rattle.parts.proofs.Laws.Ends.{end_leaf, end_one, end_two}
 pub use Rattle.parts.proofs.Laws.Labels.{label_regular, bits_listed}
 
 -- what `read_image` accepted
-pub accepted : (s : List ℕ) {r : Acceptance} → Answers (read_image s) r → r ≡ Acceptance.Accepted → Accepted s
+pub accepted : (s : List ℕ) {r : Acceptance} → Answers (read_image s) r → r ≡ Ok tt → Accepted s
 unfolding Accepted
 accepted s a e = accepted_good (read_image s) e a
 
@@ -57,22 +57,19 @@ module _ (s : List ℕ) where
   unfolding Accepted schema_of Good value_or
   read_accepted e = (rw e tt, rw e)
 
-  pub rejected_read : {r : Acceptance} {k : ℕ} → Answers (read_image s) r → r ≡ Acceptance.Rejected k → read_image s ≡ no k
+  pub rejected_read : {r : Acceptance} {k : Refusal} → Answers (read_image s) r → r ≡ Err k → read_image s ≡ no (refusal_number k)
   rejected_read a e = rejected_no (read_image s) e a
 
 -- the two answers of `entry`
-module _ (s : List ℕ) (id : ℕ) {r : Entry} (h : Resolved s id r) where
-  pub resolved_here : {at : ℕ} → r ≡ Entry.Body at → DeclHere s at
-  unfolding EntryHere
+module _ (s : List ℕ) (id : ℕ) {r : Option ℕ} (h : Resolved s id r) where
+  pub resolved_here : {at : ℕ} → r ≡ Some at → DeclHere s at
   resolved_here e = rw e at h.here
 
-  pub resolved_body : {at : ℕ} → r ≡ Entry.Body at → get_or (schema_of s).registry id none ≡ some (decl_in s at)
-  unfolding entry_decl
-  resolved_body e = sym h.value ∙ ap (entry_decl s) e
+  pub resolved_body : {at : ℕ} → r ≡ Some at → get_or (schema_of s).registry id None ≡ Some (decl_in s at)
+  resolved_body e = rw e at (sym h.value)
 
-  pub resolved_none : r ≡ Entry.Unresolvable → get_or (schema_of s).registry id none ≡ none
-  unfolding entry_decl
-  resolved_none e = sym h.value ∙ ap (entry_decl s) e
+  pub resolved_none : r ≡ None → get_or (schema_of s).registry id None ≡ None
+  resolved_none e = rw e at (sym h.value)
 
 -- a declaration's kind
 pub decl_most : (s : List ℕ) (at : ℕ) → DeclHere s at → (decl_in s at).kind ≤ 8

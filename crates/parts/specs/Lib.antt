@@ -1,4 +1,6 @@
--- Promise: what stands at a place of an accepted image, and that it is well formed. Kinds, Codes: the names of numbers.
+-- Promise: what stands at a place of an accepted image, and that it is well formed. Kinds, Codes: the names of numbers. Numbers: those of the
+-- code's enums.
 pub mod Promise
 pub mod Kinds
 pub mod Codes
+pub mod Numbers

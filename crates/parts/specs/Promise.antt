@@ -1,8 +1,8 @@
 -- What the crates above may say of an accepted image. Places are positions in the image. `XHere s at` says that an X is well formed at a
 -- place, `x_in s at` is its value, `x_end s at` the place after it, `x_place` the place of a part of it; of a place where none stands a
 -- value is a default and says nothing. proofs/Promise.antt ties all of them to `schema_of`. Assumes nothing.
-use Rattle.std.specs.Prelude.{◌≡◌, Bool, cond, ◌&&◌, ◌||◌, List, [], ◌∷◌, map, ℕ, zero, suc, ◌+◌, ◌-◌, ◌≤◌, ◌<◌, eqb, leb, length, get_or, take, drop}
-use Rattle.std.proofs.Math.Option.{Option, none, some}
+use Rattle.std.specs.Prelude.{◌≡◌, Bool, cond, ◌&&◌, ◌||◌, List, [], ◌∷◌, map, ℕ, zero, suc, ◌+◌, ◌-◌, ◌≤◌, ◌<◌, eqb, leb, length, get_or, take, drop, Option, None, Some, IfSome}
+use Rattle.std.specs.Option.{option_map}
 use Rattle.image.specs.Codes.{number, body_refusal, enum_kind, flags_kind, impl_kind, primitive_tag, sub_byte_tag, semantic_tag, named_tag, fixed_array_tag, bits_tag}
 use Rattle.image.specs.Kinds.{kind_of}
 use Rattle.image.specs.Schema.{Name, unmarked, Label, label, Ty, no_type, Field, Variant, Decl, decl, Schema, no_schema}
@@ -15,16 +15,10 @@ use Rattle.image.specs.Fields.{plain, encoding_at, limit_at, field_at, bare_at, 
 use Rattle.image.specs.Bodies.{decl_at, body_of}
 use Rattle.image.specs.Image.{format, segment_count, segments_at, read_image}
 use Rattle.image.specs.WellFormed.{Good, value_or, end_of}
-use Rattle.parts.specs.declared.Entry.{Entry}
-use Rattle.parts.specs.declared.Entry.TheVariants.{Body, Unresolvable}
 use Rattle.parts.specs.declared.Shape.{Shape}
 use Rattle.parts.specs.declared.Shape.TheVariants as shape
 use Rattle.parts.specs.declared.Run.{Run}
 use Rattle.parts.specs.declared.Encoding.{Encoding}
-use Rattle.parts.specs.declared.Limit.{Limit}
-use Rattle.parts.specs.declared.Limit.TheVariants.{Most, Unlimited}
-use Rattle.parts.specs.declared.Width.{Width}
-use Rattle.parts.specs.declared.Width.TheVariants.{Wire, Absent}
 
 -- the image is accepted, and holds this schema
 unfoldable pub Accepted : List ℕ → Type 0
@@ -38,13 +32,13 @@ abbrev pub no_label : Label
 no_label = label (number primitive_tag) 0 0 []
 
 abbrev pub no_field : Field
-no_field = record { ordinal = 0; name = []; marks = unmarked; encoding = plain 0; limit = none; type = no_type }
+no_field = record { ordinal = 0; name = []; marks = unmarked; encoding = plain 0; limit = None; type = no_type }
 
 abbrev pub no_variant : Variant
 no_variant = record { ordinal = 0; name = []; fields = [] }
 
 abbrev pub no_decl : Decl
-no_decl = decl (number impl_kind) [] unmarked none [] [] no_type
+no_decl = decl (number impl_kind) [] unmarked None [] [] no_type
 
 -- Names.
 unfoldable pub NameHere : List ℕ → ℕ → Type 0
@@ -186,17 +180,9 @@ limit_place s at = end_of (encoding_at s (encoding_place s at))
 unfoldable pub type_place : List ℕ → ℕ → ℕ
 type_place s at = end_of (limit_at s (limit_place s at))
 
--- the values of the code's answers
-unfoldable pub coding_of : Encoding → Coding
+-- the value of the code's answer
+abbrev pub coding_of : Encoding → Coding
 coding_of e = record { deltas = e.deltas; base = e.base }
-
-unfoldable pub limit_of : Limit → Option ℕ
-limit_of (Most n) = some n
-limit_of Unlimited = none
-
-unfoldable pub width_of : Width → Option ℕ
-width_of (Wire w) = some w
-width_of Absent = none
 
 -- Declarations, in the image's format.
 unfoldable pub body_at : List ℕ → ℕ → Parsed Decl
@@ -208,9 +194,12 @@ DeclHere s at = Good (body_at s at)
 unfoldable pub decl_in : List ℕ → ℕ → Decl
 decl_in s at = value_or no_decl (body_at s at)
 
--- the marks of messages and enums are a byte after the name
+-- messages and enums have marks, a byte after the name
+unfoldable pub marked : ℕ → Bool
+marked kind = leb kind (number enum_kind)
+
 unfoldable pub marks_size : ℕ → ℕ
-marks_size kind = cond (leb kind (number enum_kind)) 1 0
+marks_size kind = cond (marked kind) 1 0
 
 -- and the width of enums and flags, in a format that stores it, is a byte after that
 unfoldable pub width_place : List ℕ → ℕ → ℕ
@@ -234,16 +223,15 @@ unfoldable pub inner_place : List ℕ → ℕ → ℕ
 inner_place s at = name_end s (at + 1)
 
 -- The entry of an id: "An id that is N or more, or whose entry is empty, is unresolvable".
-unfoldable pub entry_decl : List ℕ → Entry → Option Decl
-entry_decl s (Body at) = some (decl_in s at)
-entry_decl s Unresolvable = none
+-- Its place, if it has one, stands for the declaration there.
+abbrev pub entry_decl : List ℕ → Option ℕ → Option Decl
+entry_decl s = option_map (decl_in s)
 
-unfoldable pub EntryHere : List ℕ → Entry → Type 0
-EntryHere s (Body at) = DeclHere s at
-EntryHere s Unresolvable = Unit {0}
+abbrev pub EntryHere : List ℕ → Option ℕ → Type 0
+EntryHere s at = IfSome at (DeclHere s)
 
-pub record Resolved (s : List ℕ) (id : ℕ) (r : Entry) : Type 0 where
-  pub value : entry_decl s r ≡ get_or (schema_of s).registry id none
+pub record Resolved (s : List ℕ) (id : ℕ) (r : Option ℕ) : Type 0 where
+  pub value : entry_decl s r ≡ get_or (schema_of s).registry id None
   pub here : EntryHere s r
 
 -- What starts a declaration in any format: its kind, and its name unless it is an impl. Of bytes that need not be a whole image.
@@ -270,14 +258,14 @@ body_in s from count = body_of (format s) (bytes_in s from count)
 pub record BodyIn (s : List ℕ) (id from count : ℕ) : Type 0 where
   pub inside : from + count ≤ length s
   pub whole : Good (body_in s from count)
-  pub is : get_or (schema_of s).registry id none ≡ some (value_or no_decl (body_in s from count))
+  pub is : get_or (schema_of s).registry id None ≡ Some (value_or no_decl (body_in s from count))
   pub here : StartHere (bytes_in s from count) 0
   pub kind : start_kind (bytes_in s from count) 0 ≡ (value_or no_decl (body_in s from count)).kind
   pub name : start_name (bytes_in s from count) 0 ≡ (value_or no_decl (body_in s from count)).name
 
 -- where the body of the entry of an id lies; no bytes, if the entry is empty
 pub record BodyOf (s : List ℕ) (id : ℕ) (r : Run) : Type 0 where
-  pub empty : r.count ≡ 0 → get_or (schema_of s).registry id none ≡ none
+  pub empty : r.count ≡ 0 → get_or (schema_of s).registry id None ≡ None
   pub body : (r.count ≡ 0 → ⊥) → BodyIn s id r.start r.count
 
 -- the namespace's segments

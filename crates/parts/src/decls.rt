@@ -3,24 +3,25 @@ ghost use Rattle.std.specs.Prelude.{◌≡◌, ◌<◌};
 ghost use Rattle.image.specs.Codes.{number, newtype_kind, impl_kind};
 ghost use Rattle.image.specs.Fields.{marks_of};
 ghost use Rattle.image.specs.Image.{format};
-ghost use Rattle.parts.specs.Promise.{DeclHere, decl_in, measured, stores_width, width_of, width_place, inner_place};
+ghost use Rattle.image.specs.Numbers.{kind_number};
+ghost use Rattle.parts.specs.Promise.{DeclHere, decl_in, marked, measured, stores_width, width_place, inner_place};
 
-use crate::Width;
 use crate::names::name_end;
 use crate::starts::{start_kind, start_name};
-use image::formats::has_widths;
-use image::kinds::{ENUM, FLAGS};
+use image::formats::Format;
+use image::kinds::Kind;
 use image::numbers::u16_at;
 
-// The kind, one of `image::kinds`.
-pub fn decl_kind(image: &[u8], at: usize) -> u8
+#[tactic(auto, using(crate::proofs::Laws::Decls::heads))]
+pub fn decl_kind(image: &[u8], at: usize) -> Kind
     requires { DeclHere image.now at }
-    ensures { result ≡ (decl_in image.now at).kind }
+    ensures { kind_number result ≡ (decl_in image.now at).kind }
 {
     start_kind(image, at)
 }
 
 // The bytes of the name; an impl's is empty.
+#[tactic(auto, using(crate::proofs::Laws::Decls::heads))]
 pub fn decl_name(image: &[u8], at: usize) -> &[u8]
     requires { DeclHere image.now at }
     ensures { result.now ≡ (decl_in image.now at).name }
@@ -28,19 +29,28 @@ pub fn decl_name(image: &[u8], at: usize) -> &[u8]
     start_name(image, at)
 }
 
-// The marks of a declaration as one number. Only messages and enums have them; those of others are none.
+// Whether declarations of a kind have marks.
+#[tactic(auto, unfolding(crate::specs::Promise::marked))]
+fn is_marked(kind: Kind) -> bool
+    ensures { result ≡ marked (kind_number kind) }
+{
+    matches!(kind, Kind::Message | Kind::Enum)
+}
+
+// The marks of a declaration as one number; of a kind without them there are none.
+#[tactic(auto, using(crate::proofs::Laws::Decls::marks))]
 fn marks(image: &[u8], at: usize) -> u8
     requires { DeclHere image.now at }
     ensures { marks_of result ≡ (decl_in image.now at).marks }
 {
-    if ENUM < image[at] {
+    if !is_marked(decl_kind(image, at)) {
         return 0;
     }
-    let place = name_end(image, at + 1);
-    image[place]
+    image[name_end(image, at + 1)]
 }
 
 // Whether a declaration is marked as deprecated.
+#[tactic(auto, unfolding(image::specs::Fields::marks_of))]
 pub fn deprecated(image: &[u8], at: usize) -> bool
     requires { DeclHere image.now at }
     ensures { result ≡ (decl_in image.now at).marks.deprecated }
@@ -49,6 +59,7 @@ pub fn deprecated(image: &[u8], at: usize) -> bool
 }
 
 // Whether a declaration is marked as non-exhaustive.
+#[tactic(auto, unfolding(image::specs::Fields::marks_of))]
 pub fn non_exhaustive(image: &[u8], at: usize) -> bool
     requires { DeclHere image.now at }
     ensures { result ≡ (decl_in image.now at).marks.non_exhaustive }
@@ -56,53 +67,54 @@ pub fn non_exhaustive(image: &[u8], at: usize) -> bool
     marks(image, at) / 2 == 1
 }
 
-// Whether a kind has a width, in a format that stores it.
-fn is_measured(kind: u8) -> bool
-    ensures { result ≡ measured kind }
+// Whether declarations of a kind have a width, in a format that stores it.
+#[tactic(auto, unfolding(crate::specs::Promise::measured))]
+fn is_measured(kind: Kind) -> bool
+    ensures { result ≡ measured (kind_number kind) }
 {
-    if kind == ENUM {
-        return true;
-    }
-    kind == FLAGS
+    matches!(kind, Kind::Enum | Kind::Flags)
 }
 
 // Whether the width of a declaration is stored.
+#[tactic(auto, using(crate::proofs::Laws::Decls::widths), unfolding(image::specs::Formats::has_widths, image::specs::Image::format, image::specs::Image::u16_at))]
 pub fn stores_width(image: &[u8], at: usize) -> bool
     requires { DeclHere image.now at }
     ensures { result ≡ stores_width (format image.now) (decl_in image.now at).kind }
 {
-    if !is_measured(image[at]) {
+    if !is_measured(decl_kind(image, at)) {
         return false;
     }
-    // Not `reader::contents::format`, which asks for a whole head: where a declaration stands there need not be one.
-    has_widths(u16_at(image, 0))
+    // The formats from this one on store it. A number and no `Format`, since a declaration may stand in bytes that are of none.
+    u16_at(image, 0) >= Format::Two as usize
 }
 
 // The place after the name and the marks, where the width stands if it is stored.
+#[tactic(auto, using(crate::proofs::Laws::Decls::width_places))]
 pub fn width_place(image: &[u8], at: usize) -> usize
     requires { DeclHere image.now at × ((decl_in image.now at).kind < number impl_kind) }
     ensures { result ≡ width_place image.now at }
 {
     let end = name_end(image, at + 1);
-    if image[at] <= ENUM {
+    if is_marked(decl_kind(image, at)) {
         return end + 1;
     }
     end
 }
 
-// The width of a declaration.
-pub fn width(image: &[u8], at: usize) -> Width
+// The width of a declaration: of an enum in wire bits, of flags in wire bytes. Nothing else has one, nor do they in a format without widths.
+#[tactic(auto, using(crate::proofs::Laws::Decls::widths))]
+pub fn width(image: &[u8], at: usize) -> Option<u8>
     requires { DeclHere image.now at }
-    ensures { width_of result ≡ (decl_in image.now at).width }
+    ensures { result ≡ (decl_in image.now at).width }
 {
     if !stores_width(image, at) {
-        return Width::Absent;
+        return None;
     }
-    let place = width_place(image, at);
-    Width::Wire(image[place])
+    Some(image[width_place(image, at)])
 }
 
 // Where a newtype's type stands.
+#[tactic(auto, using(crate::proofs::Laws::Decls::heads), unfolding(crate::specs::Promise::inner_place))]
 pub fn inner_type(image: &[u8], at: usize) -> usize
     requires { DeclHere image.now at × ((decl_in image.now at).kind ≡ number newtype_kind) }
     ensures { result ≡ inner_place image.now at }

@@ -9,15 +9,8 @@ pub mod names;
 pub mod starts;
 pub mod types;
 
-// The names of the kinds and tags that the accessors answer, and of refusals and sides.
-pub use image::{kinds, refusals, sides, tags};
-
-// What an id stands for: a declaration whose body starts at a place, or nothing.
-#[derive(Clone, Copy)]
-pub enum Entry {
-    Body(usize),
-    Unresolvable,
-}
+// The kinds, tags and formats that the accessors answer, and refusals and sides.
+pub use image::{formats, kinds, refusals, sides, tags};
 
 // The shape of an item: a field; a variant of an enum or a bit of flags; a variant of a union. Each starts with its ordinal and its name.
 #[derive(Clone, Copy)]
@@ -39,18 +32,4 @@ pub struct Run {
 pub struct Encoding {
     pub deltas: usize,
     pub base: u8,
-}
-
-// The width of an enum in wire bits or of flags in wire bytes; nothing else has one, nor do they in a format without widths.
-#[derive(Clone, Copy)]
-pub enum Width {
-    Wire(u8),
-    Absent,
-}
-
-// The most that a field may have, if it has a limit.
-#[derive(Clone, Copy)]
-pub enum Limit {
-    Most(u64),
-    Unlimited,
 }

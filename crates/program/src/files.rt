@@ -5,17 +5,12 @@ use std::fs;
 use std::io::Read;
 use std::rt::Files;
 
-// One byte more than an image may have: a longer file is refused by 1, and its other bytes are not read.
-const ROOM: usize = 32769;
-
-// Room for an image, and for one byte more, by which a longer file is told.
-pub fn blank() -> [u8; ROOM] {
-    [0; ROOM]
-}
+// Room for an image, and for one byte more, by which a longer file is told: it is refused by 1, and its other bytes are not read.
+pub const ROOM: usize = 32769;
 
 // The start of a file, and how many bytes it has; none if the file can't be opened or read. A path is text: one that is not UTF-8 can't be
 // opened.
-pub fn read_start(files: &impl Files, path: &[u8], image: &mut [u8]) -> usize
+fn read_start(files: &impl Files, path: &[u8], image: &mut [u8]) -> usize
     ensures { (result ≤ length image.new) × (result ≡ length (take result image.new)) }
 {
     let Ok(path) = str::from_utf8(path) else {
@@ -27,17 +22,25 @@ pub fn read_start(files: &impl Files, path: &[u8], image: &mut [u8]) -> usize
     }
 }
 
-fn read_opened(file: impl Read + Drop, image: &mut [u8]) -> usize
+// The start of a file, in a buffer for an image.
+pub fn read<'a>(files: &impl Files, path: &[u8], image: &'a mut [u8]) -> &'a [u8] {
+    let n = read_start(files, path, image);
+    &image[..n]
+}
+
+fn read_opened(mut file: impl Read + Drop, image: &mut [u8]) -> usize
     ensures { (result ≤ length image.new) × (result ≡ length (take result image.new)) }
 {
-    let mut file = file;
-    let mut filled = 0;
-    while filled < image.len() {
-        match file.read(&mut image[filled..]) {
-            Ok(0) => return filled,
-            Ok(n) => filled += n,
+    let mut rest = &mut *image;
+    // Each read but the last gives a byte or more.
+    for _ in 0..rest.len() {
+        match file.read(rest) {
+            Ok(0) => break,
+            Ok(n) => rest = &mut rest[n..],
             Err(_) => return 0,
         }
     }
-    filled
+    let left = rest.len();
+    // Never less than 0: the rest is a part of the image, which the loop doesn't say.
+    image.len().saturating_sub(left)
 }

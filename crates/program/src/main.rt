@@ -3,82 +3,77 @@
 #![tactic(auto)]
 
 mod arguments;
-mod contents;
 mod files;
 mod printing;
 
-use std::rt::{Env, Files};
+use arguments::argument;
+use compat::policies::Policy;
+use files::read;
+use listing::{checked, write_listing};
+use std::rt::Files;
 
-// The report of two images, in a buffer of 65,536 bytes; a longer one is refused by the library.
+// The bytes of a buffer for a text, since nothing is allocated; a longer text is refused by the library.
+const ROOM: usize = 65536;
+
+// The report of two images.
 fn compare(rt: &(impl Print + Eprint), old: &[u8], new: &[u8]) {
-    let mut out = [0u8; 65536];
-    let verdict = compat::report(compat::policies::Policy::Plain, old, new, &mut out);
-    if verdict.number != 0 {
-        printing::print_refusal(rt, verdict.number as u64, verdict.side as u64);
-        return;
-    }
-    printing::print_text(rt, &out, verdict.length);
+    let mut out = [0; ROOM];
+    let verdict = compat::report(Policy::Plain, old, new, &mut out);
+    printing::print_answer(rt, verdict, &out);
+}
+
+// The contents listing of one image.
+fn list(rt: &(impl Print + Eprint), image: &[u8]) {
+    let mut out = [0; ROOM];
+    let verdict = checked(image, out.len());
+    write_listing(image, &mut out);
+    printing::print_answer(rt, verdict, &out);
 }
 
 fn compare_files<R: Print + Eprint + Files>(rt: &R, old_path: &[u8], new_path: &[u8]) {
-    let mut old = files::blank();
-    let m = files::read_start(rt, old_path, &mut old);
-    let mut new = files::blank();
-    let n = files::read_start(rt, new_path, &mut new);
-    compare(rt, &old[..m], &new[..n]);
+    let mut old = [0; files::ROOM];
+    let mut new = [0; files::ROOM];
+    compare(
+        rt,
+        read(rt, old_path, &mut old),
+        read(rt, new_path, &mut new),
+    );
 }
 
 fn list_file<R: Print + Eprint + Files>(rt: &R, path: &[u8]) {
-    let mut image = files::blank();
-    let n = files::read_start(rt, path, &mut image);
-    contents::list(rt, &image[..n]);
-}
-
-// Two arguments: the paths of the images, or the option and the path of one.
-fn answer<R: Print + Eprint + Files>(rt: &R, first: &[u8], second: &[u8]) {
-    if arguments::is_option(second) {
-        printing::print_usage(rt);
-        return;
-    }
-    if arguments::is_list(first) {
-        list_file(rt, second);
-        return;
-    }
-    if arguments::is_option(first) {
-        printing::print_usage(rt);
-        return;
-    }
-    compare_files(rt, first, second);
+    let mut image = [0; files::ROOM];
+    list(rt, read(rt, path, &mut image));
 }
 
 // One argument, which asks about the program.
-fn answer_argument<R: Print + Eprint + Env>(rt: &R) {
-    let mut word = arguments::blank();
-    let n = arguments::fill(rt, 1, &mut word);
-    if arguments::is_help(&word[..n]) {
-        printing::print_help(rt);
-        return;
+fn answer_argument(rt: &(impl Print + Eprint), word: &[u8]) {
+    match word {
+        b"--help" => printing::print_help(rt),
+        b"--version" => printing::print_version(rt),
+        _ => printing::print_usage(rt),
     }
-    if arguments::is_version(&word[..n]) {
-        printing::print_version(rt);
-        return;
-    }
-    printing::print_usage(rt);
 }
 
-fn answer_arguments<R: Print + Eprint + Files + Env>(rt: &R) {
-    let mut first = arguments::blank();
-    let m = arguments::fill(rt, 1, &mut first);
-    let mut second = arguments::blank();
-    let n = arguments::fill(rt, 2, &mut second);
-    answer(rt, &first[..m], &second[..n]);
+// Two arguments: the paths of the images, or the option and the path of one. What starts with `-` is an option and no path; a file of such
+// a name can be given as `./-name`.
+fn answer_arguments<R: Print + Eprint + Files>(rt: &R, first: &[u8], second: &[u8]) {
+    match (first, second) {
+        (_, [b'-', ..]) => printing::print_usage(rt),
+        (b"--list", path) => list_file(rt, path),
+        ([b'-', ..], _) => printing::print_usage(rt),
+        (old_path, new_path) => compare_files(rt, old_path, new_path),
+    }
 }
 
 fn main(rt: HostRuntime) {
-    match arguments::count(&rt) {
-        0 => compare_files(&rt, b"old.img", b"new.img"),
-        1 => answer_argument(&rt),
-        2 => answer_arguments(&rt),
-        _ => printing::print_usage(&rt),
+    let mut first = [0; arguments::ROOM];
+    let mut second = [0; arguments::ROOM];
+    let first = argument(&rt, 1, &mut first);
+    let second = argument(&rt, 2, &mut second);
+    match (first, second, argument(&rt, 3, &mut [0; 1])) {
+        (None, _, _) => compare_files(&rt, b"old.img", b"new.img"),
+        (Some(word), None, _) => answer_argument(&rt, word),
+        (Some(first), Some(second), None) => answer_arguments(&rt, first, second),
+        (Some(_), Some(_), Some(_)) => printing::print_usage(&rt),
     }
 }

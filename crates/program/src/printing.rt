@@ -1,5 +1,6 @@
 // What the program prints: the report, the listing or the refusal on standard output, all else on standard error.
 use std::io::{self, Write};
+use verdicts::Verdict;
 
 // How the program is called, and that its status is no answer.
 const USAGE: &str =
@@ -12,28 +13,22 @@ fn warn_unless(rt: &impl Eprint, written: io::Result<()>) {
     }
 }
 
-// The first n bytes of a buffer. What is printed always fits its buffer; the test saves the proof of that.
-fn first(buffer: &[u8], n: usize) -> &[u8] {
-    if buffer.len() < n {
-        return buffer;
-    }
-    &buffer[..n]
-}
-
-// A report or a listing: so many bytes at the start of a buffer.
-pub fn print_text(rt: &(impl Print + Eprint), buffer: &[u8], length: usize) {
-    let written = io::writer(rt).write_all(first(buffer, length));
-    warn_unless(rt, written);
-}
-
-// As `refused 9 old`.
-pub fn print_refusal(rt: &(impl Print + Eprint), number: u64, side: u64) {
-    let word = match side {
+// The side of a refusal, which `Verdict` has as a number.
+fn side_word(side: u8) -> &'static str {
+    match side {
         1 => "old",
         2 => "new",
         _ => "both",
+    }
+}
+
+// The text at the start of a buffer, or the refusal, as `refused 9 old`.
+pub fn print_answer(rt: &(impl Print + Eprint), verdict: Verdict, buffer: &[u8]) {
+    let written = match verdict.number {
+        // The text always fits its buffer; the other case saves the proof of that.
+        0 => io::writer(rt).write_all(buffer.get(..verdict.length).unwrap_or(buffer)),
+        number => println!(rt; "refused {number} {}", side_word(verdict.side)),
     };
-    let written = println!(rt; "refused {number} {word}");
     warn_unless(rt, written);
 }
 
@@ -42,12 +37,10 @@ pub fn print_usage(rt: &impl Eprint) {
 }
 
 pub fn print_help(rt: &(impl Print + Eprint)) {
-    let written = print!(rt; "{USAGE}");
-    warn_unless(rt, written);
+    warn_unless(rt, print!(rt; "{USAGE}"));
 }
 
 // The version is that of the header for C.
 pub fn print_version(rt: &(impl Print + Eprint)) {
-    let written = println!(rt; "vexil_compat 2.0");
-    warn_unless(rt, written);
+    warn_unless(rt, println!(rt; "vexil_compat 2.0"));
 }

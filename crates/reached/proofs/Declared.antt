@@ -1,21 +1,25 @@
 -- Declarations marked: one by its kind, the entry of an id, the survivors by rising name. Assumes nothing.
 use mathlib.Core.Path.{◌≡◌, refl, sym, ap, ◌∙◌}
-use mathlib.Core.Bool.{Bool, true}
+use mathlib.Core.Bool.{Bool, true, false≢true}
 use mathlib.Core.List.{List, [], flat_map, append-nil}
-use mathlib.Core.Option.{some}
-use Prim.Native.Nat.{ℕ, zero, suc, ◌<◌}
+use Prim.Native.Nat.{ℕ, ◌<◌}
 use borrow.Author.Tests.{eqb-true}
 use lib.Dec.{eqb}
+use Rattle.std.specs.Prelude.{Option, None, Some}
+use Rattle.std.specs.Option.{option_eq}
+use Rattle.maps.specs.Keyed.{lookup}
+use Rattle.maps.specs.Orders.{before}
 use Rattle.maps.specs.Compare.{between}
 use Rattle.image.specs.Schema.{Name, Decl}
-use Rattle.parts.specs.Codes.{number, message_kind, union_kind, newtype_kind}
+use Rattle.image.specs.declared.kinds.Kind.{Kind}
+use Rattle.image.specs.declared.kinds.Kind.TheVariants as kind
+use Rattle.parts.specs.Numbers.{kind_number}
 use Rattle.parts.specs.Kinds.{kind_of}
 use Rattle.parts.specs.Promise.{schema_of, TypeHere, tree_in, DeclHere, decl_in, items_in, inner_place, ItemsHere, EntryHere, Resolved}
-use Rattle.parts.specs.declared.Entry.{Entry}
 use Rattle.parts.specs.declared.Run.{Run}
 use Rattle.parts.specs.declared.Shape.{Shape}
-use Rattle.parts.proofs.Promise.{message_listed, union_listed, inner_here, inner_tree, resolved_body, resolved_none}
-use Rattle.rules.specs.Survivors.{stands_for, declarations, view_of}
+use Rattle.parts.proofs.Promise.{message_listed, union_listed, inner_here, inner_tree, resolved_here, resolved_body, resolved_none}
+use Rattle.rules.specs.Survivors.{stands_for, name_of, declarations, view_of}
 use Rattle.rules.specs.Clauses.{types_of}
 use Rattle.rules.specs.Reached.{named_in, named_of, named_by, named_from, IdSet}
 use Rattle.rules.specs.Imports.{standing_with}
@@ -27,75 +31,75 @@ use Rattle.survivors.proofs.Declarations.{survives_body, follows_here}
 use Rattle.survivors.proofs.Walks.{rest_decls, decls_left, decls_start, decls_done, decls_turn, decls_less}
 use Rattle.reached.specs.Marks.{Started, Marked, StandsAt}
 use Rattle.reached.specs.Named.{named_items}
-use Rattle.reached.proofs.Marking.{marked_none, marked_as, Owing, owing_start, owing_turn, owing_done}
+use Rattle.reached.proofs.Marking.{marked_none, marked_as, Owing, owing_start, owing_ready, owing_turn, owing_done}
 use Rattle.reached.proofs.Walks.{fields_named, variants_named, each, listed_here, listed_marked}
 
 -- ---- a declaration by its kind
 
-no_types : (k : ℕ) (d : Decl) → (k ≡ number message_kind → ⊥) → (k ≡ number union_kind → ⊥) → (k ≡ number newtype_kind → ⊥)
-    → types_of (kind_of k) d ≡ []
+no_types : (k : Kind) (d : Decl) → (k ≡ kind.Message → ⊥) → (k ≡ kind.Union → ⊥) → (k ≡ kind.Newtype → ⊥) → types_of (kind_of (kind_number k)) d ≡ []
 unfolding types_of kind_of
-no_types zero d a b c = absurd (a refl)
-no_types (suc zero) d a b c = refl
-no_types (suc (suc zero)) d a b c = refl
-no_types (suc (suc (suc zero))) d a b c = absurd (b refl)
-no_types (suc (suc (suc (suc zero)))) d a b c = absurd (c refl)
-no_types (suc (suc (suc (suc (suc zero))))) d a b c = refl
-no_types (suc (suc (suc (suc (suc (suc zero)))))) d a b c = refl
-no_types (suc (suc (suc (suc (suc (suc (suc zero))))))) d a b c = refl
-no_types (suc (suc (suc (suc (suc (suc (suc (suc zero)))))))) d a b c = refl
-no_types (suc (suc (suc (suc (suc (suc (suc (suc (suc k))))))))) d a b c = refl
+no_types kind.Message d a b c = absurd (a refl)
+no_types kind.Enum d a b c = refl
+no_types kind.Flags d a b c = refl
+no_types kind.Union d a b c = absurd (b refl)
+no_types kind.Newtype d a b c = absurd (c refl)
+no_types kind.Config d a b c = refl
+no_types kind.Alias d a b c = refl
+no_types kind.Trait d a b c = refl
+no_types kind.Impl d a b c = refl
 
 -- k is the kind
-module _ (s : List ℕ) (at : ℕ) (g : DeclHere s at) {k : ℕ} (e : k ≡ (decl_in s at).kind) where
+module _ (s : List ℕ) (at : ℕ) (g : DeclHere s at) (k : Kind) (e : kind_number k ≡ (decl_in s at).kind) where
   -- a kind that is known
-  named_kind : {c : ℕ} → k ≡ c → flat_map named_in (types_of (kind_of c) (decl_in s at)) ≡ named_of (decl_in s at)
-  unfolding named_of
-  named_kind z = ap (λ c. flat_map named_in (types_of (kind_of c) (decl_in s at))) (sym z ∙ e)
+  kind_is : {c : Kind} → k ≡ c → (decl_in s at).kind ≡ kind_number c
+  kind_is z = sym e ∙ ap kind_number z
 
-  module _ (z : k ≡ number message_kind) {r : Run} (f : r ≡ items_in s at) where
+  named_kind : {c : Kind} → k ≡ c → flat_map named_in (types_of (kind_of (kind_number c)) (decl_in s at)) ≡ named_of (decl_in s at)
+  unfolding named_of
+  named_kind z = ap (λ c. flat_map named_in (types_of (kind_of c) (decl_in s at))) (sym (kind_is z))
+
+  module _ (z : k ≡ kind.Message) {r : Run} (f : r ≡ items_in s at) where
     pub message_fields : ItemsHere Shape.Field s r.count r.start
-    message_fields = listed_here Shape.Field s (message_listed s at g (sym e ∙ z)) f
+    message_fields = listed_here Shape.Field s (message_listed s at g (kind_is z)) f
 
     pub message_marked : {m n : IdSet} → Marked s m (named_items Shape.Field s r) n → Marked s m (named_of (decl_in s at)) n
     unfolding types_of kind_of
     message_marked d =
-        marked_as (listed_marked Shape.Field s (message_listed s at g (sym e ∙ z)) f d) (sym (fields_named (decl_in s at).fields) ∙ named_kind z)
+        marked_as (listed_marked Shape.Field s (message_listed s at g (kind_is z)) f d) (sym (fields_named (decl_in s at).fields) ∙ named_kind z)
 
-  module _ (z : k ≡ number union_kind) {r : Run} (f : r ≡ items_in s at) where
+  module _ (z : k ≡ kind.Union) {r : Run} (f : r ≡ items_in s at) where
     pub union_variants : ItemsHere Shape.Variant s r.count r.start
-    union_variants = listed_here Shape.Variant s (union_listed s at g (sym e ∙ z)) f
+    union_variants = listed_here Shape.Variant s (union_listed s at g (kind_is z)) f
 
     pub union_marked : {m n : IdSet} → Marked s m (named_items Shape.Variant s r) n → Marked s m (named_of (decl_in s at)) n
     unfolding types_of kind_of
     union_marked d =
-        marked_as (listed_marked Shape.Variant s (union_listed s at g (sym e ∙ z)) f d) (sym (variants_named (decl_in s at).variants) ∙ named_kind z)
+        marked_as (listed_marked Shape.Variant s (union_listed s at g (kind_is z)) f d) (sym (variants_named (decl_in s at).variants) ∙ named_kind z)
 
-  module _ (z : k ≡ number newtype_kind) {p : ℕ} (f : p ≡ inner_place s at) where
+  module _ (z : k ≡ kind.Newtype) {p : ℕ} (f : p ≡ inner_place s at) where
     pub newtype_inner : TypeHere 32 s p
-    newtype_inner = rw f (inner_here s at g (sym e ∙ z))
+    newtype_inner = rw f (inner_here s at g (kind_is z))
 
     pub newtype_marked : {m n : IdSet} → Marked s m (named_in (tree_in s p)) n → Marked s m (named_of (decl_in s at)) n
     unfolding types_of kind_of flat_map
     newtype_marked d =
         marked_as d (
         ap (λ i. named_in (tree_in s i)) f
-        ∙ (ap named_in (sym (inner_tree s at g (sym e ∙ z))) ∙ (sym (append-nil (named_in (decl_in s at).inner)) ∙ named_kind z))
+        ∙ (ap named_in (sym (inner_tree s at g (kind_is z))) ∙ (sym (append-nil (named_in (decl_in s at).inner)) ∙ named_kind z))
         )
 
-  pub other_marked : (k ≡ number message_kind → ⊥) → (k ≡ number union_kind → ⊥) → (k ≡ number newtype_kind → ⊥) → {m : IdSet}
-      → Marked s m (named_of (decl_in s at)) m
+  pub other_marked : (k ≡ kind.Message → ⊥) → (k ≡ kind.Union → ⊥) → (k ≡ kind.Newtype → ⊥) → {m : IdSet} → Marked s m (named_of (decl_in s at)) m
   unfolding flat_map
   other_marked a b c = marked_as marked_none (ap (flat_map named_in) (sym (no_types k (decl_in s at) a b c)) ∙ named_kind refl)
 
 -- ---- the entry of an id
 
-module _ (s : List ℕ) (id : ℕ) {r : Entry} (h : Resolved s id r) where
-  pub entry_none : r ≡ Entry.Unresolvable → {m : IdSet} → Marked s m (named_by (stands_for (schema_of s).registry id)) m
+module _ (s : List ℕ) (id : ℕ) {r : Option ℕ} (h : Resolved s id r) where
+  pub entry_none : r ≡ None → {m : IdSet} → Marked s m (named_by (stands_for (schema_of s).registry id)) m
   unfolding named_by stands_for
   entry_none e = marked_as marked_none (sym (ap named_by (resolved_none s id h e)))
 
-  module _ {at : ℕ} (e : r ≡ Entry.Body at) where
+  module _ {at : ℕ} (e : r ≡ Some at) where
     pub entry_marked : {m n : IdSet} → Marked s m (named_of (decl_in s at)) n → Marked s m (named_by (stands_for (schema_of s).registry id)) n
     unfolding named_by stands_for
     entry_marked d = marked_as d (sym (ap named_by (resolved_body s id h e)))
@@ -112,39 +116,47 @@ module _ (s : List ℕ) (id : ℕ) {r : Entry} (h : Resolved s id r) where
 -- ---- the survivors
 
 -- what comes next over the listed ids alone
-pub next_listed : (s : List ℕ) {after r : Entry} → Follows (standing_with [] (schema_of s)) s after r → Follows (declarations (schema_of s)) s after r
+pub next_listed : (s : List ℕ) {after r : Option ℕ} → Follows (standing_with [] (schema_of s)) s after r → Follows (declarations (schema_of s)) s after r
 next_listed s h = rw (← standing_none (schema_of s)) h
 
 -- found over them under the name of the declaration at a place
-module _ (s : List ℕ) (at : ℕ) {x : Name} (q : x ≡ (decl_in s at).name) {r : Entry} (h : Survives (standing_with [] (schema_of s)) s x r) where
-  pub stands_there : {p : ℕ} → r ≡ Entry.Body p → StandsAt s at (eqb p at)
-  stands_there {p} e = record {
-    stands = λ t.
-        rw (← q, ← standing_none (schema_of s)) (survives_body s x h e) ∙ ap (λ i. some (decl_in s i)) (eqb-true p at t);
-  }
+pub stands_there : (s : List ℕ) (at : ℕ) {x : Name} → x ≡ (decl_in s at).name → {r : Option ℕ} → Survives (standing_with [] (schema_of s)) s x r
+    → {b : Bool} → b ≡ option_eq eqb r (Some at) → StandsAt s at b
+stands_there s at {x} q {r} h {b} e = record { stands = λ t. go r refl (sym e ∙ t) }
+  where
+    go : (o : Option ℕ) → r ≡ o → option_eq eqb o (Some at) ≡ true → lookup name_of before (decl_in s at).name (declarations (schema_of s)) ≡ Some (decl_in s at)
+    go None z t = absurd (false≢true t)
+    go (Some p) z t = rw (← q, ← standing_none (schema_of s)) (survives_body s x h z) ∙ ap (λ i. Some (decl_in s i)) (eqb-true p at t)
 
-unfoldable pub to_mark_decls : List ℕ → Entry → List ℕ
+unfoldable pub to_mark_decls : List ℕ → Option ℕ → List ℕ
 to_mark_decls s after = rest_decls (each named_of) (declarations (schema_of s)) s [] after
 
-unfoldable pub left_decls : List ℕ → Entry → ℕ
+unfoldable pub left_decls : List ℕ → Option ℕ → ℕ
 left_decls s after = decls_left (declarations (schema_of s)) s after
 
-pub decls_first : (s : List ℕ) {m : IdSet} → Owing s m (named_from (view_of (schema_of s))) m (to_mark_decls s Entry.Unresolvable) × EntryHere s Entry.Unresolvable
-unfolding view_of to_mark_decls between each EntryHere
+pub decls_first : (s : List ℕ) {m : IdSet} → Owing s m (named_from (view_of (schema_of s))) m (to_mark_decls s None) × EntryHere s None
+unfolding view_of to_mark_decls between each
 decls_first s = (owing_start (named_from_lem (view_of (schema_of s)) ∙ sym (decls_start (each named_of) (declarations (schema_of s)) s [])), tt)
 
-module _ (s : List ℕ) (after : Entry) {r : Entry} (f : Follows (declarations (schema_of s)) s after r) where
-  pub decls_last : r ≡ Entry.Unresolvable → {m₀ m : IdSet} {whole : List ℕ} → Owing s m₀ whole m (to_mark_decls s after) → Marked s m₀ whole m
+module _ (s : List ℕ) (after : Option ℕ) {r : Option ℕ} (f : Follows (declarations (schema_of s)) s after r) where
+  pub decls_last : r ≡ None → {m₀ m : IdSet} {whole : List ℕ} → Owing s m₀ whole m (to_mark_decls s after) → Marked s m₀ whole m
   unfolding to_mark_decls
   decls_last e w = owing_done w (decls_done (each named_of) (declarations (schema_of s)) s [] after f e)
 
-  module _ {at : ℕ} (e : r ≡ Entry.Body at) where
+  module _ {at : ℕ} (e : r ≡ Some at) where
     pub decls_go : {m₀ m n : IdSet} {whole : List ℕ} → Owing s m₀ whole m (to_mark_decls s after) → Marked s m (named_of (decl_in s at)) n
-        → Owing s m₀ whole n (to_mark_decls s (Entry.Body at)) × EntryHere s (Entry.Body at)
-    unfolding to_mark_decls each EntryHere view_of
+        → Owing s m₀ whole n (to_mark_decls s (Some at)) × EntryHere s (Some at)
+    unfolding to_mark_decls each view_of
     decls_go w d =
         (owing_turn w (decls_turn (each named_of) (declarations (schema_of s)) s [] after f (view_rises (schema_of s)) e) d, follows_here s after f e)
 
-    pub decls_fewer : left_decls s (Entry.Body at) < left_decls s after
+    pub decls_fewer : left_decls s (Some at) < left_decls s after
     unfolding left_decls view_of
     decls_fewer = decls_less (declarations (schema_of s)) (view_rises (schema_of s)) s after f e
+
+-- what the code needs
+pub ruleset kinds = (message_fields, union_variants, newtype_inner)
+
+pub ruleset entries = (resolved_here, entry_none, entry_kept)
+
+pub ruleset survivors = (decls_first, decls_last, decls_go, decls_fewer, owing_ready, follows_here)

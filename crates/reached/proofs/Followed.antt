@@ -7,8 +7,9 @@ use Prim.Native.Nat.{ℕ, zero, suc, ◌+◌, ◌≤◌, ◌<◌}
 use native.Mathlib.Omega.{arith}
 use borrow.Author.Tests.{eqb-true, eqb-false, not-true}
 use lib.Dec.{eqb}
-use lib.ListN.{length, get_or, set, take, replicate, length-replicate, length-set}
+use lib.ListN.{length, set, take, replicate, length-replicate, length-set}
 use lib.Seq.{length-take-le, get_or-set_other, get_or-take, ext_get_or}
+use Rattle.std.specs.Prelude.{Option, None, Some}
 use Rattle.maps.specs.Lists.{total, count}
 use Rattle.maps.proofs.Tests.{no_both, both}
 use Rattle.parts.specs.Promise.{Accepted, schema_of}
@@ -20,17 +21,6 @@ use Rattle.rules.proofs.ReachedSets.{below_has, no_marks_lem, mark_all_below, ma
 use Rattle.rules.proofs.Reached.{resolvable_in, Within, within_marks, within_first, first_marks, Least, least_is, reached_is, reached_resolvable}
 use Rattle.reached.specs.Marks.{Ready, Started, Marked, Open, ReachedIn}
 use Rattle.reached.proofs.Marking.{marked_length, ready_after}
-
--- ---- whether an id is open
-
-module _ (m f : IdSet) (id : ℕ) where
-  pub not_marked : get_or m id false ≡ false → false ≡ (has m id && not (has f id))
-  unfolding has
-  not_marked e = rw e
-
-  pub is_marked : get_or m id false ≡ true → not (get_or f id false) ≡ (has m id && not (has f id))
-  unfolding has
-  is_marked e = rw e
 
 -- ---- the search
 
@@ -59,14 +49,14 @@ module _ (m f : IdSet) where
       go false q = let d : id ≡ i → ⊥ = eqb-false id i q in p id (omega arith) h
 
   module _ (n i : ℕ) where
-    pub open_here : i < n → {b : Bool} → b ≡ (has m i && not (has f i)) → b ≡ true → Open m f n i
+    pub open_here : i < n → {b : Bool} → b ≡ (has m i && not (has f i)) → b ≡ true → Open m f n (Some i)
     open_here l e t =
         let p = both (has m i) (not (has f i)) (sym e ∙ t) in
-        record { found = λ _. (p.0, not-true (has f i) p.1); none = λ k. absurd (omega arith) }
+        record { found = (l, p.0, not-true (has f i) p.1); none = λ k. absurd (let z : ⊥ = cc in z) }
 
-    pub open_none : Passed i → n ≤ i → Open m f n n
+    pub open_none : Passed i → n ≤ i → Open m f n None
     unfolding Passed
-    open_none p l = record { found = λ k. absurd (omega arith); none = λ k id h. p id (omega arith) }
+    open_none p l = record { found = tt; none = λ k id h. p id (omega arith) }
 
 -- ---- how many ids are not yet followed
 
@@ -100,21 +90,24 @@ module _ {s : List ℕ} {m f : IdSet} (w : Following s m f) {n : ℕ} (e : n ≡
   pub following_count : (n ≤ length m) × (n ≤ length f)
   following_count = (omega (arith, w.started.ready.room), omega (arith, w.started.ready.room, w.marks, w.follows))
 
-  module _ {i : ℕ} (o : Open m f n i) where
+  module _ {r : Option ℕ} (o : Open m f n r) where
     -- a turn
-    module _ (l : i < n) where
+    module _ {i : ℕ} (is : r ≡ Some i) where
+      open_is : (i < n) × (has m i ≡ true) × (has f i ≡ false)
+      open_is = rw is at o.found
+
       pub open_inside : i < 512
-      open_inside = omega (arith, following_count.1, w.follows)
+      open_inside = omega (arith, open_is.0, following_count.1, w.follows)
 
       pub turn_less : unfollowed (set f i true) < unfollowed f
-      turn_less = fewer f i (o.found l).1 (omega (arith, open_inside, w.follows))
+      turn_less = fewer f i open_is.2 (omega (arith, open_inside, w.follows))
 
       pub turn_following : {m' : IdSet} → Marked s m (named_by (stands_for (schema_of s).registry i)) m' → Following s m' (set f i true)
       turn_following {m'} d = record {
         started = record { ready = ready_after d w.started.ready; first = λ id h r. kept id (w.started.first id h r) };
         marks = marked_length d ∙ w.marks;
         follows = length-set f i true ∙ w.follows;
-        within = λ id h. within_marks (schema_of s) m i w.within (w.within i (o.found l).0) id (subst (λ x. has x id ≡ true) d.is h);
+        within = λ id h. within_marks (schema_of s) m i w.within (w.within i open_is.1) id (subst (λ x. has x id ≡ true) d.is h);
         closed = λ via id h k r. closing via id (eqb via i) refl h k r;
       }
         where
@@ -135,7 +128,7 @@ module _ {s : List ℕ} {m f : IdSet} (w : Following s m f) {n : ℕ} (e : n ≡
           closing via id false q h k r = kept id (w.closed via id (has_other f i via q h) k r)
 
     -- the end
-    module _ (l : n ≤ i) where
+    module _ (l : r ≡ None) where
       following_least : Least (schema_of s) m
       following_least = record {
         within = w.within;
@@ -180,3 +173,8 @@ module _ (s : List ℕ) (g : Accepted s) where
     within = λ id h. within_first (schema_of s) 512 id (subst (λ x. has x id ≡ true) d.is h);
     closed = λ via id h k r. no_both h (no_marks_lem 512 via);
   }
+
+-- what the code needs
+pub ruleset searched = (passed_none, passed_more, open_here)
+
+pub ruleset followed = (ready_start, start_following, following_count, open_inside, turn_less, following_done)

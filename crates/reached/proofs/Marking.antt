@@ -1,23 +1,27 @@
 -- Marks: of lists of ids one after the other, of an id, of a node, of a type by its inner types. Assumes nothing.
 use mathlib.Core.Path.{◌≡◌, refl, sym, ap, ◌∙◌}
-use mathlib.Core.Bool.{true}
+use mathlib.Core.Bool.{true, false}
 use mathlib.Core.List.{List, [], ◌∷◌, ◌++◌}
 use Prim.Native.Nat.{ℕ, ◌<◌}
 use native.Mathlib.Omega.{arith}
 use borrow.Author.Tests.{eq-eqb, ne_eqb}
-use lib.ListN.{length, set}
+use lib.ListN.{length, get_or, set}
+use Rattle.std.specs.Prelude.{Option, None, Some}
+use Rattle.std.specs.Option.{is_some}
 use Rattle.maps.specs.Lists.{pass}
-use Rattle.maps.specs.Walk.{is_some}
 use Rattle.maps.proofs.Lists.{pass_append}
+use Rattle.image.specs.declared.tags.Tag.{Tag}
+use Rattle.image.specs.declared.tags.Tag.TheVariants as tag
 use Rattle.parts.specs.Codes.{number, named_tag}
+use Rattle.parts.specs.Numbers.{tag_number}
 use Rattle.parts.specs.Promise.{schema_of, label_in, label_end, tree_in, type_end, Resolved}
-use Rattle.parts.specs.declared.Entry.{Entry}
 use Rattle.parts.proofs.Promise.{resolved_body, resolved_none}
 use Rattle.rules.specs.Survivors.{stands_for}
 use Rattle.rules.specs.Reached.{named_label, named_in, resolvable, IdSet, mark, mark_all}
 use Rattle.rules.proofs.ReachedSets.{below_length, mark_all_below}
 use Rattle.rules.proofs.Reached.{resolvable_in}
 use Rattle.types.specs.Nodes.{Leaf, One, Two}
+use Rattle.types.proofs.Laws.Tags.{same_tag}
 use Rattle.reached.specs.Marks.{Ready, Marked, TypeMarked}
 
 -- ---- ids one after the other
@@ -68,33 +72,38 @@ module _ {s : List ℕ} {m₀ m : IdSet} {whole rest : List ℕ} (o : Owing s m�
 
 -- ---- an id
 
-module _ (s : List ℕ) (id : ℕ) {r : Entry} (h : Resolved s id r) where
-  id_resolvable : {at : ℕ} → r ≡ Entry.Body at → resolvable (schema_of s).registry id ≡ true
-  unfolding resolvable stands_for is_some
-  id_resolvable e = ap is_some (resolved_body s id h e)
+module _ (s : List ℕ) (id : ℕ) {r : Option ℕ} (h : Resolved s id r) where
+  is_resolvable : is_some r ≡ resolvable (schema_of s).registry id
+  unfolding resolvable stands_for
+  is_resolvable = go r refl
+    where
+      go : (o : Option ℕ) → r ≡ o → is_some o ≡ is_some (get_or (schema_of s).registry id None)
+      go None e = rw (resolved_none s id h e)
+      go (Some at) e = rw (resolved_body s id h e)
 
-  pub id_skipped : {m : IdSet} → r ≡ Entry.Unresolvable → Marked s m (id ∷ []) m
-  unfolding mark_all pass mark resolvable stands_for is_some
-  id_skipped e = record { is = rw (resolved_none s id h e) }
-
-  pub id_marked : {m : IdSet} {at : ℕ} → r ≡ Entry.Body at → {n : IdSet} → n ≡ set m id true → Marked s m (id ∷ []) n
+  pub id_skipped : is_some r ≡ false → {m : IdSet} → Marked s m (id ∷ []) m
   unfolding mark_all pass mark
-  id_marked e k = record { is = rw (id_resolvable e) k }
+  id_skipped e = record { is = rw (← is_resolvable, e) }
 
-  pub id_inside : {m : IdSet} → Ready s m → {at : ℕ} → r ≡ Entry.Body at → id < length m
-  id_inside d e = omega (arith, resolvable_in (schema_of s).registry id (id_resolvable e), d.room)
+  module _ (e : is_some r ≡ true) where
+    pub id_marked : {m n : IdSet} → n ≡ set m id true → Marked s m (id ∷ []) n
+    unfolding mark_all pass mark
+    id_marked k = record { is = rw (← is_resolvable, e) k }
+
+    pub id_inside : {m : IdSet} → Ready s m → id < length m
+    id_inside d = omega (arith, resolvable_in (schema_of s).registry id (sym is_resolvable ∙ e), d.room)
 
 -- ---- a node: x is its tag
 
-module _ (s : List ℕ) (at : ℕ) {x : ℕ} (e : x ≡ (label_in s at).tag) where
-  pub label_named : x ≡ number named_tag → {id : ℕ} → id ≡ (label_in s at).first → {m n : IdSet} → Marked s m (id ∷ []) n
+module _ (s : List ℕ) (at : ℕ) (x : Tag) (e : tag_number x ≡ (label_in s at).tag) where
+  pub label_named : x ≡ tag.Named → {id : ℕ} → id ≡ (label_in s at).first → {m n : IdSet} → Marked s m (id ∷ []) n
       → Marked s m (named_label (label_in s at)) n
   unfolding named_label
-  label_named t f k = rw (eq-eqb (label_in s at).tag (number named_tag) (sym e ∙ t), ← f) k
+  label_named t f k = rw (eq-eqb (label_in s at).tag (number named_tag) (sym e ∙ ap tag_number t), ← f) k
 
-  pub label_other : (x ≡ number named_tag → ⊥) → {m : IdSet} → Marked s m (named_label (label_in s at)) m
+  pub label_other : (x ≡ tag.Named → ⊥) → {m : IdSet} → Marked s m (named_label (label_in s at)) m
   unfolding named_label
-  label_other t = rw (ne_eqb (label_in s at).tag (number named_tag) (λ z. t (e ∙ z))) marked_none
+  label_other t = rw (ne_eqb (label_in s at).tag (number named_tag) (λ z. t (same_tag x tag.Named (e ∙ z)))) marked_none
 
 -- ---- a type, after its label
 
@@ -119,3 +128,6 @@ module _ (s : List ℕ) (at : ℕ) {m n : IdSet} (k : Marked s m (named_label (l
     two_marked t {r} {n''} d =
         let e : Marked s n' (named_in (tree_in s (type_end s (label_end s at)))) n'' = (rw (← second_at) d.marks) in
         record { end = d.end ∙ (ap (type_end s) second_at ∙ sym t.end); marks = rw t.tree (marked_then k (marked_then first_marks e)) }
+
+-- what the code needs
+pub ruleset ids = (id_skipped, id_marked, id_inside)

@@ -1,9 +1,9 @@
 -- The items that stand in a run, marked by rising ordinal, for fields and variants alike: what a walk has yet to mark, its turns, its end and
 -- its measure. Assumes nothing.
 use mathlib.Core.Path.{◌≡◌, sym, ap, ◌∙◌}
-use mathlib.Core.Option.{Option, none, some}
 use mathlib.Core.List.{List, [], ◌∷◌, flat_map, append-nil}
 use Prim.Native.Nat.{ℕ, ◌<◌}
+use Rattle.std.specs.Prelude.{Option, None, Some}
 use Rattle.maps.specs.Compare.{between}
 use Rattle.maps.proofs.Lists.{all, flat_map_same, flat_map_flat_map}
 use Rattle.image.specs.Schema.{Field, Variant}
@@ -16,13 +16,11 @@ use Rattle.rules.specs.Clauses.{field_types, variant_types}
 use Rattle.rules.specs.Reached.{named_in, IdSet}
 use Rattle.survivors.specs.Answers.{ItemFollows}
 use Rattle.survivors.specs.Runs.{item_in, item_map, items_of, Holds}
-use Rattle.survivors.specs.declared.Next.{Next}
-use Rattle.survivors.specs.declared.Ordinal.{Ordinal}
 use Rattle.survivors.proofs.Runs.{run_holds, next_here}
 use Rattle.survivors.proofs.Walks.{rest_items, items_left, items_start, items_done, items_turn, items_less}
 use Rattle.reached.specs.Marks.{Marked}
 use Rattle.reached.specs.Named.{item_names, named_items}
-use Rattle.reached.proofs.Marking.{marked_as, Owing, owing_start, owing_turn, owing_done}
+use Rattle.reached.proofs.Marking.{marked_as, Owing, owing_start, owing_ready, owing_turn, owing_done}
 
 -- ---- what fields and variants name, item by item
 
@@ -43,36 +41,36 @@ variants_named vs =
 
 -- what stands under a key gives, whatever another map has there
 unfoldable pub each : {A : Type 0} → (A → List ℕ) → Option A → Option A → List ℕ
-each f none o = []
-each f (some a) o = f a
+each f None o = []
+each f (Some a) o = f a
 
 module _ (h : Shape) (s : List ℕ) (n : Run) where
   -- what is yet to be marked after an ordinal, and how many items are
-  unfoldable pub to_mark : Ordinal → List ℕ
+  unfoldable pub to_mark : Option ℕ → List ℕ
   to_mark after = rest_items h (each (item_names h)) (items_of h s n) [] after
 
-  unfoldable pub left_in : Ordinal → ℕ
+  unfoldable pub left_in : Option ℕ → ℕ
   left_in after = items_left h (items_of h s n) after
 
-  pub items_first : {m : IdSet} → Owing s m (named_items h s n) m (to_mark Ordinal.Nothing)
+  pub items_first : {m : IdSet} → Owing s m (named_items h s n) m (to_mark None)
   unfolding named_items to_mark between each
   items_first = owing_start (sym (items_start h (each (item_names h)) (items_of h s n) []))
 
-  module _ (g : ItemsHere h s n.count n.start) (after : Ordinal) {o : Next} (a : ItemFollows h s n after o) where
-    pub items_last : o ≡ Next.Nothing → {m₀ m : IdSet} {whole : List ℕ} → Owing s m₀ whole m (to_mark after) → Marked s m₀ whole m
+  module _ (g : ItemsHere h s n.count n.start) (after : Option ℕ) {o : Option (ℕ × ℕ)} (a : ItemFollows h s n after o) where
+    pub items_last : o ≡ None → {m₀ m : IdSet} {whole : List ℕ} → Owing s m₀ whole m (to_mark after) → Marked s m₀ whole m
     unfolding to_mark
     items_last e w = owing_done w (items_done h (each (item_names h)) (items_of h s n) [] s n (run_holds h s n g) after a e)
 
-    module _ {k p : ℕ} (e : o ≡ Next.Is k p) where
+    module _ {k p : ℕ} (e : o ≡ Some (k, p)) where
       pub item_here : ItemHere h s p
       item_here = next_here h s n (run_holds h s n g) after a e
 
       pub items_go : {m₀ m m' : IdSet} {whole : List ℕ} → Owing s m₀ whole m (to_mark after) → Marked s m (item_names h (item_in h s p)) m'
-          → Owing s m₀ whole m' (to_mark (Ordinal.Is k))
+          → Owing s m₀ whole m' (to_mark (Some k))
       unfolding to_mark each
       items_go w d = owing_turn w (items_turn h (each (item_names h)) (items_of h s n) [] s n (run_holds h s n g) after a e) d
 
-      pub items_fewer : left_in (Ordinal.Is k) < left_in after
+      pub items_fewer : left_in (Some k) < left_in after
       unfolding left_in
       items_fewer = items_less h (items_of h s n) s n (run_holds h s n g) after a e
 
@@ -104,3 +102,10 @@ module _ (s : List ℕ) (p : ℕ) where
     pub variant_marked : {m m' : IdSet} → Marked s m (named_items Shape.Field s q) m' → Marked s m (item_names Shape.Variant (item_in Shape.Variant s p)) m'
     unfolding item_names
     variant_marked d = listed_marked Shape.Field s (variant_listed s p g) f d
+
+-- what the code needs
+pub ruleset walked = (items_first, items_last, item_here, items_fewer, owing_ready)
+
+pub ruleset field_walk = (walked, field_typed)
+
+pub ruleset variant_walk = (walked, variant_fields)

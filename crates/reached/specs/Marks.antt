@@ -1,6 +1,5 @@
 -- Sets of ids as the code holds them: a mark for each id that an image can have. Assumes nothing.
-use Rattle.std.specs.Prelude.{◌≡◌, Bool, true, false, List, ℕ, ◌≤◌, ◌<◌, length, take}
-use Rattle.std.proofs.Math.Option.{some}
+use Rattle.std.specs.Prelude.{◌≡◌, Bool, true, false, List, ℕ, ◌≤◌, ◌<◌, length, take, Option, None, Some, IfSome}
 use Rattle.maps.specs.Keyed.{lookup}
 use Rattle.maps.specs.Orders.{before}
 use Rattle.parts.specs.Promise.{Accepted, schema_of, decl_in, tree_in, type_end}
@@ -29,12 +28,12 @@ pub record Started (s : List ℕ) (m : IdSet) : Type 0 where
 
 -- the declaration at a place is the survivor of its name, if the answer is true
 pub record StandsAt (s : List ℕ) (at : ℕ) (r : Bool) : Type 0 where
-  pub stands : r ≡ true → lookup name_of before (decl_in s at).name (declarations (schema_of s)) ≡ some (decl_in s at)
+  pub stands : r ≡ true → lookup name_of before (decl_in s at).name (declarations (schema_of s)) ≡ Some (decl_in s at)
 
--- an id below n that is in m and not in f, or n if there is none
-pub record Open (m f : IdSet) (n r : ℕ) : Type 0 where
-  pub found : r < n → (has m r ≡ true) × (has f r ≡ false)
-  pub none : n ≤ r → (id : ℕ) → id < n → has m id ≡ true → has f id ≡ true
+-- an id below n that is in m and not in f, if there is one
+pub record Open (m f : IdSet) (n : ℕ) (r : Option ℕ) : Type 0 where
+  pub found : IfSome r (λ id. (id < n) × (has m id ≡ true) × (has f id ≡ false))
+  pub none : r ≡ None → (id : ℕ) → id < n → has m id ≡ true → has f id ≡ true
 
 -- the answer: so many marks as the registry has entries, and those of the reached ids
 pub record ReachedIn (s : List ℕ) (r : Reached) : Type 0 where

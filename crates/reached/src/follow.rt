@@ -9,32 +9,30 @@ use crate::{MOST, Reached};
 use parts::entries::entry_count;
 
 // Whether an id is marked and not yet followed.
+#[tactic(auto, unfolding(rules::specs::Reached::has))]
 fn is_open(marks: &[bool], followed: &[bool], id: usize) -> bool
     requires { (id < length marks.now) × (id < length followed.now) }
     ensures { result ≡ (has marks.now id && not (has followed.now id)) }
 {
-    if !marks[id] {
-        return false;
-    }
-    !followed[id]
+    marks[id] && !followed[id]
 }
 
-// The least such id below n, or n.
-fn next_open(marks: &[bool], followed: &[bool], n: usize) -> usize
+// The least such id below n.
+#[tactic(auto, using(crate::proofs::Followed::searched))]
+fn next_open(marks: &[bool], followed: &[bool], n: usize) -> Option<usize>
     requires { (n ≤ length marks.now) × (n ≤ length followed.now) }
     ensures { Open marks.now followed.now n result }
 {
-    let mut id = 0;
-    while id < n {
+    for id in 0..n {
         if is_open(marks, followed, id) {
-            return id;
+            return Some(id);
         }
-        id += 1;
     }
-    n
+    None
 }
 
 // The ids that are reached in an accepted image: one marked entry a turn is followed, each once.
+#[tactic(auto, using(crate::proofs::Followed::followed))]
 pub fn reached(image: &[u8]) -> Reached
     requires { Accepted image.now }
     ensures { ReachedIn image.now result }
@@ -43,14 +41,11 @@ pub fn reached(image: &[u8]) -> Reached
     let mut marks = [false; MOST];
     mark_survivors(image, &mut marks);
     let mut followed = [false; MOST];
-    loop {
-        let id = next_open(&marks, &followed, count);
-        if count <= id {
-            return Reached { marks, count };
-        }
+    while let Some(id) = next_open(&marks, &followed, count) {
         followed[id] = true;
         mark_entry(image, id as u32, &mut marks);
     }
+    Reached { marks, count }
 }
 
 // No ids: for the verdict of document 01, in which nothing is followed.

@@ -4,22 +4,20 @@ ghost use Rattle.parts.specs.Promise.{LabelHere, label_in, TypeHere, tree_in};
 ghost use Rattle.rules.specs.Reached.{named_label, named_in};
 ghost use Rattle.reached.specs.Marks.{Ready, Marked, TypeMarked};
 
-use parts::Entry;
 use parts::entries::entry;
-use parts::tags::NAMED;
+use parts::tags::Tag;
 use parts::types::{label_end, type_id, type_tag};
 use types::nodes::inner_types;
 
 // An id, if it is resolvable.
+#[tactic(auto, using(crate::proofs::Marking::ids))]
 fn mark_id(image: &[u8], id: u32, marks: &mut [bool])
     requires { Ready image.now marks.old }
     ensures { Marked image.now marks.old (id ∷ []) marks.new }
 {
-    let Entry::Body(_) = entry(image, id) else {
-        return;
-    };
-    let i = id as usize;
-    marks[i] = true;
+    if entry(image, id).is_some() {
+        marks[id as usize] = true;
+    }
 }
 
 // The id of a node, if it is a named one.
@@ -27,7 +25,7 @@ fn mark_label(image: &[u8], at: usize, marks: &mut [bool])
     requires { Ready image.now marks.old × LabelHere image.now at }
     ensures { Marked image.now marks.old (named_label (label_in image.now at)) marks.new }
 {
-    if type_tag(image, at) == NAMED {
+    if type_tag(image, at) == Tag::Named {
         mark_id(image, type_id(image, at), marks);
     }
 }

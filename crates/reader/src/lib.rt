@@ -8,23 +8,11 @@ pub mod contents;
 ghost use Rattle.image.specs.Image.{read_image};
 ghost use Rattle.reader.specs.Answer.{Answers};
 
-use image::Read;
+use image::refusals::Refusal;
 
-// Whether an image is accepted.
-#[derive(Clone, Copy)]
-pub enum Acceptance {
-    Accepted,
-    // The number of the refusal.
-    Rejected(u8),
-}
-
-// Whether an image is accepted, or the number of the first refusal that document 01's order meets.
-pub fn read_image(image: &[u8]) -> Acceptance
+// Whether an image is accepted, or the first refusal that document 01's order meets.
+pub fn read_image(image: &[u8]) -> Result<(), Refusal>
     ensures { Answers (read_image image.now) result }
 {
-    let step = contents::read_whole(image);
-    match step {
-        Read::At(_) => Acceptance::Accepted,
-        Read::Refused(number) => Acceptance::Rejected(number),
-    }
+    contents::read_whole(image).map(|_| ())
 }

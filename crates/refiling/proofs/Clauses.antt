@@ -1,7 +1,7 @@
 -- The clauses, of an old and of a new side that are each filed anew: declarations that are alike have the same changes. Assumes nothing.
 use mathlib.Core.Path.{◌≡◌, refl, sym, ap, ◌∙◌}
 use mathlib.Core.Bool.{Bool, true, false, cond}
-use mathlib.Core.Option.{Option, none, some}
+use Rattle.std.specs.Prelude.{Option, None, Some}
 use mathlib.Core.List.{List, [], ◌++◌, Forall₂}
 use Prim.Native.Nat.{ℕ}
 use lib.Dec.{eqb, ltb}
@@ -24,20 +24,20 @@ use Rattle.refiling.specs.Refiling.{Impls, NumbersOnce, Unresolvable, Resolvable
 -- ---- ids, types
 
 -- by what entry an id stands for
-pub by_entry : (R : Registry) (i : ℕ) {A : Type 0} → Resolvable R i → ((d : Decl) → stands_for R i ≡ some d → A) → A
+pub by_entry : (R : Registry) (i : ℕ) {A : Type 0} → Resolvable R i → ((d : Decl) → stands_for R i ≡ Some d → A) → A
 unfolding Resolvable Unresolvable
 by_entry R i {A} r f = go (stands_for R i) refl
   where
     go : (o : Option Decl) → stands_for R i ≡ o → A
-    go none p = absurd (r p)
-    go (some d) p = f d p
+    go None p = absurd (r p)
+    go (Some d) p = f d p
 
 -- the entry of an id, and that of its new number
 pub record Moved (R S : Registry) (to : ℕ → ℕ) (i : ℕ) : Type 0 where
   pub before : Decl
   pub after : Decl
-  pub stood : stands_for R i ≡ some before
-  pub stands : stands_for S (to i) ≡ some after
+  pub stood : stands_for R i ≡ Some before
+  pub stands : stands_for S (to i) ≡ Some after
   pub anew : RefiledDecl R S to before after
 
 -- of a node that is not named nothing is looked up
@@ -128,7 +128,7 @@ module _ (same : Ty → Ty → Bool) {R R' S S' : Registry} {to from to' from' :
   fields_same : (d : Name) (f f' g g' : Field) → OldField f f' → NewField g g' → compare_fields first d f g ≡ compare_fields second d f' g'
   unfolding compare_fields compare_field_names compare_encodings compare_deprecated field_text
   fields_same d f f' g g' a b =
-      cc (types_same d (some g.name) (field_text g) f.type f'.type g.type g'.type a.type b.type)
+      cc (types_same d (Some g.name) (field_text g) f.type f'.type g.type g'.type a.type b.type)
 
   field_gone : (d : Name) (f f' : Field) → OldField f f' → (field_rules first d).gone f ≡ (field_rules second d).gone f'
   unfolding field_rules field_text
@@ -205,7 +205,7 @@ module _ (same : Ty → Ty → Bool) {R R' S S' : Registry} {to from to' from' :
 
     newtypes_same : compare_newtypes first name d e ≡ compare_newtypes second name d' e'
     unfolding compare_newtypes
-    newtypes_same = types_same name none _ d.inner d'.inner e.inner e'.inner a.inner b.inner
+    newtypes_same = types_same name None _ d.inner d'.inner e.inner e'.inner a.inner b.inner
 
   kinds_same : (k : Kind) (d d' e e' : Decl) → NumbersOnce d → NumbersOnce e → RefiledDecl R R' to d d' → RefiledDecl S S' to' e e'
       → compare_kind k first d e ≡ compare_kind k second d' e'

@@ -1,7 +1,7 @@
 -- The worked example holds: what the images hold by computation, their reports by the theorem and by computation. Assumes nothing.
 use mathlib.Core.Path.{◌≡◌, refl, sym, ap}
 use mathlib.Core.Bool.{false}
-use mathlib.Core.Option.{Option, none, some}
+use Rattle.std.specs.Prelude.{Option, None, Some}
 use mathlib.Core.List.{List, [], ◌∷◌}
 use Prim.Native.Nat.{ℕ}
 use native.Mathlib.Omega.{arith}
@@ -28,10 +28,10 @@ use Rattle.refiling.proofs.Relation.{refilings}
 -- ---- what the images hold; the bytes of the names are their numbers: M 77, U 85, F 70, E 69, N 78, K 75, and a 97
 
 abbrev message : List Field → Decl
-message fs = decl 0 (77 ∷ []) unmarked none fs [] no_type
+message fs = decl 0 (77 ∷ []) unmarked None fs [] no_type
 
 abbrev union : List Variant → Decl
-union vs = decl 3 (85 ∷ []) unmarked none [] vs no_type
+union vs = decl 3 (85 ∷ []) unmarked None [] vs no_type
 
 abbrev flags : Option ℕ → List Variant → Decl
 flags width vs = decl 2 (70 ∷ []) unmarked width [] vs no_type
@@ -40,10 +40,10 @@ abbrev enum : Option ℕ → List Variant → Decl
 enum width vs = decl 1 (69 ∷ []) unmarked width [] vs no_type
 
 abbrev newtype : Ty → Decl
-newtype t = decl 4 (78 ∷ []) unmarked none [] [] t
+newtype t = decl 4 (78 ∷ []) unmarked None [] [] t
 
 abbrev config : Decl
-config = decl 5 (75 ∷ []) unmarked none [] [] no_type
+config = decl 5 (75 ∷ []) unmarked None [] [] no_type
 
 abbrev a : Ty → Field
 a t = plain_field 0 (97 ∷ []) t
@@ -87,25 +87,25 @@ ride = (114 ∷ 105 ∷ 100 ∷ 101 ∷ []) ∷ []
 
 abbrev R : Registry
 R =
-    some (message (a (around 5 (named_type 1)) ∷ b 9 ∷ [])) ∷ some (union (x ∷ y (f ∷ g 0 ∷ []) ∷ [])) ∷ some (flags none (p ∷ q ∷ []))
-    ∷ some impl ∷ some impl ∷ []
+    Some (message (a (around 5 (named_type 1)) ∷ b 9 ∷ [])) ∷ Some (union (x ∷ y (f ∷ g 0 ∷ []) ∷ [])) ∷ Some (flags None (p ∷ q ∷ []))
+    ∷ Some impl ∷ Some impl ∷ []
 
 -- with the width that F has
 abbrev R' : Option ℕ → Registry
 R' w =
-    none ∷ some (flags w (q ∷ p ∷ [])) ∷ some impl ∷ some (union (y (g 5 ∷ f ∷ []) ∷ x ∷ [])) ∷ some impl
-    ∷ some (message (b 0 ∷ a (around 5 (named_type 3)) ∷ [])) ∷ []
+    None ∷ Some (flags w (q ∷ p ∷ [])) ∷ Some impl ∷ Some (union (y (g 5 ∷ f ∷ []) ∷ x ∷ [])) ∷ Some impl
+    ∷ Some (message (b 0 ∷ a (around 5 (named_type 3)) ∷ [])) ∷ []
 
 abbrev S : Registry
 S =
-    some (message (a u8 ∷ b 5 ∷ [])) ∷ some (union (y (f ∷ h 1 ∷ []) ∷ [])) ∷ some (flags none (p ∷ [])) ∷ some (enum none (r ∷ s ∷ []))
-    ∷ some (newtype (map_of 3)) ∷ some config ∷ []
+    Some (message (a u8 ∷ b 5 ∷ [])) ∷ Some (union (y (f ∷ h 1 ∷ []) ∷ [])) ∷ Some (flags None (p ∷ [])) ∷ Some (enum None (r ∷ s ∷ []))
+    ∷ Some (newtype (map_of 3)) ∷ Some config ∷ []
 
 -- with the widths that E and F have
 abbrev S' : Option ℕ → Option ℕ → Registry
 S' v w =
-    some (newtype (map_of 2)) ∷ some config ∷ some (enum v (s ∷ r ∷ [])) ∷ some (flags w (p ∷ [])) ∷ some (union (y (h 4 ∷ f ∷ []) ∷ []))
-    ∷ some (message (b 1 ∷ a u8 ∷ [])) ∷ []
+    Some (newtype (map_of 2)) ∷ Some config ∷ Some (enum v (s ∷ r ∷ [])) ∷ Some (flags w (p ∷ [])) ∷ Some (union (y (h 4 ∷ f ∷ []) ∷ []))
+    ∷ Some (message (b 1 ∷ a u8 ∷ [])) ∷ []
 
 abbrev ride_of : ℕ → Registry → List ℕ → Schema
 ride_of format registry ids = record { format = format; registry = registry; ids = ids; namespace = ride }
@@ -114,11 +114,11 @@ first_read : read_image first ≡ ok (ride_of 1 R (0 ∷ 1 ∷ 2 ∷ 3 ∷ 9 ∷
 unfolding reads
 first_read = refl
 
-first_anew_read : read_image first_anew ≡ ok (ride_of 1 (R' none) (4 ∷ 5 ∷ 0 ∷ 3 ∷ 1 ∷ 2 ∷ [])) 161
+first_anew_read : read_image first_anew ≡ ok (ride_of 1 (R' None) (4 ∷ 5 ∷ 0 ∷ 3 ∷ 1 ∷ 2 ∷ [])) 161
 unfolding reads
 first_anew_read = refl
 
-first_widened_read : read_image first_widened ≡ ok (ride_of 2 (R' (some 1)) (4 ∷ 5 ∷ 0 ∷ 3 ∷ 1 ∷ 2 ∷ [])) 162
+first_widened_read : read_image first_widened ≡ ok (ride_of 2 (R' (Some 1)) (4 ∷ 5 ∷ 0 ∷ 3 ∷ 1 ∷ 2 ∷ [])) 162
 unfolding reads
 first_widened_read = refl
 
@@ -126,11 +126,11 @@ second_read : read_image second ≡ ok (ride_of 1 S (0 ∷ 1 ∷ 2 ∷ 3 ∷ 4 �
 unfolding reads
 second_read = refl
 
-second_anew_read : read_image second_anew ≡ ok (ride_of 1 (S' none none) (0 ∷ 3 ∷ 5 ∷ 2 ∷ 4 ∷ [])) 173
+second_anew_read : read_image second_anew ≡ ok (ride_of 1 (S' None None) (0 ∷ 3 ∷ 5 ∷ 2 ∷ 4 ∷ [])) 173
 unfolding reads
 second_anew_read = refl
 
-second_widened_read : read_image second_widened ≡ ok (ride_of 2 (S' (some 8) (some 4)) (0 ∷ 3 ∷ 5 ∷ 2 ∷ 4 ∷ [])) 175
+second_widened_read : read_image second_widened ≡ ok (ride_of 2 (S' (Some 8) (Some 4)) (0 ∷ 3 ∷ 5 ∷ 2 ∷ 4 ∷ [])) 175
 unfolding reads
 second_widened_read = refl
 
@@ -223,7 +223,7 @@ module _ (format : ℕ) (w : Option ℕ) where
       nothing here) (later here))
       (primitive_anew 0)
 
-  flags_anew : RefiledDecl R (R' w) to (flags none (p ∷ q ∷ [])) (flags w (q ∷ p ∷ []))
+  flags_anew : RefiledDecl R (R' w) to (flags None (p ∷ q ∷ [])) (flags w (q ∷ p ∷ []))
   flags_anew = decl_anew 2 _ nothing (each (item_anew 0 _ nothing) (each (item_anew 1 _ nothing) nothing here) (later here)) (primitive_anew 0)
 
   impl_anew : RefiledDecl R (R' w) to impl impl
@@ -278,10 +278,10 @@ module _ (format : ℕ) (v w : Option ℕ) where
       nothing here)
       (primitive_anew 0)
 
-  later_flags : RefiledDecl S (S' v w) on (flags none (p ∷ [])) (flags w (p ∷ []))
+  later_flags : RefiledDecl S (S' v w) on (flags None (p ∷ [])) (flags w (p ∷ []))
   later_flags = decl_anew 2 _ nothing (each (item_anew 0 _ nothing) nothing here) (primitive_anew 0)
 
-  enum_anew : RefiledDecl S (S' v w) on (enum none (r ∷ s ∷ [])) (enum v (s ∷ r ∷ []))
+  enum_anew : RefiledDecl S (S' v w) on (enum None (r ∷ s ∷ [])) (enum v (s ∷ r ∷ []))
   enum_anew = decl_anew 1 _ nothing (each (item_anew 0 _ nothing) (each (item_anew 1 _ nothing) nothing here) (later here)) (primitive_anew 0)
 
   newtype_anew : RefiledDecl S (S' v w) on (newtype (map_of 3)) (newtype (map_of 2))
@@ -326,16 +326,16 @@ module _ (format : ℕ) (v w : Option ℕ) where
 -- ---- the reports
 
 old_anew_lem : RefiledImage NoRepeats first first_anew
-old_anew_lem = refiled_image first_read first_anew_read first_once (first_anew_lem 1 none)
+old_anew_lem = refiled_image first_read first_anew_read first_once (first_anew_lem 1 None)
 
 old_widened : RefiledImage NoRepeats first first_widened
-old_widened = refiled_image first_read first_widened_read first_once (first_anew_lem 2 (some 1))
+old_widened = refiled_image first_read first_widened_read first_once (first_anew_lem 2 (Some 1))
 
 new_anew_lem : RefiledImage NoRepeats second second_anew
-new_anew_lem = refiled_image second_read second_anew_read second_once (second_anew_lem 1 none none)
+new_anew_lem = refiled_image second_read second_anew_read second_once (second_anew_lem 1 None None)
 
 new_widened : RefiledImage NoRepeats second second_widened
-new_widened = refiled_image second_read second_widened_read second_once (second_anew_lem 2 (some 8) (some 4))
+new_widened = refiled_image second_read second_widened_read second_once (second_anew_lem 2 (Some 8) (Some 4))
 
 old_same : RefiledImage NoRepeats first first
 old_same = refiled_image first_read first_read first_once (refilings.itself _)

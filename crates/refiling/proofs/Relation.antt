@@ -1,7 +1,8 @@
 -- Every schema is itself filed anew; what was filed anew can be filed back, and further. Assumes nothing.
 use mathlib.Core.Path.{◌≡◌, refl, sym, ap, ◌∙◌, subst}
 use mathlib.Core.Bool.{Bool, true, false}
-use mathlib.Core.Option.{Option, none, some, some-ne-none}
+use Rattle.std.specs.Prelude.{Option, None, Some}
+use Rattle.std.proofs.lemmas.Option.{none-some}
 use mathlib.Core.List.{List}
 use Prim.Native.Nat.{ℕ}
 use lib.Dec.{eqb}
@@ -26,8 +27,8 @@ module _ (R : Registry) where
   id_self i = go (stands_for R i) refl
     where
       go : (o : Option Decl) → stands_for R i ≡ o → RefiledId R R same i i
-      go none p = unresolvable p p
-      go (some d) p = renumbered (λ q. some-ne-none d (sym p ∙ q)) refl
+      go None p = unresolvable p p
+      go (Some d) p = renumbered (λ q. none-some d (sym q ∙ p)) refl
 
   label_self : (l : Label) → RefiledLabel R R same l l
   label_self l = go (eqb l.tag 3) refl

@@ -1,7 +1,8 @@
 -- Either reading of "resolvable declarations" gives what is needed; and what has no repeats, filed anew, has none. Assumes nothing.
 use mathlib.Core.Path.{◌≡◌, refl, sym, ap, ◌∙◌, subst}
 use mathlib.Core.Logic.{◌⊎◌, inl, inr}
-use mathlib.Core.Option.{Option, none, some, some-injective, none-ne-some, some-ne-none}
+use Rattle.std.specs.Prelude.{Option, None, Some}
+use Rattle.std.proofs.lemmas.Option.{same_Some, none-some}
 use mathlib.Core.List.Memᴰ
 use mathlib.Core.List.{List, [], ◌∷◌}
 use Prim.Native.Nat.{ℕ, zero, suc}
@@ -18,25 +19,25 @@ use Rattle.refiling.proofs.Standing.{listed_refiled}
 -- ---- ids and entries
 
 -- an entry is not empty
-pub entry_resolvable : (R : Registry) (i : ℕ) (d : Decl) → stands_for R i ≡ some d → Resolvable R i
+pub entry_resolvable : (R : Registry) (i : ℕ) (d : Decl) → stands_for R i ≡ Some d → Resolvable R i
 unfolding Resolvable Unresolvable
-entry_resolvable R i d p q = some-ne-none d (sym p ∙ q)
+entry_resolvable R i d p q = none-some d (sym q ∙ p)
 
 -- what an id stands for is an entry
-entry_in : (R : Registry) (i : ℕ) (d : Decl) → stands_for R i ≡ some d → In d (entries R)
+entry_in : (R : Registry) (i : ℕ) (d : Decl) → stands_for R i ≡ Some d → In d (entries R)
 unfolding stands_for entries resolved
-entry_in [] i d p = absurd (none-ne-some d p)
-entry_in (none ∷ R) zero d p = absurd (none-ne-some d p)
-entry_in (none ∷ R) (suc i) d p = entry_in R i d p
-entry_in (some e ∷ R) zero d p = Memᴰ.head (sym (some-injective e d p))
-entry_in (some e ∷ R) (suc i) d p = Memᴰ.tail (entry_in R i d p)
+entry_in [] i d p = absurd (none-some d p)
+entry_in (None ∷ R) zero d p = absurd (none-some d p)
+entry_in (None ∷ R) (suc i) d p = entry_in R i d p
+entry_in (Some e ∷ R) zero d p = Memᴰ.head (sym (same_Some e d p))
+entry_in (Some e ∷ R) (suc i) d p = Memᴰ.tail (entry_in R i d p)
 
 -- what holds of all that ids stand for holds of all entries
-all_entries : (P : Decl → Type 0) (R : Registry) → ((i : ℕ) (d : Decl) → stands_for R i ≡ some d → P d) → All P (entries R)
+all_entries : (P : Decl → Type 0) (R : Registry) → ((i : ℕ) (d : Decl) → stands_for R i ≡ Some d → P d) → All P (entries R)
 unfolding stands_for entries resolved All
 all_entries P [] h = tt
-all_entries P (none ∷ R) h = all_entries P R (λ i. h (suc i))
-all_entries P (some d ∷ R) h = (h 0 d refl, all_entries P R (λ i. h (suc i)))
+all_entries P (None ∷ R) h = all_entries P R (λ i. h (suc i))
+all_entries P (Some d ∷ R) h = (h 0 d refl, all_entries P R (λ i. h (suc i)))
 
 listed_entries : (R : Registry) (ids : List ℕ) → All (λ d. In d (entries R)) (listed R ids)
 unfolding listed resolved All
@@ -44,8 +45,8 @@ listed_entries R [] = tt
 listed_entries R (i ∷ ids) = go (stands_for R i) refl (listed_entries R ids)
   where
     go : (o : Option Decl) → stands_for R i ≡ o → All (λ d. In d (entries R)) (listed R ids) → All (λ d. In d (entries R)) (resolved o (listed R ids))
-    go none p h = h
-    go (some d) p h = (entry_in R i d p, h)
+    go None p h = h
+    go (Some d) p h = (entry_in R i d p, h)
 
 -- ---- what is needed
 
@@ -88,11 +89,11 @@ numbers_refiled r n = record {
 entries_refiled : {R S : Registry} {to from : ℕ → ℕ} → Renumbered R S to from → All NumbersOnce (entries R) → All NumbersOnce (entries S)
 entries_refiled {R} {S} {to} {from} N h = all_entries NumbersOnce S once
   where
-    once : (j : ℕ) (e : Decl) → stands_for S j ≡ some e → NumbersOnce e
+    once : (j : ℕ) (e : Decl) → stands_for S j ≡ Some e → NumbersOnce e
     once j e p =
         let b = N.back j (entry_resolvable S j e p) in
         let m = moved N (from j) b.0 in
-        let q : m.after ≡ e = some-injective m.after e (sym m.stands ∙ (ap (stands_for S) b.1 ∙ p)) in
+        let q : m.after ≡ e = same_Some m.after e (sym m.stands ∙ (ap (stands_for S) b.1 ∙ p)) in
         subst NumbersOnce q (numbers_refiled m.anew (all_in NumbersOnce h (entry_in R (from j) m.before m.stood)))
 
 pub no_repeats_refiled : (s t : Schema) → Refiled s t → NoRepeats s → NoRepeats t

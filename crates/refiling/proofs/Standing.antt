@@ -2,7 +2,7 @@
 use mathlib.Core.Path.{◌≡◌, refl, sym, ap, ◌∙◌, subst}
 use mathlib.Core.Bool.{Bool, ◌&&◌}
 use mathlib.Core.Logic.{◌⊎◌, inl, inr}
-use mathlib.Core.Option.{Option, none, some}
+use Rattle.std.specs.Prelude.{Option, None, Some}
 use mathlib.Core.List.{List, Forall₂}
 use Prim.Native.Nat.{ℕ}
 use Rattle.maps.specs.Orders.{before}
@@ -23,19 +23,19 @@ use Rattle.refiling.proofs.Clauses.{moved, impls_turn, LikeDecl, refiled, impls,
 -- ---- what stands
 
 module _ {R S : Registry} {to from : ℕ → ℕ} (N : Renumbered R S to from) where
-  put_none : {j : ℕ} {is js : List ℕ} → stands_for S j ≡ none → Put j is js → listed S is ≡ listed S js
+  put_none : {j : ℕ} {is js : List ℕ} → stands_for S j ≡ None → Put j is js → listed S is ≡ listed S js
   unfolding listed resolved
   put_none p here = rw p
   put_none p (later {b = b} q) = ap (resolved (stands_for S b)) (put_none p q)
 
-  put_some : {j : ℕ} {e : Decl} {is js : List ℕ} → stands_for S j ≡ some e → Put j is js → Put e (listed S is) (listed S js)
+  put_some : {j : ℕ} {e : Decl} {is js : List ℕ} → stands_for S j ≡ Some e → Put j is js → Put e (listed S is) (listed S js)
   unfolding listed resolved
   put_some p here = rw p here
   put_some {e = e} p (later {b = b} {l = l} {m = m} q) = go (stands_for S b) (put_some p q)
     where
       go : (o : Option Decl) → Put e (listed S l) (listed S m) → Put e (resolved o (listed S l)) (resolved o (listed S m))
-      go none ih = ih
-      go (some d) ih = later ih
+      go None ih = ih
+      go (Some d) ih = later ih
 
   -- the listed declarations are refiled, in any order
   pub listed_refiled : {is js : List ℕ} → Reordered (RefiledId R S to) is js → Reordered (RefiledDecl R S to) (listed R is) (listed S js)

@@ -1,6 +1,7 @@
 -- For examples: a renumbering shown entry by entry, and what is filed anew piece by piece. Assumes nothing.
 use mathlib.Core.Path.{◌≡◌, refl, sym, ◌∙◌, subst}
-use mathlib.Core.Option.{Option, none, some, some-injective, none-ne-some}
+use Rattle.std.specs.Prelude.{Option, None, Some}
+use Rattle.std.proofs.lemmas.Option.{same_Some, none-some}
 use mathlib.Core.List.{List, [], ◌∷◌}
 use Prim.Native.Nat.{ℕ, zero, suc}
 use native.Mathlib.Omega.{arith}
@@ -17,24 +18,24 @@ use Rattle.refiling.proofs.Repeats.{entry_resolvable}
 -- P of the number and the declaration of each entry that is not empty; n numbers the entries
 unfoldable pub Rows : (ℕ → Decl → Type 0) → Registry → (ℕ → ℕ) → Type 0
 Rows P [] n = Unit {0}
-Rows P (none ∷ R) n = Rows P R (λ k. n (suc k))
-Rows P (some d ∷ R) n = P (n 0) d × Rows P R (λ k. n (suc k))
+Rows P (None ∷ R) n = Rows P R (λ k. n (suc k))
+Rows P (Some d ∷ R) n = P (n 0) d × Rows P R (λ k. n (suc k))
 
-row : (P : ℕ → Decl → Type 0) (R : Registry) (n : ℕ → ℕ) → Rows P R n → (i : ℕ) (d : Decl) → stands_for R i ≡ some d → P (n i) d
+row : (P : ℕ → Decl → Type 0) (R : Registry) (n : ℕ → ℕ) → Rows P R n → (i : ℕ) (d : Decl) → stands_for R i ≡ Some d → P (n i) d
 unfolding Rows stands_for
-row P [] n h i d p = absurd (none-ne-some d p)
-row P (none ∷ R) n h zero d p = absurd (none-ne-some d p)
-row P (none ∷ R) n h (suc i) d p = row P R (λ k. n (suc k)) h i d p
-row P (some e ∷ R) n h zero d p = subst (P (n 0)) (some-injective e d p) h.0
-row P (some e ∷ R) n h (suc i) d p = row P R (λ k. n (suc k)) h.1 i d p
+row P [] n h i d p = absurd (none-some d p)
+row P (None ∷ R) n h zero d p = absurd (none-some d p)
+row P (None ∷ R) n h (suc i) d p = row P R (λ k. n (suc k)) h i d p
+row P (Some e ∷ R) n h zero d p = subst (P (n 0)) (same_Some e d p) h.0
+row P (Some e ∷ R) n h (suc i) d p = row P R (λ k. n (suc k)) h.1 i d p
 
 module _ (R S : Registry) (to from : ℕ → ℕ) where
   -- what is shown of an entry of R, and of one of S
   abbrev pub There : ℕ → Decl → Type 0
-  There i d = (e : Decl) × (stands_for S (to i) ≡ some e) × (from (to i) ≡ i) × RefiledDecl R S to d e
+  There i d = (e : Decl) × (stands_for S (to i) ≡ Some e) × (from (to i) ≡ i) × RefiledDecl R S to d e
 
   abbrev pub Back : ℕ → Decl → Type 0
-  Back j e = (d : Decl) × (stands_for R (from j) ≡ some d) × (to (from j) ≡ j)
+  Back j e = (d : Decl) × (stands_for R (from j) ≡ Some d) × (to (from j) ≡ j)
 
   pub renumbered_by : Rows There R (λ i. i) → Rows Back S (λ j. j) → Renumbered R S to from
   renumbered_by there back = record {
@@ -42,21 +43,21 @@ module _ (R S : Registry) (to from : ℕ → ℕ) where
     back = λ j r. by_entry S j r (λ e p. let w = row Back S (λ k. k) back j e p in (entry_resolvable R (from j) w.0 w.1, w.2));
     entry = λ i d e p q.
         let w = row There R (λ k. k) there i d p in
-        subst (RefiledDecl R S to d) (some-injective w.0 e (sym w.1 ∙ q)) w.3;
+        subst (RefiledDecl R S to d) (same_Some w.0 e (sym w.1 ∙ q)) w.3;
   }
 
 -- ---- piece by piece
 
 abbrev pub plain_field : ℕ → Name → Ty → Field
 plain_field ordinal name t =
-    record { ordinal = ordinal; name = name; marks = unmarked; encoding = record { deltas = 0; base = 0 }; limit = none; type = t }
+    record { ordinal = ordinal; name = name; marks = unmarked; encoding = record { deltas = 0; base = 0 }; limit = None; type = t }
 
 abbrev pub item : ℕ → Name → List Field → Variant
 item ordinal name fs = record { ordinal = ordinal; name = name; fields = fs }
 
 module _ {R S : Registry} {to : ℕ → ℕ} where
   -- an id that has an entry, by its new number
-  pub moved_id : (i : ℕ) {d : Decl} → stands_for R i ≡ some d → RefiledId R S to i (to i)
+  pub moved_id : (i : ℕ) {d : Decl} → stands_for R i ≡ Some d → RefiledId R S to i (to i)
   moved_id i {d} p = renumbered (entry_resolvable R i d p) refl
 
   -- a node of another tag than 3

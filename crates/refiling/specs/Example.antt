@@ -1,7 +1,6 @@
 -- R-13 at work: two releases, each filed anew, in either format, with the report that all pairs get; how the readings of its premise differ; and what
 -- can't be left out of it. Assumes nothing.
-use Rattle.std.specs.Prelude.{◌≡◌, List, [], ◌∷◌, map, ℕ}
-use Rattle.std.proofs.Math.Option.{none, some}
+use Rattle.std.specs.Prelude.{◌≡◌, List, [], ◌∷◌, map, ℕ, None, Some}
 use Prim.Native.String.{String}
 use Rattle.image.specs.Schema.{unmarked, label, leaf, no_type, decl, Schema}
 use Rattle.image.specs.Codes.{number, message_kind, config_kind, bits_tag}
@@ -143,8 +142,8 @@ abbrev pub two_messages : Schema
 two_messages = record {
   format = 1;
   registry =
-      some (decl (number message_kind) (bytes "A") unmarked none (field 0 "x" unmarked none u8 ∷ []) [] no_type)
-      ∷ some (decl (number message_kind) (bytes "A") unmarked none [] [] no_type)
+      Some (decl (number message_kind) (bytes "A") unmarked None (field 0 "x" unmarked None u8 ∷ []) [] no_type)
+      ∷ Some (decl (number message_kind) (bytes "A") unmarked None [] [] no_type)
       ∷ [];
   ids = 0 ∷ 1 ∷ [];
   namespace = [];
@@ -152,7 +151,7 @@ two_messages = record {
 
 -- an id listed twice
 abbrev pub id_twice : Schema
-id_twice = listing (message (field 0 "x" unmarked none u8 ∷ [])) (0 ∷ 0 ∷ [])
+id_twice = listing (message (field 0 "x" unmarked None u8 ∷ [])) (0 ∷ 0 ∷ [])
 
 -- neither is more than the other
 pub record Readings : Type 0 where
@@ -167,20 +166,20 @@ pub record Readings : Type 0 where
 abbrev pub unnamed : Schema
 unnamed = record {
   format = 1;
-  registry = some impl ∷ some (decl (number message_kind) [] unmarked none [] [] no_type) ∷ [];
+  registry = Some impl ∷ Some (decl (number message_kind) [] unmarked None [] [] no_type) ∷ [];
   ids = 0 ∷ 1 ∷ [];
   namespace = [];
 }
 
 -- a message with ordinal 3 twice, and the same the other way round
 abbrev pub twice : Schema
-twice = message (field 3 "x" unmarked none f32 ∷ field 3 "y" unmarked none u8 ∷ [])
+twice = message (field 3 "x" unmarked None f32 ∷ field 3 "y" unmarked None u8 ∷ [])
 
 abbrev pub turned : Schema
-turned = message (field 3 "y" unmarked none u8 ∷ field 3 "x" unmarked none f32 ∷ [])
+turned = message (field 3 "y" unmarked None u8 ∷ field 3 "x" unmarked None f32 ∷ [])
 
 abbrev pub single : Schema
-single = message (field 3 "y" unmarked none u8 ∷ [])
+single = message (field 3 "y" unmarked None u8 ∷ [])
 
 -- newtype A of inline bits
 abbrev pub of_bits : List String → Schema
@@ -188,7 +187,7 @@ of_bits names = newtype (leaf (label (number bits_tag) 0 0 (map bytes names))) [
 
 -- newtype A of the named type with id 1, a config of that name
 abbrev pub of_named : String → Schema
-of_named name = newtype (named 1) (some (decl (number config_kind) (bytes name) unmarked none [] [] no_type) ∷ [])
+of_named name = newtype (named 1) (Some (decl (number config_kind) (bytes name) unmarked None [] [] no_type) ∷ [])
 
 pub record Needed : Type 0 where
   -- Without the premise the claim would be false: which of two messages of one name stands depends on the order, and so it is with an impl

@@ -1,7 +1,6 @@
 -- R-13 of document 02, "Filing order must not matter": when a schema has no repeats, when one is another filed anew, and what is claimed of
 -- the calls then. Assumes nothing.
-use Rattle.std.specs.Prelude.{◌≡◌, ◌⊎◌, Bool, List, [], ◌∷◌, ℕ, ◌≤◌, length, take}
-use Rattle.std.proofs.Math.Option.{none, some}
+use Rattle.std.specs.Prelude.{◌≡◌, ◌⊎◌, Bool, List, [], ◌∷◌, ℕ, ◌≤◌, length, take, None, Some}
 use Rattle.maps.specs.Lists.{All}
 use Rattle.maps.specs.Reordered.{Reordered, EachTwo, Once}
 use Rattle.image.specs.Schema.{Name, Label, label, Ty, leaf, one, two, Field, Variant, Decl, Schema}
@@ -53,7 +52,7 @@ pub record ListedOnce (s : Schema) : Type 0 where
 
 -- "An id that is N or more, or whose entry is empty, is unresolvable"
 unfoldable pub Unresolvable : Registry → ℕ → Type 0
-Unresolvable R i = stands_for R i ≡ none
+Unresolvable R i = stands_for R i ≡ None
 
 unfoldable pub Resolvable : Registry → ℕ → Type 0
 Resolvable R i = Unresolvable R i → ⊥
@@ -103,7 +102,7 @@ module _ (R S : Registry) (to : ℕ → ℕ) where
 pub record Renumbered (R S : Registry) (to from : ℕ → ℕ) : Type 0 where
   pub there : (i : ℕ) → Resolvable R i → Resolvable S (to i) × (from (to i) ≡ i)
   pub back : (j : ℕ) → Resolvable S j → Resolvable R (from j) × (to (from j) ≡ j)
-  pub entry : (i : ℕ) (d e : Decl) → stands_for R i ≡ some d → stands_for S (to i) ≡ some e → RefiledDecl R S to d e
+  pub entry : (i : ℕ) (d e : Decl) → stands_for R i ≡ Some d → stands_for S (to i) ≡ Some e → RefiledDecl R S to d e
 
 -- t is s filed anew, in the same format or in another
 pub record Refiled (s t : Schema) : Type 0 where

@@ -1,35 +1,69 @@
-// The calls on two images, by the verdict that they are of: that of 01, the one with imports, or the mended one.
+// The calls on two images, by the verdict that they are of.
 
 #[derive(Clone, Copy)]
-pub enum Verdict {
-    Plain,
-    Imports,
-    Mended,
+pub struct Pair<'a> {
+    pub old: &'a [u8],
+    pub new: &'a [u8],
 }
 
-// One value of the verdict, by its selector.
-pub fn value(of: Verdict, old: &[u8], new: &[u8], selector: u64) -> u64 {
-    match of {
-        Verdict::Plain => vexil_compat::vexil_compat_verdict(old, new, selector),
-        Verdict::Imports => vexil_compat::vexil_compat_imports_verdict(old, new, selector),
-        Verdict::Mended => vexil_compat::vexil_compat_mended_verdict(old, new, selector),
+pub trait Verdict {
+    // One value, by its selector.
+    fn value(pair: Pair<'_>, selector: u64) -> u64;
+
+    // All values; the number is returned.
+    fn values(pair: Pair<'_>, out: &mut [u64]) -> u64;
+
+    // The report; its length is returned.
+    fn report(pair: Pair<'_>, out: &mut [u8]) -> u64;
+}
+
+// That of 01.
+pub struct Plain;
+
+impl Verdict for Plain {
+    fn value(pair: Pair<'_>, selector: u64) -> u64 {
+        vexil_compat::vexil_compat_verdict(pair.old, pair.new, selector)
+    }
+
+    fn values(pair: Pair<'_>, out: &mut [u64]) -> u64 {
+        vexil_compat::vexil_compat_values(pair.old, pair.new, out)
+    }
+
+    fn report(pair: Pair<'_>, out: &mut [u8]) -> u64 {
+        vexil_compat::vexil_compat_report(pair.old, pair.new, out)
     }
 }
 
-// All values of the verdict; the number is returned.
-pub fn all_values(of: Verdict, old: &[u8], new: &[u8], out: &mut [u64]) -> u64 {
-    match of {
-        Verdict::Plain => vexil_compat::vexil_compat_values(old, new, out),
-        Verdict::Imports => vexil_compat::vexil_compat_imports_values(old, new, out),
-        Verdict::Mended => vexil_compat::vexil_compat_mended_values(old, new, out),
+// The one with imports.
+pub struct Imports;
+
+impl Verdict for Imports {
+    fn value(pair: Pair<'_>, selector: u64) -> u64 {
+        vexil_compat::vexil_compat_imports_verdict(pair.old, pair.new, selector)
+    }
+
+    fn values(pair: Pair<'_>, out: &mut [u64]) -> u64 {
+        vexil_compat::vexil_compat_imports_values(pair.old, pair.new, out)
+    }
+
+    fn report(pair: Pair<'_>, out: &mut [u8]) -> u64 {
+        vexil_compat::vexil_compat_imports_report(pair.old, pair.new, out)
     }
 }
 
-// The report; its length is returned.
-pub fn report(of: Verdict, old: &[u8], new: &[u8], out: &mut [u8]) -> u64 {
-    match of {
-        Verdict::Plain => vexil_compat::vexil_compat_report(old, new, out),
-        Verdict::Imports => vexil_compat::vexil_compat_imports_report(old, new, out),
-        Verdict::Mended => vexil_compat::vexil_compat_mended_report(old, new, out),
+// The mended one.
+pub struct Mended;
+
+impl Verdict for Mended {
+    fn value(pair: Pair<'_>, selector: u64) -> u64 {
+        vexil_compat::vexil_compat_mended_verdict(pair.old, pair.new, selector)
+    }
+
+    fn values(pair: Pair<'_>, out: &mut [u64]) -> u64 {
+        vexil_compat::vexil_compat_mended_values(pair.old, pair.new, out)
+    }
+
+    fn report(pair: Pair<'_>, out: &mut [u8]) -> u64 {
+        vexil_compat::vexil_compat_mended_report(pair.old, pair.new, out)
     }
 }

@@ -1,58 +1,57 @@
 // What a run has counted.
+use std::fmt;
 
 // Of so many pairs false answers are compared too, each of which must be counted as a difference.
 const FALSIFIED: u64 = 8;
 
-#[derive(Clone, Copy)]
+#[derive(Clone, Copy, Default)]
 pub struct Tally {
-    pub pairs: u64,
-    pub differences: u64,
-    pub falsified: u64,
-    pub caught: u64,
+    pairs: u64,
+    differences: u64,
+    falsified: u64,
+    caught: u64,
 }
 
-#[derive(Clone, Copy)]
-pub enum Step {
-    Next(Tally),
-    // The file is not as it should be.
-    Broken,
-}
-
-// One more.
-pub fn more(x: u64) -> u64 {
-    x.wrapping_add(1)
-}
-
-// Whether false answers are compared with this pair's.
-pub fn falsifies(t: Tally) -> bool {
-    t.pairs < FALSIFIED
-}
-
-// A difference, if there is one.
-pub fn told(t: Tally, differs: bool) -> Tally {
-    let mut next = t;
-    if differs {
-        next.differences = more(t.differences);
+impl Tally {
+    // Whether false answers are compared with this pair's.
+    pub fn falsifies(&self) -> bool {
+        self.pairs < FALSIFIED
     }
-    next
+
+    pub fn differences(&self) -> u64 {
+        self.differences
+    }
+
+    // A pair, once all of it is compared.
+    pub fn count_pair(&mut self) {
+        self.pairs = self.pairs.saturating_add(1);
+    }
+
+    // A difference, if there is one.
+    pub fn tell(&mut self, differs: bool) {
+        self.differences = self.differences.saturating_add(u64::from(differs));
+    }
+
+    // A false answer, and whether it was told from the one that was got.
+    pub fn falsify(&mut self, differs: bool) {
+        self.falsified = self.falsified.saturating_add(1);
+        self.caught = self.caught.saturating_add(u64::from(differs));
+    }
+
+    // A number beside the recorded one, and of the first pairs beside a false one.
+    pub fn compare(&mut self, got: u64, recorded: u64) {
+        self.tell(got != recorded);
+        if self.falsifies() {
+            self.falsify(got != u64::from(recorded == 0));
+        }
+    }
 }
 
-// A false answer, and whether it was told from the one that was got.
-pub fn falsified(t: Tally, differs: bool) -> Tally {
-    let mut next = t;
-    next.falsified = more(t.falsified);
-    if differs {
-        next.caught = more(t.caught);
+impl fmt::Display for Tally {
+    fn fmt<W: fmt::Write>(&self, f: &mut fmt::Formatter<W>) -> fmt::Result {
+        writeln!(f, "pairs: {}", self.pairs)?;
+        writeln!(f, "differences: {}", self.differences)?;
+        writeln!(f, "falsified answers: {}", self.falsified)?;
+        write!(f, "counted as differences: {}", self.caught)
     }
-    next
-}
-
-// A number beside the recorded one, and of the first pairs beside a false one.
-pub fn compared(t: Tally, got: u64, recorded: u64) -> Tally {
-    let next = told(t, got != recorded);
-    if !falsifies(t) {
-        return next;
-    }
-    let wrong = if recorded == 0 { 1 } else { 0 };
-    falsified(next, got != wrong)
 }

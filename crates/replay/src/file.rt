@@ -1,71 +1,47 @@
 // The file of recorded answers, read in order. tools/oracle/README.md describes it.
+use std::fmt;
+use std::io::{self, Read};
 
-ghost use Rattle.std.specs.Prelude.{◌<◌};
-
-use std::io::Read;
-
-// A number of the file.
+// The file is not as it should be.
 #[derive(Clone, Copy)]
-pub enum Number {
-    Is(usize),
-    // The file ended before it.
-    Ended,
-}
+pub struct Broken;
 
-// Fills the first n bytes of buf; false where the file ends before, or buf has fewer.
-pub fn fill(file: &mut impl Read, buf: &mut [u8], n: usize) -> bool {
-    if buf.len() < n {
-        return false;
+impl fmt::Display for Broken {
+    fn fmt<W: fmt::Write>(&self, f: &mut fmt::Formatter<W>) -> fmt::Result {
+        write!(f, "the file is not as it should be")
     }
-    file.read_exact(&mut buf[..n]).is_ok()
 }
 
-// The first n bytes of buf, or all where it has fewer.
-pub fn first(buf: &[u8], n: usize) -> &[u8] {
-    if buf.len() < n {
-        return buf;
+impl From<io::Error> for Broken {
+    fn from(_error: io::Error) -> Broken {
+        Broken
     }
-    &buf[..n]
 }
 
-// A byte as a number.
-pub fn wide(x: u8) -> usize
-    ensures { result < 256 }
-{
-    x as usize
+// The next N bytes.
+pub fn read_array<const N: usize>(file: &mut impl Read) -> io::Result<[u8; N]> {
+    let mut bytes = [0; N];
+    file.read_exact(&mut bytes)?;
+    Ok(bytes)
 }
 
 // A number of one byte.
-pub fn read_u8(file: &mut impl Read) -> Number {
-    let mut b = [0u8; 1];
-    if !fill(file, &mut b, 1) {
-        return Number::Ended;
-    }
-    Number::Is(wide(b[0]))
+pub fn read_u8(file: &mut impl Read) -> io::Result<u8> {
+    Ok(u8::from_le_bytes(read_array(file)?))
 }
 
 // A number of four bytes, the lowest first.
-pub fn read_u32(file: &mut impl Read) -> Number {
-    let mut b = [0u8; 4];
-    if !fill(file, &mut b, 4) {
-        return Number::Ended;
-    }
-    Number::Is(wide(b[0]) + 256 * (wide(b[1]) + 256 * (wide(b[2]) + 256 * wide(b[3]))))
+pub fn read_u32(file: &mut impl Read) -> io::Result<u32> {
+    Ok(u32::from_le_bytes(read_array(file)?))
 }
 
-// Passes over n bytes; false where the file ends before.
-pub fn pass(file: &mut impl Read, n: usize) -> bool {
-    let mut left = n;
-    while 4096 < left {
-        if !pass_some(file, 4096) {
-            return false;
-        }
-        left -= 4096;
-    }
-    pass_some(file, left)
-}
-
-fn pass_some(file: &mut impl Read, n: usize) -> bool {
-    let mut buf = [0u8; 4096];
-    fill(file, &mut buf, n)
+// The next bytes, in a buffer that has room for so many: a length of the file takes no more memory than that.
+pub fn read_bytes<'a>(
+    file: &mut impl Read,
+    length: usize,
+    room: &'a mut [u8],
+) -> Result<&'a [u8], Broken> {
+    let bytes = room.get_mut(..length).ok_or(Broken)?;
+    file.read_exact(bytes)?;
+    Ok(bytes)
 }

@@ -1,58 +1,50 @@
 // The listing calls on one image beside what is recorded of it.
-use crate::counting::{Step, Tally, compared};
-use crate::file::Number;
-use crate::texts::Call;
-use crate::{file, texts};
+use crate::counting::Tally;
+use crate::file::{Broken, read_u32};
+use crate::texts::{Text, replay_refused};
 use std::io::Read;
 
-// One selector of the listing's verdict.
-fn replay_value(image: &[u8], room: u64, selector: u64, wanted: u64, t: Tally) -> Tally {
-    let got = vexil_compat::vexil_compat_listing_verdict(image, room, selector);
-    compared(t, got, wanted)
-}
-
-// The listing's verdict: number, side and length; a refusal is Major and Breaking; and selectors that give 0.
-fn replay_verdict(image: &[u8], room: u64, number: usize, length: usize, t: Tally) -> Tally {
-    let side = if number == 0 { 0 } else { 1 };
-    let bump = if number == 0 { 0 } else { 2 };
-    let next = replay_value(image, room, 0, number as u64, t);
-    let next = replay_value(image, room, 1, side, next);
-    let next = replay_value(image, room, 2, bump, next);
-    let next = replay_value(image, room, 3, side, next);
-    let next = replay_value(image, room, 4, length as u64, next);
-    let next = replay_value(image, room, 5, 0, next);
-    replay_value(image, room, 18446744073709551615, 0, next)
-}
-
-// An image that is refused.
-fn replay_refused(image: &[u8], number: usize, t: Tally) -> Tally {
-    let next = replay_verdict(image, 0, number, 0, t);
-    let next = replay_verdict(image, 18446744073709551615, number, 0, next);
-    texts::replay_refused(Call::Listing, image, image, next)
-}
-
-// 12 with one byte too few; no buffer is too short for an empty listing.
-fn replay_full(image: &[u8], length: usize, t: Tally) -> Tally {
-    if length == 0 {
-        return t;
+// The listing's verdict for a buffer of so many bytes: number, side and length; a refusal is Major and Breaking; and selectors that give 0.
+fn replay_verdict(image: &[u8], room: u64, number: u64, length: u64, tally: &mut Tally) {
+    let refused = u64::from(number != 0);
+    let values = [
+        (0, number),
+        (1, refused),
+        (2, 2 * refused),
+        (3, refused),
+        (4, length),
+        (5, 0),
+        (u64::MAX, 0),
+    ];
+    for (selector, value) in values {
+        let got = vexil_compat::vexil_compat_listing_verdict(image, room, selector);
+        tally.compare(got, value);
     }
-    replay_verdict(image, (length - 1) as u64, 12, 0, t)
 }
 
 // The listing of an image to which the reader gives a number.
-pub fn replay_listing(file: &mut impl Read, image: &[u8], number: usize, t: Tally) -> Step {
-    let size = file::read_u32(file);
-    let Number::Is(length) = size else {
-        return Step::Broken;
-    };
-    let mut bytes = texts::blank();
-    if !file::fill(file, &mut bytes, length) {
-        return Step::Broken;
-    }
+pub fn replay_listing(
+    file: &mut impl Read,
+    image: &[u8],
+    number: u64,
+    tally: &mut Tally,
+) -> Result<(), Broken> {
+    let size = read_u32(file)?;
+    let text = Text::read(file, size as usize)?;
+    let list = |out: &mut [u8]| vexil_compat::vexil_compat_listing(image, out);
     if number != 0 {
-        return Step::Next(replay_refused(image, number, t));
+        for room in [0, u64::MAX] {
+            replay_verdict(image, room, number, 0, tally);
+        }
+        replay_refused(&list, tally);
+        return Ok(());
     }
-    let next = replay_verdict(image, length as u64, 0, length, t);
-    let next = replay_full(image, length, next);
-    Step::Next(texts::replay_text(Call::Listing, image, image, length, &mut bytes, next))
+    let length = u64::from(size);
+    replay_verdict(image, length, 0, length, tally);
+    // 12 with one byte too few; no buffer is too short for an empty listing.
+    if let Some(short) = length.checked_sub(1) {
+        replay_verdict(image, short, 12, 0, tally);
+    }
+    text.replay(&list, tally);
+    Ok(())
 }

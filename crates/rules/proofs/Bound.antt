@@ -1,7 +1,8 @@
 -- The report of two accepted images is shorter than 2^62 bytes, and so is every value that the verdict call selects. Assumes nothing.
 use mathlib.Core.Path.{◌≡◌, ap}
 use mathlib.Core.Bool.{Bool, true, false, cond}
-use mathlib.Core.Option.{Option, none, some, none-ne-some}
+use Rattle.std.specs.Prelude.{Option, None, Some}
+use Rattle.std.proofs.lemmas.Option.{none-some}
 use mathlib.Core.List.{List, [], ◌∷◌, ◌++◌}
 use Prim.Native.Nat.{ℕ, zero, suc, ◌+◌, ◌*◌, ◌^◌, ◌≤◌, ◌<◌}
 use native.Mathlib.Omega.{arith}
@@ -47,7 +48,7 @@ ids_fewer id [] = omega arith
 ids_fewer id (true ∷ m) = omega (arith, ids_fewer (suc id) m)
 ids_fewer id (false ∷ m) = omega (arith, ids_fewer (suc id) m)
 
-entry_small : (R : Registry) (id : ℕ) → All Small R → Small (get_or R id none)
+entry_small : (R : Registry) (id : ℕ) → All Small R → Small (get_or R id None)
 unfolding All Small
 entry_small [] id h = tt
 entry_small (e ∷ R) zero h = h.0
@@ -55,34 +56,34 @@ entry_small (e ∷ R) (suc id) h = entry_small R id h.1
 
 small_short : (o : Option Decl) → Small o → names_size (name_or_none o) ≤ 32769
 unfolding Small name_or_none names_size total decl_size
-small_short none h = omega arith
-small_short (some d) h = omega arith
+small_short None h = omega arith
+small_short (Some d) h = omega arith
 
 held_short : (x : Schema) → Held x → Short x.registry
 unfolding stands_for
-held_short x h = record { short = λ id. small_short (get_or x.registry id none) (entry_small x.registry id h.entries) }
+held_short x h = record { short = λ id. small_short (get_or x.registry id None) (entry_small x.registry id h.entries) }
 
 module _ (R : Registry) (h : All Small R) where
   resolved_small : (o : Option Decl) → Small o → (ds : List Decl) → All (λ d. decl_size d ≤ 32768) ds
       → All (λ d. decl_size d ≤ 32768) (resolved o ds)
   unfolding resolved Small All
-  resolved_small none p ds q = q
-  resolved_small (some d) p ds q = (p, q)
+  resolved_small None p ds q = q
+  resolved_small (Some d) p ds q = (p, q)
 
   listed_small : (ids : List ℕ) → All (λ d. decl_size d ≤ 32768) (listed R ids)
   unfolding listed stands_for All
   listed_small [] = tt
-  listed_small (id ∷ ids) = resolved_small (get_or R id none) (entry_small R id h) (listed R ids) (listed_small ids)
+  listed_small (id ∷ ids) = resolved_small (get_or R id None) (entry_small R id h) (listed R ids) (listed_small ids)
 
   resolved_total : (o : Option Decl) → Small o → (ds : List Decl) → total decl_size (resolved o ds) ≤ 32768 + total decl_size ds
   unfolding resolved Small total
-  resolved_total none p ds = omega arith
-  resolved_total (some d) p ds = omega arith
+  resolved_total None p ds = omega arith
+  resolved_total (Some d) p ds = omega arith
 
   listed_total : (ids : List ℕ) → total decl_size (listed R ids) ≤ 32768 * length ids
   unfolding listed stands_for total
   listed_total [] = omega arith
-  listed_total (id ∷ ids) = omega (arith, resolved_total (get_or R id none) (entry_small R id h) (listed R ids), listed_total ids)
+  listed_total (id ∷ ids) = omega (arith, resolved_total (get_or R id None) (entry_small R id h) (listed R ids), listed_total ids)
 
 module _ (m : IdSet) (x : Schema) (h : Held x) where
   standing_small : All (λ d. decl_size d ≤ 32768) (standing_with m x)
@@ -137,8 +138,8 @@ Low f = (f.number < 2 ^ 62) × (f.side < 2 ^ 62)
 pub record Bounded (p : Policy) : Type 0 where
   pub view : (x : Schema) → Held x → Sized (p.view x)
   pub light : Light p.reading
-  pub alone : (x : Schema) (k : ℕ) → p.alone x ≡ some k → k < 2 ^ 62
-  pub pair : (x y : Schema) (f : Fault) → first_fault p.pair x y ≡ some f → Low f
+  pub alone : (x : Schema) (k : ℕ) → p.alone x ≡ Some k → k < 2 ^ 62
+  pub pair : (x y : Schema) (f : Fault) → first_fault p.pair x y ≡ Some f → Low f
 
 module _ (p : Policy) (b : Bounded p) where
   held_bound : (x y : Schema) → Held x → Held y → length (report (changes p.reading (p.view x) (p.view y))) < 2 ^ 62
@@ -222,7 +223,7 @@ pub usual_bounded : (view : Schema → View) (reading : Reading) → ((x : Schem
 usual_bounded view reading sized light = record {
   view = sized;
   light = light;
-  alone = λ x k e. absurd (none-ne-some k e);
+  alone = λ x k e. absurd (none-some k e);
   pair = λ x y f e.
       let q = (usual_fault view x y f e).1 in
       (omega (arith, ap (λ (g : Fault). g.number) q), omega (arith, ap (λ (g : Fault). g.side) q));

@@ -2,7 +2,7 @@
 -- the second. Over any views whose standing declarations rise by name, and any lawful reading. Assumes nothing.
 use mathlib.Core.Path.{◌≡◌, refl, ap, subst}
 use mathlib.Core.Bool.{Bool, true, false, cond, not}
-use mathlib.Core.Option.{Option, some}
+use Rattle.std.specs.Prelude.{Option, Some}
 use mathlib.Core.List.{List}
 use Prim.Native.Nat.{ℕ, ◌≤◌, max}
 use native.Mathlib.Omega.{arith}
@@ -172,7 +172,7 @@ module _ {r : Reading} {odd : Ty → Bool} (lawful : Lawful r odd) (P Q R : Regi
   unfolding compare_fields
   fields_chained b d₁ d₂ d₃ f g h =
       chained_append (names_chained b (compare_field_names d₁ f g) (compare_field_names d₂ g h) d₃ f h)
-      (chained_append (types_chained b d₁ d₂ d₃ (some g.name) (some h.name) (some h.name) (field_text g) (field_text h) (field_text h)
+      (chained_append (types_chained b d₁ d₂ d₃ (Some g.name) (Some h.name) (Some h.name) (field_text g) (field_text h) (field_text h)
       f.type g.type h.type)
       (chained_append (encodings_chained b d₁ d₂ d₃ f g h)
       (deprecated_chained b _ _ d₃ _ _ f.marks h.marks)))

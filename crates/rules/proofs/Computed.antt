@@ -1,12 +1,11 @@
 -- What is unfolded where an image is read, and where a report is computed: for what holds by computation from the definitions alone. A new
 -- definition on the way to a report is added here. Assumes nothing.
-use mathlib.Core.Option.{or_else}
 use mathlib.Core.List.{List, flat_map}
 use Prim.Native.Nat.{ℕ}
 use Rattle.maps.specs.Lists.{pass, largest, total, count}
 use Rattle.maps.specs.Orders.{same, before, order_of}
 use Rattle.maps.specs.Keyed.{insert, survivors, lookup}
-use Rattle.maps.specs.Walk.{is_some}
+use Rattle.std.specs.Option.{is_some}
 use Rattle.maps.specs.Compare.{unmatched, matched, between, compare}
 use Rattle.image.specs.Schema.{Schema}
 use Rattle.image.specs.Parse.{Parsed, bind, pick, shift, within, part, byte_at, code_at, little_endian, number_at, many, counted}
@@ -41,5 +40,5 @@ unfolding flat_map digit hex image bind pick shift within part byte_at code_at l
 reads s = read_image s
 
 unfoldable pub reports : List ℕ → List ℕ → List ℕ
-unfolding reads pass largest total count same before order_of insert survivors lookup unmatched matched between compare bytes kind_of kind_word same_list same_option same_name same_names stands_for resolved listed declarations field_map variant_map view_of name_or_none resolve_label resolve vector same_label equal_label same_tree same_type holds_vector digits decimal joined word bool_word primitive_word semantic_word show_name show_leaf opening show_size show_type deltas_around show_encoding level only quoted numbered from_to show_namespace compare_namespaces compare_types field_text compare_field_names same_encoding compare_encodings compare_deprecated compare_fields field_rules compare_field_sets compare_messages variant_text variant_gone variant_came enum_bump enum_rules compare_non_exhaustive compare_enums bit_text flags_rules compare_flags variant_decl union_rules compare_unions compare_newtypes compare_kind kind_changed compare_alike compare_decls decl_text decl_rules changes bump_of result_of count_of alias is_alias any alias_pair change_word bump_word result_word field_part line change_line last_line report selected select text_length written counts first_fault judged on_side or_else compare_pair accept_new accept_old outcome verdict_by alias_check field_types variant_types types_of compared_types is_some named_label named_in named_of named_from member resolvable has mark mark_all named_by follow up_from round rounds first_set reached_set marked_ids view_with standing_with imports_view equal_trees likeness_by likeness read_as mended_type show_width compare_widths mixed mixed_check lines told
+unfolding reads pass largest total count same before order_of insert survivors lookup unmatched matched between compare bytes kind_of kind_word same_list same_option same_name same_names stands_for resolved listed declarations field_map variant_map view_of name_or_none resolve_label resolve vector same_label equal_label same_tree same_type holds_vector digits decimal joined word bool_word primitive_word semantic_word show_name show_leaf opening show_size show_type deltas_around show_encoding level only quoted numbered from_to show_namespace compare_namespaces compare_types field_text compare_field_names same_encoding compare_encodings compare_deprecated compare_fields field_rules compare_field_sets compare_messages variant_text variant_gone variant_came enum_bump enum_rules compare_non_exhaustive compare_enums bit_text flags_rules compare_flags variant_decl union_rules compare_unions compare_newtypes compare_kind kind_changed compare_alike compare_decls decl_text decl_rules changes bump_of result_of count_of alias is_alias any alias_pair change_word bump_word result_word field_part line change_line last_line report selected select text_length written counts first_fault judged on_side compare_pair accept_new accept_old outcome verdict_by alias_check field_types variant_types types_of compared_types named_label named_in named_of named_from member resolvable has mark mark_all named_by follow up_from round rounds first_set reached_set marked_ids view_with standing_with imports_view equal_trees likeness_by likeness read_as mended_type show_width compare_widths mixed mixed_check lines told
 reports old new = told old new

@@ -1,7 +1,7 @@
 -- The tests of specs/Equal are sound, and what holds of every sound test. Assumes nothing.
 use mathlib.Core.Path.{◌≡◌, refl, sym}
 use mathlib.Core.Bool.{Bool, true, false, ◌&&◌, beq, false≢true}
-use mathlib.Core.Option.{Option, none, some}
+use Rattle.std.specs.Prelude.{Option, None, Some}
 use mathlib.Core.List.{List, [], ◌∷◌}
 use lib.Dec.{eqb}
 use borrow.Author.Tests.{eqb-true, eq-eqb}
@@ -78,15 +78,15 @@ module _ {A : Type 0} {same : A → A → Bool} (S : Sound same never) where
 
   option_equal : (a b : Option A) → same_option same a b ≡ true → a ≡ b
   unfolding same_option
-  option_equal none none e = refl
-  option_equal none (some b) e = absurd (false≢true e)
-  option_equal (some a) none e = absurd (false≢true e)
-  option_equal (some a) (some b) e = cc (S.equal a b e)
+  option_equal None None e = refl
+  option_equal None (Some b) e = absurd (false≢true e)
+  option_equal (Some a) None e = absurd (false≢true e)
+  option_equal (Some a) (Some b) e = cc (S.equal a b e)
 
   option_self : (a : Option A) → same_option same a a ≡ true
   unfolding same_option
-  option_self none = refl
-  option_self (some a) = S.self a
+  option_self None = refl
+  option_self (Some a) = S.self a
 
   pub options : Sound (same_option same) never
   options = record { equal = option_equal; self = option_self }

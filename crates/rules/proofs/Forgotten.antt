@@ -3,13 +3,13 @@
 use mathlib.Core.Path.{◌≡◌, refl, sym, ap, ◌∙◌}
 use mathlib.Core.Bool.{Bool, ◌&&◌}
 use mathlib.Core.List.{List, [], ◌∷◌, map, flat_map}
-use mathlib.Core.Option.{Option, none, some, map as map_option}
+use Rattle.std.specs.Prelude.{Option, None, Some, option_map}
 use Prim.Native.Nat.{ℕ, zero, suc}
 use lib.ListN.{length, get_or-map}
 use Rattle.std.proofs.lemmas.List.{length-map}
 use Rattle.maps.specs.Orders.{before}
 use Rattle.maps.specs.Keyed.{survivors, lookup}
-use Rattle.maps.specs.Walk.{is_some}
+use Rattle.std.specs.Option.{is_some}
 use Rattle.maps.proofs.Mapped.{pass_same, survivors_map, lookup_map}
 use Rattle.image.specs.Schema.{Label, Ty, leaf, one, two, Decl}
 use Rattle.rules.specs.Survivors.{Registry, stands_for, resolved, listed, name_of, View}
@@ -27,15 +27,15 @@ pub record Keeps (g : Decl → Decl) : Type 0 where
 -- what is left of a registry, and of a view
 module _ (g : Decl → Decl) where
   abbrev pub registry_left : Registry → Registry
-  registry_left R = map (map_option g) R
+  registry_left R = map (option_map g) R
 
   abbrev pub view_left : View → View
   view_left v = record { namespace = v.namespace; standing = map g v.standing; registry = registry_left v.registry }
 
 module _ {g : Decl → Decl} (k : Keeps g) where
-  stands_forgotten : (R : Registry) (id : ℕ) → stands_for (registry_left g R) id ≡ map_option g (stands_for R id)
+  stands_forgotten : (R : Registry) (id : ℕ) → stands_for (registry_left g R) id ≡ option_map g (stands_for R id)
   unfolding stands_for
-  stands_forgotten R id = get_or-map (map_option g) R id none
+  stands_forgotten R id = get_or-map (option_map g) R id None
 
   -- ---- what is listed, and stands
 
@@ -44,9 +44,9 @@ module _ {g : Decl → Decl} (k : Keeps g) where
   listed_forgotten R [] = refl
   listed_forgotten R (id ∷ ids) = rw (stands_forgotten R id, listed_forgotten R ids) (go (stands_for R id))
     where
-      go : (o : Option Decl) → resolved (map_option g o) (map g (listed R ids)) ≡ map g (resolved o (listed R ids))
-      go none = refl
-      go (some d) = refl
+      go : (o : Option Decl) → resolved (option_map g o) (map g (listed R ids)) ≡ map g (resolved o (listed R ids))
+      go None = refl
+      go (Some d) = refl
 
   pub standing_forgotten : (R : Registry) (ids : List ℕ)
       → survivors name_of before (listed (registry_left g R) ids) ≡ map g (survivors name_of before (listed R ids))
@@ -54,10 +54,10 @@ module _ {g : Decl → Decl} (k : Keeps g) where
 
   -- ---- types
 
-  name_forgotten : (o : Option Decl) → name_or_none (map_option g o) ≡ name_or_none o
+  name_forgotten : (o : Option Decl) → name_or_none (option_map g o) ≡ name_or_none o
   unfolding name_or_none
-  name_forgotten none = refl
-  name_forgotten (some d) = rw (k.name d)
+  name_forgotten None = refl
+  name_forgotten (Some d) = rw (k.name d)
 
   label_forgotten : (R : Registry) (l : Label) → resolve_label (registry_left g R) l ≡ resolve_label R l
   unfolding resolve_label
@@ -71,10 +71,10 @@ module _ {g : Decl → Decl} (k : Keeps g) where
 
   -- ---- refusal 11
 
-  is_alias_forgotten : (o : Option Decl) → is_alias (map_option g o) ≡ is_alias o
+  is_alias_forgotten : (o : Option Decl) → is_alias (option_map g o) ≡ is_alias o
   unfolding is_alias alias
-  is_alias_forgotten none = refl
-  is_alias_forgotten (some d) = rw (k.kind d)
+  is_alias_forgotten None = refl
+  is_alias_forgotten (Some d) = rw (k.kind d)
 
   any_forgotten : (p q : Decl → Bool) → ((d : Decl) → p (g d) ≡ q d) → (m : List Decl) → any p (map g m) ≡ any q m
   unfolding any
@@ -100,15 +100,14 @@ module _ {g : Decl → Decl} (k : Keeps g) where
   pub named_from_forgotten : (v : View) → named_from (view_left g v) ≡ named_from v
   named_from_forgotten v = named_from_lem (view_left g v) ∙ named_forgotten v.standing ∙ sym (named_from_lem v)
 
-  named_by_forgotten : (o : Option Decl) → named_by (map_option g o) ≡ named_by o
+  named_by_forgotten : (o : Option Decl) → named_by (option_map g o) ≡ named_by o
   unfolding named_by
-  named_by_forgotten none = refl
-  named_by_forgotten (some d) = k.named d
+  named_by_forgotten None = refl
+  named_by_forgotten (Some d) = k.named d
 
-  is_some_forgotten : (o : Option Decl) → is_some (map_option g o) ≡ is_some o
-  unfolding is_some
-  is_some_forgotten none = refl
-  is_some_forgotten (some d) = refl
+  is_some_forgotten : (o : Option Decl) → is_some (option_map g o) ≡ is_some o
+  is_some_forgotten None = refl
+  is_some_forgotten (Some d) = refl
 
   module _ (R : Registry) where
     mark_forgotten : (m : IdSet) (id : ℕ) → mark (registry_left g R) m id ≡ mark R m id
@@ -127,7 +126,7 @@ module _ {g : Decl → Decl} (k : Keeps g) where
     round_forgotten : (m : IdSet) → round (registry_left g R) m ≡ round R m
     unfolding round
     round_forgotten m =
-        rw (length-map R (map_option g)) (pass_same (follow (registry_left g R)) (follow R) follow_forgotten m (up_from 0 (length R)))
+        rw (length-map R (option_map g)) (pass_same (follow (registry_left g R)) (follow R) follow_forgotten m (up_from 0 (length R)))
 
     pub rounds_forgotten : (n : ℕ) (m : IdSet) → rounds (registry_left g R) n m ≡ rounds R n m
     unfolding rounds

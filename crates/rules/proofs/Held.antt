@@ -1,7 +1,7 @@
 -- What an accepted image holds is no larger than the bytes that hold it. Assumes nothing.
 use mathlib.Core.Path.{◌≡◌, refl, ap}
 use mathlib.Core.Bool.{◌&&◌}
-use mathlib.Core.Option.{Option, none, some}
+use Rattle.std.specs.Prelude.{Option, None, Some}
 use mathlib.Core.List.{List, [], ◌∷◌}
 use Prim.Native.Nat.{ℕ, zero, suc, ◌+◌, ◌≤◌}
 use native.Mathlib.Omega.{arith}
@@ -165,7 +165,7 @@ bytes_take s at = sure_bind _ (byte_sure 8 s at) (λ b n q. sure_need _ _ (λ h.
 width_takes : (f : ℕ) (wire : List ℕ → ℕ → Parsed ℕ) (s : List ℕ) → ((at : ℕ) → Sure (λ w n. at ≤ n) (wire s at)) → (at : ℕ)
     → Sure (λ w n. at ≤ n) (width_at f wire s at)
 unfolding width_at
-width_takes f wire s h at = sure_pick _ (λ e. sure_bind _ (h at) (λ w n q. yields (some w) n q)) (λ e. yields none at (omega arith))
+width_takes f wire s h at = sure_pick _ (λ e. sure_bind _ (h at) (λ w n q. yields (Some w) n q)) (λ e. yields None at (omega arith))
 
 -- ---- bodies: with the kind, at least a byte each
 
@@ -210,16 +210,16 @@ body_takes f s =
 
 -- a declaration that an image can hold
 unfoldable pub Small : Option Decl → Type 0
-Small none = Unit {0}
-Small (some d) = decl_size d ≤ 32768
+Small None = Unit {0}
+Small (Some d) = decl_size d ≤ 32768
 
 module _ (f : ℕ) (s : List ℕ) (l : length s ≤ 32768) where
   entry_small : (i : ℕ) → Sure (λ e n. Small e) (entry_of f s i)
   unfolding entry_of Small
   entry_small i =
-      sure_pick _ (λ h. yields none 0 tt)
+      sure_pick _ (λ h. yields None 0 tt)
       (λ h. sure_bind _ (body_takes f (part (entry_offset s i) (entry_length s i) s))
-      (λ d n q. yields (some d) n (omega (arith, q, (part_length (entry_offset s i) (entry_length s i) s).1))))
+      (λ d n q. yields (Some d) n (omega (arith, q, (part_length (entry_offset s i) (entry_length s i) s).1))))
 
   entries_small : (count i : ℕ) → Sure (λ es n. All Small es × (length es ≡ count)) (entries_of f count s i)
   unfolding entries_of All

@@ -2,13 +2,13 @@
 -- Assumes nothing.
 use mathlib.Core.Path.{◌≡◌, refl, ap, ◌∙◌}
 use mathlib.Core.Bool.{true}
-use mathlib.Core.Option.{some}
+use Rattle.std.specs.Prelude.{Some}
 use mathlib.Core.List.{[], ◌∷◌, flat_map}
 use Prim.Native.Nat.{ℕ, zero, suc, ◌+◌, ◌≤◌, ◌<◌}
 use native.Mathlib.Omega.{arith}
 use Rattle.maps.specs.Lists.{pass}
 use Rattle.maps.specs.Keyed.{insert, survivors}
-use Rattle.maps.specs.Walk.{is_some}
+use Rattle.std.specs.Option.{is_some}
 use Rattle.maps.proofs.Tests.{no_both}
 use Rattle.image.specs.Schema.{Schema}
 use Rattle.image.specs.Kinds.{kind_of}
@@ -25,19 +25,19 @@ use Rattle.rules.proofs.Computed.{reports}
 -- ---- a chain of imports
 
 -- each entry of the chain is there
-link_at : (n from k : ℕ) → k < n → stands_for (links from n) k ≡ some (link (from + k))
+link_at : (n from k : ℕ) → k < n → stands_for (links from n) k ≡ Some (link (from + k))
 unfolding links stands_for
 link_at zero from k l = absurd (omega arith)
-link_at (suc n) from zero l = ap (λ i. some (link i)) (omega arith)
-link_at (suc n) from (suc k) l = link_at n (suc from) k (omega arith) ∙ ap (λ i. some (link i)) (omega arith)
+link_at (suc n) from zero l = ap (λ i. Some (link i)) (omega arith)
+link_at (suc n) from (suc k) l = link_at n (suc from) k (omega arith) ∙ ap (λ i. Some (link i)) (omega arith)
 
 module _ (n : ℕ) where
-  entry_at : (id : ℕ) → id ≤ n → stands_for (chain n).registry id ≡ some (link id)
+  entry_at : (id : ℕ) → id ≤ n → stands_for (chain n).registry id ≡ Some (link id)
   unfolding chain
-  entry_at id l = link_at (suc n) 0 id (omega arith) ∙ ap (λ i. some (link i)) (omega arith)
+  entry_at id l = link_at (suc n) 0 id (omega arith) ∙ ap (λ i. Some (link i)) (omega arith)
 
   there : (id : ℕ) → id ≤ n → resolvable (chain n).registry id ≡ true
-  unfolding resolvable is_some
+  unfolding resolvable
   there id l = ap is_some (entry_at id l)
 
   -- each names the next

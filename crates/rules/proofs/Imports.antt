@@ -3,7 +3,9 @@
 use mathlib.Core.Path.{◌≡◌, refl, sym, ap, ◌∙◌, subst}
 use mathlib.Core.Bool.{Bool, true, false, cond}
 use mathlib.Core.Logic.{⊎_elim}
-use mathlib.Core.Option.{Option, none, some, or_else, none-ne-some}
+use Rattle.std.specs.Prelude.{Option, None, Some}
+use Rattle.std.specs.Option.{option_or}
+use Rattle.std.proofs.lemmas.Option.{none-some}
 use mathlib.Core.List.Memᴰ
 use mathlib.Core.List.{List, [], ◌∷◌}
 use Prim.Native.Nat.{ℕ, ◌+◌}
@@ -53,11 +55,10 @@ module _ (s : Schema) where
 
   -- by what survives, and by the highest of the set
   stands_by : (name : Name) (o : Option Decl) → lookup name_of before name (declarations s) ≡ o
-      → (r : Option Decl) → Highest s.registry name (marked_ids 0 (reached_set s)) r → Stands s name (or_else o r)
-  unfolding or_else
-  stands_by name (some d) e r t = survivor e
-  stands_by name none e r (highest {id = id} i g n c) = imported e (ids_reached id i) g n (λ j f l w. c j f l (reached_ids j w))
-  stands_by name none e r (nowhere c) = absent e (λ j f l w. c j f l (reached_ids j w))
+      → (r : Option Decl) → Highest s.registry name (marked_ids 0 (reached_set s)) r → Stands s name (option_or o r)
+  stands_by name (Some d) e r t = survivor e
+  stands_by name None e r (highest {id = id} i g n c) = imported e (ids_reached id i) g n (λ j f l w. c j f l (reached_ids j w))
+  stands_by name None e r (nowhere c) = absent e (λ j f l w. c j f l (reached_ids j w))
 
   stands : (name : Name) → Stands s name (lookup name_of before name (imports_view s).standing)
   unfolding imports_view view_with set_entries
@@ -90,36 +91,36 @@ module _ (name : Name) where
   count_after [] h = refl
   count_after (f ∷ m) h = rw (name_test name f.name, before_other by_name name f.name h.0) (omega (arith, count_after m h.1))
 
-  count_found : (m : List Decl) (d : Decl) → Rising name_of before m → lookup name_of before name m ≡ some d → counted m ≡ 1
+  count_found : (m : List Decl) (d : Decl) → Rising name_of before m → lookup name_of before name m ≡ Some d → counted m ≡ 1
   unfolding count total lookup Rising
-  count_found [] d h e = absurd (none-ne-some d e)
+  count_found [] d h e = absurd (none-some d e)
   count_found (f ∷ m) d h e = rw (name_test name f.name) (go (same before name f.name) refl e (count_found m d h.1))
     where
-      go : (u : Bool) → same before name f.name ≡ u → cond u (some f) (lookup name_of before name m) ≡ some d
-          → (lookup name_of before name m ≡ some d → counted m ≡ 1) → cond u 1 0 + counted m ≡ 1
+      go : (u : Bool) → same before name f.name ≡ u → cond u (Some f) (lookup name_of before name m) ≡ Some d
+          → (lookup name_of before name m ≡ Some d → counted m ≡ 1) → cond u 1 0 + counted m ≡ 1
       go true p q ih = omega (arith, count_after m (subst (λ k. After name_of before k m) (sym (same_eq by_name name f.name p)) h.0))
       go false p q ih = omega (arith, ih q)
 
-once : (s : Schema) (id : ℕ) (d : Decl) → Reached s id → stands_for s.registry id ≡ some d
+once : (s : Schema) (id : ℕ) (d : Decl) → Reached s id → stands_for s.registry id ≡ Some d
     → count (λ e. same_name d.name e.name) (imports_view s).standing ≡ 1
 once s id d r g = go (lookup name_of before d.name (imports_view s).standing) refl (stands s d.name)
   where
     go : (o : Option Decl) → lookup name_of before d.name (imports_view s).standing ≡ o → Stands s d.name o
         → count (λ e. same_name d.name e.name) (imports_view s).standing ≡ 1
-    go (some e) p t = count_found d.name (imports_view s).standing e (imports_rise s) p
-    go none p (absent e n) = absurd (n id d tt r g refl)
+    go (Some e) p t = count_found d.name (imports_view s).standing e (imports_rise s) p
+    go None p (absent e n) = absurd (n id d tt r g refl)
 
 -- ---- where nothing that is not listed is reached
 
-listed_in : (R : Registry) (ids : List ℕ) (id : ℕ) (d : Decl) → member id ids ≡ true → stands_for R id ≡ some d → In d (listed R ids)
+listed_in : (R : Registry) (ids : List ℕ) (id : ℕ) (d : Decl) → member id ids ≡ true → stands_for R id ≡ Some d → In d (listed R ids)
 unfolding listed resolved
 listed_in R [] id d i g = member_none id i
 listed_in R (a ∷ ids) id d i g =
-    ⊎_elim (λ q. rw (subst (λ x. stands_for R x ≡ some d) q g) (Memᴰ.head refl)) (λ q. go (stands_for R a) (listed_in R ids id d q g)) (member_cons id a ids i)
+    ⊎_elim (λ q. rw (subst (λ x. stands_for R x ≡ Some d) q g) (Memᴰ.head refl)) (λ q. go (stands_for R a) (listed_in R ids id d q g)) (member_cons id a ids i)
   where
     go : (o : Option Decl) → In d (listed R ids) → In d (resolved o (listed R ids))
-    go none j = j
-    go (some e) j = Memᴰ.tail j
+    go None j = j
+    go (Some e) j = Memᴰ.tail j
 
 module _ (s : Schema) (only : OnlyListed s) where
   found_alike : (name : Name) → lookup name_of before name (imports_view s).standing ≡ lookup name_of before name (declarations s)

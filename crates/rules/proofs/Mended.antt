@@ -5,7 +5,8 @@ use mathlib.Core.Bool.{Bool, true, false, not, ◌&&◌, ◌||◌, and-false, fa
 use mathlib.Core.Logic.{⊎_elim, ◌↔◌}
 use mathlib.Core.List.Memᴰ
 use mathlib.Core.List.{List, [], ◌∷◌}
-use mathlib.Core.Option.{Option, none, some, none-ne-some}
+use Rattle.std.specs.Prelude.{Option, None, Some}
+use Rattle.std.proofs.lemmas.Option.{none-some}
 use Prim.Native.Nat.{◌+◌}
 use native.Mathlib.Omega.{arith}
 use Rattle.maps.specs.Lists.{All}
@@ -161,13 +162,13 @@ pair_otherwise x y n w e =
     let p = false_from_ne_true (mixed x y) (λ m. n (given (mixed_fault x y m))) in
     rw (unmixed_checks x y p) (go (first_fault (alias_check view_of ∷ []) x y) (unmixed_checks x y p))
   where
-    given : first_fault mended.pair x y ≡ some (fault 16 (number both_sides)) → select (judged (first_fault mended.pair x y) (compared (changes mended_reading (view_of x) (view_of y)))) 0 ≡ 16
+    given : first_fault mended.pair x y ≡ Some (fault 16 (number both_sides)) → select (judged (first_fault mended.pair x y) (compared (changes mended_reading (view_of x) (view_of y)))) 0 ≡ 16
     given q = rw q
 
     go : (o : Option Fault) → first_fault mended.pair x y ≡ o
         → judged o (compared (changes mended_reading (view_of x) (view_of y))) ≡ judged o (compared (changes plain_reading (view_of x) (view_of y)))
-    go none q = ap compared (changes_otherwise (view_of x) (view_of y) e (rw q at w))
-    go (some f) q = refl
+    go None q = ap compared (changes_otherwise (view_of x) (view_of y) e (rw q at w))
+    go (Some f) q = refl
 
 pub otherwise : Otherwise
 unfolding holds_vectors vector_compared verdict_by outcome accept_old accept_new on_side judged
@@ -186,7 +187,7 @@ pub mended_bounded : Bounded mended
 mended_bounded = record {
   view = survivors_sized;
   light = widths_light mended_type;
-  alone = λ x k e. absurd (none-ne-some k e);
+  alone = λ x k e. absurd (none-some k e);
   pair = λ x y f e.
       let q = mended_numbers x y f e in
       (⊎_elim (λ z. omega (arith, z)) (λ z. omega (arith, z)) q.0, omega (arith, q.1));

@@ -1,7 +1,8 @@
 -- When two images get a mended verdict and when each refusal, exactly as specs/MendedRefusals says. Assumes nothing.
 use mathlib.Core.Path.{◌≡◌, refl, sym, ap, ◌∙◌}
 use mathlib.Core.Bool.{Bool, true, false, or-true}
-use mathlib.Core.Option.{none, some, none-ne-some}
+use Rattle.std.specs.Prelude.{None, Some}
+use Rattle.std.proofs.lemmas.Option.{none-some}
 use mathlib.Core.List.{List, [], ◌∷◌}
 use mathlib.Core.Logic.{◌⊎◌, inl, inr, ◌↔◌}
 use Prim.Native.Nat.{ℕ, ◌≤◌, ◌<◌}
@@ -31,15 +32,15 @@ pub data MendedFault (x y : Schema) (f : Fault) : Type 0 where
   eleven : mixed x y ≡ false → alias_pair (view_of x) (view_of y) ≡ true → f ≡ fault 11 (number both_sides) → MendedFault x y f
 
 module _ (x y : Schema) where
-  pub mended_fault : (f : Fault) → first_fault mended.pair x y ≡ some f → MendedFault x y f
+  pub mended_fault : (f : Fault) → first_fault mended.pair x y ≡ Some f → MendedFault x y f
   unfolding mixed_check
   mended_fault f e = go (here_or_later mixed_check (alias_check view_of ∷ []) x y f e)
     where
-      go : (mixed_check x y ≡ some f) ⊎ ((mixed_check x y ≡ none) × (first_fault (alias_check view_of ∷ []) x y ≡ some f)) → MendedFault x y f
+      go : (mixed_check x y ≡ Some f) ⊎ ((mixed_check x y ≡ None) × (first_fault (alias_check view_of ∷ []) x y ≡ Some f)) → MendedFault x y f
       go (inl q) = let t = tested (fault 16 (number both_sides)) (mixed x y) f q in sixteen t.0 t.1
       go (inr q) = let t = usual_fault view_of x y f q.1 in eleven (untested (fault 16 (number both_sides)) (mixed x y) q.0) t.0 t.1
 
-  pub mixed_fault : mixed x y ≡ true → first_fault mended.pair x y ≡ some (fault 16 (number both_sides))
+  pub mixed_fault : mixed x y ≡ true → first_fault mended.pair x y ≡ Some (fault 16 (number both_sides))
   unfolding mixed_check
   mixed_fault e = here_found mixed_check (alias_check view_of ∷ []) x y (rw e)
 
@@ -48,8 +49,8 @@ module _ (x y : Schema) where
   unfolding mixed_check
   unmixed_checks e = here_passed mixed_check (alias_check view_of ∷ []) x y (rw e)
 
-  pub faultless_unmixed : first_fault mended.pair x y ≡ none → mixed x y ≡ false
-  faultless_unmixed e = false_from_ne_true (mixed x y) (λ p. none-ne-some _ (sym e ∙ mixed_fault p))
+  pub faultless_unmixed : first_fault mended.pair x y ≡ None → mixed x y ≡ false
+  faultless_unmixed e = false_from_ne_true (mixed x y) (λ p. none-some _ (sym e ∙ mixed_fault p))
 
 -- a fault's number, and its side
 number_of : {f g : Fault} → f ≡ g → f.number ≡ g.number
@@ -58,7 +59,7 @@ number_of e = ap (λ (h : Fault). h.number) e
 side_of : {f g : Fault} → f ≡ g → f.side ≡ g.side
 side_of e = ap (λ (h : Fault). h.side) e
 
-pub mended_numbers : (x y : Schema) (f : Fault) → first_fault mended.pair x y ≡ some f
+pub mended_numbers : (x y : Schema) (f : Fault) → first_fault mended.pair x y ≡ Some f
     → ((f.number ≡ 16) ⊎ (f.number ≡ 11)) × (f.side ≡ number both_sides)
 mended_numbers x y f e = go (mended_fault x y f e)
   where
@@ -68,7 +69,7 @@ mended_numbers x y f e = go (mended_fault x y f e)
 
 pub mended_numbered : Numbered mended
 mended_numbered = record {
-  alone = λ x k e. absurd (none-ne-some k e);
+  alone = λ x k e. absurd (none-some k e);
   pair = λ x y f e. go f (mended_numbers x y f e).0;
 }
   where
@@ -105,7 +106,7 @@ module _ (x y : Schema) where
   unmixed_is : ¬ Mixed x y → mixed x y ≡ false
   unmixed_is h = false_from_ne_true (mixed x y) (λ p. h (mixed_found p))
 
-  aliased : mixed x y ≡ false → AliasPair view_of x y → first_fault mended.pair x y ≡ some (fault 11 (number both_sides))
+  aliased : mixed x y ≡ false → AliasPair view_of x y → first_fault mended.pair x y ≡ Some (fault 11 (number both_sides))
   aliased e a = unmixed_checks x y e ∙ alias_fault_lem view_of x y (pair_given view_of view_rises x y a)
 
   pub aliased_exactly : Faulty mended 11 x y ↔ (¬ Mixed x y × AliasPair view_of x y)
@@ -119,7 +120,7 @@ module _ (x y : Schema) where
   faultless_exactly = (
     λ e. (
       unmixed (faultless_unmixed x y e),
-      λ a. none-ne-some _ (sym e ∙ aliased (faultless_unmixed x y e) a),
+      λ a. none-some _ (sym e ∙ aliased (faultless_unmixed x y e) a),
     ),
     λ h. no_fault mended x y (λ f e. go f (mended_fault x y f e) h.0 h.1),
   )
@@ -141,7 +142,7 @@ mended_paired = record {
     go f (inl q) = omega arith
     go f (inr q) = omega arith
 
-given_pair : (last : ℕ) → 11 ≤ last → (x y : Schema) (f : Fault) → first_fault mended.pair x y ≡ some f → Given last f.number
+given_pair : (last : ℕ) → 11 ≤ last → (x y : Schema) (f : Fault) → first_fault mended.pair x y ≡ Some f → Given last f.number
 given_pair last h x y f e = go (mended_numbers x y f e).0
   where
     go : (f.number ≡ 16) ⊎ (f.number ≡ 11) → Given last f.number

@@ -1,6 +1,6 @@
 -- What is pinned of R-6 over byte lists holds, by computation from the definitions alone. Assumes nothing.
 use mathlib.Core.Path.{◌≡◌, refl}
-use mathlib.Core.Option.{Option, none, some}
+use Rattle.std.specs.Prelude.{Option, None, Some}
 use mathlib.Core.List.{[], ◌∷◌}
 use Prim.Native.Nat.{ℕ}
 use Rattle.image.specs.Schema.{unmarked, no_type, decl, Schema}
@@ -17,29 +17,29 @@ abbrev held : ℕ → Option ℕ → Option ℕ → Schema
 held format bits wire = record {
   format = format;
   registry =
-      some (decl 1 (69 ∷ []) unmarked bits [] (record { ordinal = 0; name = 97 ∷ []; fields = [] } ∷ []) no_type)
-      ∷ some (decl 2 (70 ∷ []) unmarked wire [] (record { ordinal = 0; name = 112 ∷ []; fields = [] } ∷ []) no_type) ∷ [];
+      Some (decl 1 (69 ∷ []) unmarked bits [] (record { ordinal = 0; name = 97 ∷ []; fields = [] } ∷ []) no_type)
+      ∷ Some (decl 2 (70 ∷ []) unmarked wire [] (record { ordinal = 0; name = 112 ∷ []; fields = [] } ∷ []) no_type) ∷ [];
   ids = 0 ∷ 1 ∷ [];
   namespace = [];
 }
 
-unsized_read : read_image unsized_image ≡ ok (held 1 none none) 47
+unsized_read : read_image unsized_image ≡ ok (held 1 None None) 47
 unfolding reads
 unsized_read = refl
 
-narrow_read : read_image narrow_image ≡ ok (held 2 (some 8) (some 1)) 49
+narrow_read : read_image narrow_image ≡ ok (held 2 (Some 8) (Some 1)) 49
 unfolding reads
 narrow_read = refl
 
-wide_read : read_image wide_image ≡ ok (held 2 (some 16) (some 2)) 49
+wide_read : read_image wide_image ≡ ok (held 2 (Some 16) (Some 2)) 49
 unfolding reads
 wide_read = refl
 
 formats_same : SameUnsized unsized_image narrow_image
 unfolding unsized_schema unsized
 formats_same = record {
-  old_schema = held 1 none none;
-  new_schema = held 2 (some 8) (some 1);
+  old_schema = held 1 None None;
+  new_schema = held 2 (Some 8) (Some 1);
   old_end = 47;
   new_end = 49;
   old_read = unsized_read;
@@ -50,8 +50,8 @@ formats_same = record {
 widths_same : SameUnsized narrow_image wide_image
 unfolding unsized_schema unsized
 widths_same = record {
-  old_schema = held 2 (some 8) (some 1);
-  new_schema = held 2 (some 16) (some 2);
+  old_schema = held 2 (Some 8) (Some 1);
+  new_schema = held 2 (Some 16) (Some 2);
   old_end = 49;
   new_end = 49;
   old_read = narrow_read;

@@ -3,7 +3,7 @@
 use mathlib.Core.Path.{◌≡◌, refl, sym, ap, ◌∙◌, subst}
 use mathlib.Core.Bool.{Bool, true, false, cond}
 use mathlib.Core.Logic.{◌⊎◌, inl, inr, ⊎_elim}
-use mathlib.Core.Option.{Option, none, some}
+use Rattle.std.specs.Prelude.{Option, None, Some}
 use mathlib.Core.List.{flat_map}
 use Prim.Native.Nat.{ℕ, zero, suc, ◌+◌, ◌≤◌, ◌<◌}
 use native.Mathlib.Omega.{arith}
@@ -12,7 +12,7 @@ use lib.Dec.{ltb}
 use lib.ListN.{length, replicate, length-replicate, get_or-eq_default}
 use Rattle.maps.specs.Keyed.{lookup}
 use Rattle.maps.specs.Orders.{before}
-use Rattle.maps.specs.Walk.{is_some}
+use Rattle.std.specs.Option.{is_some}
 use Rattle.maps.proofs.Lists.{all, pass_keeps, flat_map_flat_map}
 use Rattle.maps.proofs.Survivors.{all_lookup}
 use Rattle.maps.proofs.Tests.{no_both}
@@ -31,21 +31,21 @@ named_from_lem v = flat_map_flat_map (λ d. types_of (kind_of d.kind) d) named_i
 module _ (R : Registry) where
   -- resolvable ids are of the registry
   pub resolvable_in : (id : ℕ) → resolvable R id ≡ true → id < length R
-  unfolding resolvable stands_for is_some
+  unfolding resolvable stands_for
   resolvable_in id e = go (ltb id (length R)) refl
     where
       go : (b : Bool) → ltb id (length R) ≡ b → id < length R
       go true p = ltb-true id (length R) p
-      go false p = no_both e (ap is_some (get_or-eq_default R none (ltb-false id (length R) p)))
+      go false p = no_both e (ap is_some (get_or-eq_default R None (ltb-false id (length R) p)))
 
   -- an id whose entry names something is resolvable
   names_in : (via id : ℕ) → member id (named_by (stands_for R via)) ≡ true → resolvable R via ≡ true
-  unfolding resolvable named_by is_some
+  unfolding resolvable named_by
   names_in via id = go (stands_for R via)
     where
       go : (o : Option Decl) → member id (named_by o) ≡ true → is_some o ≡ true
-      go none e = member_none id e
-      go (some d) e = refl
+      go None e = member_none id e
+      go (Some d) e = refl
 
   -- ---- rounds
 
@@ -126,8 +126,8 @@ module _ (s : Schema) where
   reached_on via id q = go (stands_for s.registry via) refl
     where
       go : (o : Option Decl) → stands_for s.registry via ≡ o → member id (named_by o) ≡ true → resolvable s.registry id ≡ true → Reached s id
-      go none p e r = member_none id e
-      go (some d) p e r = by_reached q p e r
+      go None p e r = member_none id e
+      go (Some d) p e r = by_reached q p e r
 
   pub within_marks : (m : IdSet) (via : ℕ) → Within m → Reached s via → Within (mark_all s.registry m (named_by (stands_for s.registry via)))
   within_marks m via w q id h =
@@ -161,7 +161,7 @@ module _ (s : Schema) where
   First m = (id : ℕ) → member id (named_from (view_of s)) ≡ true → resolvable s.registry id ≡ true → has m id ≡ true
 
   -- what a survivor names
-  pub survivor_named : (name : Name) (d : Decl) → lookup name_of before name (declarations s) ≡ some d → (id : ℕ) → member id (named_of d) ≡ true
+  pub survivor_named : (name : Name) (d : Decl) → lookup name_of before name (declarations s) ≡ Some d → (id : ℕ) → member id (named_of d) ≡ true
       → member id (named_from (view_of s)) ≡ true
   unfolding view_of
   survivor_named name d e id =

@@ -1,7 +1,8 @@
 -- When two images get a verdict and when each refusal, exactly as specs/Refusals says. Assumes nothing.
 use mathlib.Core.Path.{◌≡◌, refl, sym, ap, ◌∙◌}
 use mathlib.Core.Bool.{Bool, true, false, ◌&&◌, ◌||◌}
-use mathlib.Core.Option.{Option, none, some, none-ne-some}
+use Rattle.std.specs.Prelude.{Option, None, Some}
+use Rattle.std.proofs.lemmas.Option.{none-some}
 use mathlib.Core.List.{List, [], ◌∷◌}
 use mathlib.Core.Logic.{◌↔◌}
 use Prim.Native.Nat.{ℕ, ◌≤◌, ◌<◌}
@@ -53,14 +54,14 @@ any_false p (a ∷ l) e = go (p a) refl e (any_false p l)
 
 -- what is found is an alias
 found_alias : (n : Name) (l : List Decl) → is_alias (lookup name_of before n l) ≡ true
-    → (d : Decl) × (lookup name_of before n l ≡ some d) × (d.kind ≡ 6)
+    → (d : Decl) × (lookup name_of before n l ≡ Some d) × (d.kind ≡ 6)
 unfolding is_alias alias
 found_alias n l = go (lookup name_of before n l) refl
   where
     go : (o : Option Decl) → lookup name_of before n l ≡ o → is_alias o ≡ true
-        → (d : Decl) × (lookup name_of before n l ≡ some d) × (d.kind ≡ 6)
-    go none p e = no_both refl (sym e)
-    go (some d) p e = (d, p, eqb-true d.kind 6 e)
+        → (d : Decl) × (lookup name_of before n l ≡ Some d) × (d.kind ≡ 6)
+    go None p e = no_both refl (sym e)
+    go (Some d) p e = (d, p, eqb-true d.kind 6 e)
 
 module _ (view : Schema → View) (rise : (s : Schema) → Rising name_of before (view s).standing) (x y : Schema) where
   pub pair_found : alias_pair (view x) (view y) ≡ true → AliasPair view x y
@@ -166,16 +167,16 @@ accepted_exactly e f = (λ a. accepted_so (λ x y. (f x y).0) (e.0 a), λ b. e.1
 
 -- no image is refused alone, and a pair by a number over 10 with both sides
 pub record Paired (p : Policy) : Type 0 where
-  pub alone : (x : Schema) → p.alone x ≡ none
-  pub beyond : (x y : Schema) (f : Fault) → first_fault p.pair x y ≡ some f → 10 < f.number
-  pub sides : (x y : Schema) (f : Fault) → first_fault p.pair x y ≡ some f → f.side ≡ number both_sides
+  pub alone : (x : Schema) → p.alone x ≡ None
+  pub beyond : (x y : Schema) (f : Fault) → first_fault p.pair x y ≡ Some f → 10 < f.number
+  pub sides : (x y : Schema) (f : Fault) → first_fault p.pair x y ≡ Some f → f.side ≡ number both_sides
 
 -- the pair has no fault, and one with such a number
 abbrev pub Faultless : Policy → Schema → Schema → Type 0
-Faultless p x y = first_fault p.pair x y ≡ none
+Faultless p x y = first_fault p.pair x y ≡ None
 
 abbrev pub Faulty : Policy → ℕ → Schema → Schema → Type 0
-Faulty p n x y = (f : Fault) × (first_fault p.pair x y ≡ some f) × (f.number ≡ n)
+Faulty p n x y = (f : Fault) × (first_fault p.pair x y ≡ Some f) × (f.number ≡ n)
 
 module _ (p : Policy) (paired : Paired p) (old new : List ℕ) where
   abbrev Of : Outcome → Type 0
@@ -184,8 +185,8 @@ module _ (p : Policy) (paired : Paired p) (old new : List ℕ) where
   abbrev result : Outcome
   result = outcome p old new
 
-  none_alone : {A : Type 0} {x : Schema} {k : ℕ} → p.alone x ≡ some k → A
-  none_alone {x = x} {k = k} e = absurd (none-ne-some k (sym (paired.alone x) ∙ e))
+  none_alone : {A : Type 0} {x : Schema} {k : ℕ} → p.alone x ≡ Some k → A
+  none_alone {x = x} {k = k} e = absurd (none-some k (sym (paired.alone x) ∙ e))
 
   passes : (image : List ℕ) (x : Schema) (end : ℕ) → read_image image ≡ ok x end → Passes p image x
   passes image x end e = record { end = end; read = e; alone = paired.alone x }
@@ -299,7 +300,7 @@ module _ (p : Policy) (paired : Paired p) (old new : List ℕ) where
 
   -- ---- all numbers: what holds of 0 to 10 and of those of the pair holds of the number, and of the report's if it holds of 12
 
-  module _ (P : ℕ → Type 0) (ten : (n : ℕ) → n ≤ 10 → P n) (pair : (x y : Schema) (f : Fault) → first_fault p.pair x y ≡ some f → P f.number) where
+  module _ (P : ℕ → Type 0) (ten : (n : ℕ) → n ≤ 10 → P n) (pair : (x y : Schema) (f : Fault) → first_fault p.pair x y ≡ Some f → P f.number) where
     each_number : {o : Outcome} → Of o → P (select o 0)
     unfolding select selected
     each_number (old_refused l q) = ten _ (omega arith)
@@ -321,12 +322,12 @@ module _ (p : Policy) (paired : Paired p) (old new : List ℕ) where
         go false e = rw (fit_else (number both_sides) room result (eqb-false (select (report_by p old new room) 0) 12 e)) number_given
 
 -- no fault, if each is out of the question
-pub no_fault : (p : Policy) (x y : Schema) → ((f : Fault) → first_fault p.pair x y ≡ some f → ⊥) → Faultless p x y
+pub no_fault : (p : Policy) (x y : Schema) → ((f : Fault) → first_fault p.pair x y ≡ Some f → ⊥) → Faultless p x y
 no_fault p x y h = go (first_fault p.pair x y) refl
   where
-    go : (o : Option Fault) → first_fault p.pair x y ≡ o → o ≡ none
-    go none e = refl
-    go (some f) e = absurd (h f e)
+    go : (o : Option Fault) → first_fault p.pair x y ≡ o → o ≡ None
+    go None e = refl
+    go (Some f) e = absurd (h f e)
 
 -- ---- of a verdict whose one check is 11
 
@@ -335,7 +336,7 @@ module _ (view : Schema → View) (rise : (s : Schema) → Rising name_of before
   policy = usual view reading
 
   -- the number and the side that a fault of the pair has
-  eleven : (x y : Schema) (f : Fault) → first_fault policy.pair x y ≡ some f → (f.number ≡ 11) × (f.side ≡ number both_sides)
+  eleven : (x y : Schema) (f : Fault) → first_fault policy.pair x y ≡ Some f → (f.number ≡ 11) × (f.side ≡ number both_sides)
   eleven x y f e = let q = (usual_fault view x y f e).1 in (ap (λ (g : Fault). g.number) q, ap (λ (g : Fault). g.side) q)
 
   usual_paired : Paired policy
@@ -347,7 +348,7 @@ module _ (view : Schema → View) (rise : (s : Schema) → Rising name_of before
 
   unpaired : (x y : Schema) → Faultless policy x y ↔ ¬ AliasPair view x y
   unpaired x y = (
-    λ e h. none-ne-some _ (sym e ∙ alias_fault_lem view x y (pair_given view rise x y h)),
+    λ e h. none-some _ (sym e ∙ alias_fault_lem view x y (pair_given view rise x y h)),
     λ h. no_fault policy x y (λ f e. h (pair_found view rise x y (usual_fault view x y f e).0)),
   )
 

@@ -1,7 +1,7 @@
 -- What the lines of a report are weighed with: sums over maps, so many bytes for each byte of size, and the line of one change. Assumes nothing.
 use mathlib.Core.Path.{◌≡◌, refl}
 use mathlib.Core.Bool.{Bool, true, false, cond}
-use mathlib.Core.Option.{Option, none, some}
+use Rattle.std.specs.Prelude.{Option, None, Some}
 use mathlib.Core.List.{List, [], ◌∷◌}
 use Prim.Native.Nat.{ℕ, ◌+◌, ◌*◌, ◌≤◌}
 use native.Mathlib.Omega.{arith}
@@ -29,12 +29,12 @@ module _ {K E C : Type 0} {lt : K → K → Bool} (key : E → K) (S : Strict K 
   same_guarded : (r : Rules E C) (m n : List E) → All (λ e. fine e ≡ true) m → compare key lt r m n ≡ compare key lt (guarded r) m n
   unfolding compare between matched guarded
   same_guarded r m n h =
-      rw (flat_map_same _ (λ e. matched (guarded r).kept (some e) (lookup key lt (key e) n)) m
+      rw (flat_map_same _ (λ e. matched (guarded r).kept (Some e) (lookup key lt (key e) n)) m
       (all_map (λ e p. go e p (lookup key lt (key e) n)) m h))
     where
-      go : (e : E) → fine e ≡ true → (o : Option E) → matched r.kept (some e) o ≡ matched (guarded r).kept (some e) o
-      go e p none = refl
-      go e p (some f) = rw p
+      go : (e : E) → fine e ≡ true → (o : Option E) → matched r.kept (Some e) o ≡ matched (guarded r).kept (Some e) o
+      go e p None = refl
+      go e p (Some f) = rw p
 
   pub fine_weight : (a b : E → ℕ) (m n : List E) → Rising key lt m → Rising key lt n → All (λ e. fine e ≡ true) m → (r : Rules E C)
       → ((e : E) → total w (r.gone e) ≤ a e) → ((f : E) → total w (r.came f) ≤ b f)

@@ -2,7 +2,7 @@
 -- declarations rise by name, and any lawful reading. Assumes nothing.
 use mathlib.Core.Path.{◌≡◌, refl, ap, ◌∙◌}
 use mathlib.Core.Bool.{Bool, true, false, cond, not, ◌&&◌, ◌||◌}
-use mathlib.Core.Option.{Option, some, none}
+use Rattle.std.specs.Prelude.{Option, Some, None}
 use mathlib.Core.List.{List, [], ◌∷◌, ◌++◌}
 use Prim.Native.Nat.{ℕ, max}
 use native.Mathlib.Omega.{arith}
@@ -114,8 +114,8 @@ module _ {r : Reading} {odd : Ty → Bool} (lawful : Lawful r odd) (R : Registry
   unfolding compare_fields
   fields_self d f =
       nothing_then (compare_field_names d f f) _ (names_self d f)
-      (then_nothing (compare_types own d (some f.name) (field_text f) f.type f.type) _
-      (types_self d (some f.name) (field_text f) f.type)
+      (then_nothing (compare_types own d (Some f.name) (field_text f) f.type f.type) _
+      (types_self d (Some f.name) (field_text f) f.type)
       (nothing_then (compare_encodings d f f) _ (encodings_self d f) (deprecated_self d _ _ f.marks)))
 
   sets_self : (d : Name) (fs : List Field) → largest level_of (compare_field_sets own d fs fs) ≡ largest score (field_types fs)
@@ -146,7 +146,7 @@ module _ {r : Reading} {odd : Ty → Bool} (lawful : Lawful r odd) (R : Registry
     kinds_self enum = enums_self x.name x
     kinds_self flags = flags_self x.name x
     kinds_self union = unions_self
-    kinds_self newtype = types_self x.name none _ x.inner
+    kinds_self newtype = types_self x.name None _ x.inner
     kinds_self config = refl
     kinds_self alias = refl
     kinds_self trait = refl

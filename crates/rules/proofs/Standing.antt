@@ -3,7 +3,9 @@
 use mathlib.Core.Path.{◌≡◌, refl, sym, ap, ◌∙◌, subst}
 use mathlib.Core.Bool.{Bool, true, false, cond}
 use mathlib.Core.Logic.{⊎_elim}
-use mathlib.Core.Option.{Option, none, some, or_else, none-ne-some, some-injective}
+use Rattle.std.specs.Prelude.{Option, None, Some}
+use Rattle.std.specs.Option.{option_or}
+use Rattle.std.proofs.lemmas.Option.{none-some, same_Some}
 use mathlib.Core.List.{List, [], ◌∷◌, ◌++◌}
 use Prim.Native.Nat.{ℕ, zero, suc, ◌+◌, ◌<◌}
 use native.Mathlib.Omega.{arith}
@@ -56,8 +58,8 @@ listed_append R (id ∷ xs) ys = go (stands_for R id) (listed_append R xs ys)
   where
     go : (o : Option Decl) → listed R (xs ++ ys) ≡ listed R xs ++ listed R ys
         → resolved o (listed R (xs ++ ys)) ≡ resolved o (listed R xs) ++ listed R ys
-    go none e = e
-    go (some d) e = ap (λ (l : List Decl). d ∷ l) e
+    go None e = e
+    go (Some d) e = ap (λ (l : List Decl). d ∷ l) e
 
 module _ (m : IdSet) (s : Schema) where
   -- the entries of the set, by rising id
@@ -66,13 +68,13 @@ module _ (m : IdSet) (s : Schema) where
 
   -- what is found is what survives, or else the last of the set
   pub lookup_with : (name : Name) → lookup name_of before name (standing_with m s)
-      ≡ or_else (lookup name_of before name (declarations s)) (latest name_of before name set_entries)
+      ≡ option_or (lookup name_of before name (declarations s)) (latest name_of before name set_entries)
   unfolding standing_with declarations set_entries
   lookup_with name =
       lookup_latest name_of by_name name (listed s.registry (marked_ids 0 m ++ s.ids))
       ∙ (ap (latest name_of before name) (listed_append s.registry (marked_ids 0 m) s.ids)
       ∙ (latest_append name_of before name set_entries (listed s.registry s.ids)
-      ∙ ap (λ o. or_else o (latest name_of before name set_entries)) (sym (lookup_latest name_of by_name name (listed s.registry s.ids)))))
+      ∙ ap (λ o. option_or o (latest name_of before name set_entries)) (sym (lookup_latest name_of by_name name (listed s.registry s.ids)))))
 
 -- ---- the ids of a set rise, and are those that it has
 
@@ -124,40 +126,40 @@ ids_has id m = subst (λ j. member j (marked_ids 0 m) ≡ has m id) (omega arith
 module _ (R : Registry) (name : Name) where
   -- of the ids that have P none has an entry of the name
   abbrev Clear : List ℕ → (ℕ → Type 0) → Type 0
-  Clear ids P = (j : ℕ) (e : Decl) → P j → member j ids ≡ true → stands_for R j ≡ some e → e.name ≡ name → ⊥
+  Clear ids P = (j : ℕ) (e : Decl) → P j → member j ids ≡ true → stands_for R j ≡ Some e → e.name ≡ name → ⊥
 
   pub data Highest (ids : List ℕ) : Option Decl → Type 0 where
-    highest : {id : ℕ} {d : Decl} → member id ids ≡ true → stands_for R id ≡ some d → d.name ≡ name → Clear ids (λ j. id < j) → Highest ids (some d)
-    nowhere : Clear ids (λ j. Unit {0}) → Highest ids none
+    highest : {id : ℕ} {d : Decl} → member id ids ≡ true → stands_for R id ≡ Some d → d.name ≡ name → Clear ids (λ j. id < j) → Highest ids (Some d)
+    nowhere : Clear ids (λ j. Unit {0}) → Highest ids None
 
   -- one id more in front
-  clear_more : (P : ℕ → Type 0) (id : ℕ) (ids : List ℕ) → Clear ids P → ((e : Decl) → P id → stands_for R id ≡ some e → e.name ≡ name → ⊥)
+  clear_more : (P : ℕ → Type 0) (id : ℕ) (ids : List ℕ) → Clear ids P → ((e : Decl) → P id → stands_for R id ≡ Some e → e.name ≡ name → ⊥)
       → Clear (id ∷ ids) P
   clear_more P id ids c h j e p i g n =
-      ⊎_elim (λ q. h e (subst P q p) (subst (λ x. stands_for R x ≡ some e) q g) n) (λ q. c j e p q g n) (member_cons j id ids i)
+      ⊎_elim (λ q. h e (subst P q p) (subst (λ x. stands_for R x ≡ Some e) q g) n) (λ q. c j e p q g n) (member_cons j id ids i)
 
   abbrev found : List Decl → Option Decl
   found ds = latest name_of before name ds
 
   -- what is found is still found
-  found_still : (d : Decl) (ds : List Decl) → found ds ≡ some d → (o : Option Decl) → found (resolved o ds) ≡ some d
-  unfolding resolved latest or_else
-  found_still d ds e none = e
-  found_still d ds e (some f) = rw e
+  found_still : (d : Decl) (ds : List Decl) → found ds ≡ Some d → (o : Option Decl) → found (resolved o ds) ≡ Some d
+  unfolding resolved latest
+  found_still d ds e None = e
+  found_still d ds e (Some f) = rw e
 
   -- nothing was found: the entry of the id in front, if it has the name
-  found_first : (id : ℕ) (ids : List ℕ) (ds : List Decl) → found ds ≡ none → Clear ids (λ j. Unit {0}) → (o : Option Decl) → stands_for R id ≡ o
+  found_first : (id : ℕ) (ids : List ℕ) (ds : List Decl) → found ds ≡ None → Clear ids (λ j. Unit {0}) → (o : Option Decl) → stands_for R id ≡ o
       → Highest (id ∷ ids) (found (resolved o ds))
-  unfolding resolved latest or_else seen
-  found_first id ids ds e c none v = rw e (nowhere (clear_more _ id ids c (λ f p g n. none-ne-some f (sym v ∙ g))))
-  found_first id ids ds e c (some f) v = rw e (go (same before name f.name) refl)
+  unfolding resolved latest seen
+  found_first id ids ds e c None v = rw e (nowhere (clear_more _ id ids c (λ f p g n. none-some f (sym v ∙ g))))
+  found_first id ids ds e c (Some f) v = rw e (go (same before name f.name) refl)
     where
-      go : (b : Bool) → same before name f.name ≡ b → Highest (id ∷ ids) (cond b (some f) none)
+      go : (b : Bool) → same before name f.name ≡ b → Highest (id ∷ ids) (cond b (Some f) None)
       go true q =
           highest (member_here id ids) v (sym (same_eq by_name name f.name q))
           (clear_more _ id ids (λ j g p. c j g tt) (λ g p. absurd (omega arith)))
       go false q =
-          nowhere (clear_more _ id ids c (λ g p w n. same_ne by_name name f.name q (sym (ap name_of (some-injective f g (sym v ∙ w)) ∙ n))))
+          nowhere (clear_more _ id ids c (λ g p w n. same_ne by_name name f.name q (sym (ap name_of (same_Some f g (sym v ∙ w)) ∙ n))))
 
   pub highest_found : (ids : List ℕ) → Rises ids → Highest ids (found (listed R ids))
   unfolding listed latest Rising
@@ -165,8 +167,8 @@ module _ (R : Registry) (name : Name) where
   highest_found (id ∷ ids) h = go (found (listed R ids)) refl (highest_found ids h.1)
     where
       go : (r : Option Decl) → found (listed R ids) ≡ r → Highest ids r → Highest (id ∷ ids) (found (resolved (stands_for R id) (listed R ids)))
-      go (some d) e (highest {id = top} i g n c) =
+      go (Some d) e (highest {id = top} i g n c) =
           rw (found_still d (listed R ids) e (stands_for R id))
           (highest (member_more top id ids i) g n (clear_more _ id ids c
           (λ f p. absurd (omega (arith, ltb-true id top (all_member (λ j. ltb id j ≡ true) ids h.0 top i))))))
-      go none e (nowhere c) = found_first id ids (listed R ids) e c (stands_for R id) refl
+      go None e (nowhere c) = found_first id ids (listed R ids) e c (stands_for R id) refl

@@ -2,7 +2,7 @@
 -- counted alike. Over any views whose standing declarations rise by name, and any lawful reading. Assumes nothing.
 use mathlib.Core.Path.{◌≡◌, refl, sym, ap, ◌∙◌}
 use mathlib.Core.Bool.{Bool, true, false, cond, not}
-use mathlib.Core.Option.{Option, some, none}
+use Rattle.std.specs.Prelude.{Option, Some, None}
 use mathlib.Core.List.{List, [], ◌∷◌, ◌++◌}
 use Prim.Native.Nat.{ℕ}
 use native.Mathlib.Omega.{arith}
@@ -138,9 +138,9 @@ module _ (j : ℕ) where
       unfolding compare_fields
       fields_swap d e f g =
           append_swap (compare_field_names d f g) _ (compare_field_names e g f) _ (names_swap d e f g)
-          (append_swap (compare_types there d (some g.name) (field_text g) f.type g.type) _
-          (compare_types back e (some f.name) (field_text f) g.type f.type) _
-          (types_swap d e (some g.name) (some f.name) (field_text g) (field_text f) f.type g.type)
+          (append_swap (compare_types there d (Some g.name) (field_text g) f.type g.type) _
+          (compare_types back e (Some f.name) (field_text f) g.type f.type) _
+          (types_swap d e (Some g.name) (Some f.name) (field_text g) (field_text f) f.type g.type)
           (append_swap (compare_encodings d f g) _ (compare_encodings e g f) _ (encodings_swap d e f g)
           (deprecated_swap d e _ _ _ _ f.marks g.marks)))
 
@@ -172,7 +172,7 @@ module _ (j : ℕ) where
         kinds_swap enum = enums_swap x.name y.name x y
         kinds_swap flags = flags_swap x.name y.name x y
         kinds_swap union = unions_swap
-        kinds_swap newtype = types_swap x.name y.name none none _ _ x.inner y.inner
+        kinds_swap newtype = types_swap x.name y.name None None _ _ x.inner y.inner
         kinds_swap config = nothing_swap
         kinds_swap alias = nothing_swap
         kinds_swap trait = nothing_swap

@@ -1,7 +1,7 @@
 -- How long the texts are: linear in the names and types that they show. Assumes nothing.
 use mathlib.Core.Path.{◌≡◌}
 use mathlib.Core.Bool.{Bool, true, false, cond}
-use mathlib.Core.Option.{Option, none, some}
+use Rattle.std.specs.Prelude.{Option, None, Some}
 use mathlib.Core.List.{List, [], ◌∷◌}
 use Prim.Native.Nat.{ℕ, zero, suc, ◌+◌, ◌*◌, ◌≤◌}
 use Prim.Native.String.{String}
@@ -136,13 +136,13 @@ from_to_length x y = simp length-append (omega arith)
 
 -- of a field, if there is one
 unfoldable pub option_length : Option Name → ℕ
-option_length none = 0
-option_length (some n) = length n
+option_length None = 0
+option_length (Some n) = length n
 
 part_length : (o : Option Name) → length (field_part o) ≤ 1 + option_length o
 unfolding field_part option_length bytes
-part_length none = omega arith
-part_length (some n) = omega arith
+part_length None = omega arith
+part_length (Some n) = omega arith
 
 pub line_length_lem : (c : Change) → length (change_line c) ≤ 40 + (length c.declaration + (option_length c.field + length c.detail))
 unfolding change_line line joined bytes change_word bump_word largest

@@ -2,7 +2,7 @@
 -- whatever they compare, and so does no verdict that reports none besides. Assumes nothing.
 use mathlib.Core.Path.{◌≡◌, refl, ◌∙◌}
 use mathlib.Core.Bool.{Bool, true, false, cond, ◌||◌}
-use mathlib.Core.Option.{Option, none, some}
+use Rattle.std.specs.Prelude.{Option, None, Some}
 use mathlib.Core.List.{List, [], ◌∷◌, ◌++◌, flat_map}
 use Prim.Native.Nat.{ℕ, ◌+◌, ◌<◌}
 use native.Mathlib.Omega.{arith}
@@ -41,15 +41,15 @@ module _ {C : Type 0} (P : C → Type 0) where
 
   module _ {K E : Type 0} (key : E → K) (lt : K → K → Bool) (r : Rules E C)
       (gone : (e : E) → All P (r.gone e)) (came : (f : E) → All P (r.came f)) (kept : (e f : E) → All P (r.kept e f)) where
-    all_unmatched : (c : E → List C) → ((e : E) → All P (c e)) → (e : E) (o : Option E) → All P (unmatched c (some e) o)
+    all_unmatched : (c : E → List C) → ((e : E) → All P (c e)) → (e : E) (o : Option E) → All P (unmatched c (Some e) o)
     unfolding unmatched All
-    all_unmatched c h e none = h e
-    all_unmatched c h e (some f) = tt
+    all_unmatched c h e None = h e
+    all_unmatched c h e (Some f) = tt
 
-    all_matched : (e : E) (o : Option E) → All P (matched r.kept (some e) o)
+    all_matched : (e : E) (o : Option E) → All P (matched r.kept (Some e) o)
     unfolding matched All
-    all_matched e none = tt
-    all_matched e (some f) = kept e f
+    all_matched e None = tt
+    all_matched e (Some f) = kept e f
 
     all_compare : (m n : List E) → All P (compare key lt r m n)
     unfolding compare between
@@ -153,7 +153,7 @@ module _ (j : ℕ) (out : outside j ≡ true) where
     kinds_other union x y =
         variants_other (union_rules r x.name) (gone_other x.name) (came_other _ x.name) (λ v w. all_append (Other j) _ _ (sets_other r _ v.fields w.fields) (o.last_in _ v w))
         x.variants y.variants
-    kinds_other newtype x y = types_other r x.name none _ x.inner y.inner
+    kinds_other newtype x y = types_other r x.name None _ x.inner y.inner
     kinds_other config x y = nothing_other j
     kinds_other alias x y = nothing_other j
     kinds_other trait x y = nothing_other j

@@ -1,7 +1,7 @@
 -- How long the lines of the clauses are in all: linear in the sizes of what is compared, since each entry is met once. Assumes nothing.
 use mathlib.Core.Path.{◌≡◌, refl}
 use mathlib.Core.Bool.{Bool, true, false, cond}
-use mathlib.Core.Option.{Option, none, some}
+use Rattle.std.specs.Prelude.{Option, None, Some}
 use mathlib.Core.List.{List, [], ◌∷◌, ◌++◌}
 use Prim.Native.Nat.{ℕ, ◌+◌, ◌*◌, ◌≤◌}
 use native.Mathlib.Nat.{le_trans}
@@ -71,7 +71,7 @@ openness_weight d m n =
 
 -- an item that is gone or came
 item_weight : (kind : ℕ) (bump : Bump) (d : Name) (what : List ℕ) (n : Name) (o : ℕ) (text : List ℕ)
-    → total line_length (change kind bump d (some n) (numbered what n o ++ text) ∷ [])
+    → total line_length (change kind bump d (Some n) (numbered what n o ++ text) ∷ [])
     ≤ 65 + (length d + (2 * length n + (length what + length text)))
 unfolding option_length
 item_weight kind bump d what n o text = le_trans (single_weight _) (simp length-append (omega (arith, numbered_length what n o)))
@@ -153,10 +153,10 @@ module _ (r : Context) (light : Light r.reading) (S : Short r.old) (T : Short r.
       (omega (
         arith,
         names_weight d f g,
-        types_weight d (some g.name) (field_text g) f.type g.type,
+        types_weight d (Some g.name) (field_text g) f.type g.type,
         field_length g,
         encodings_weight d f g,
-        deprecated_weight d (some g.name) (bytes "field " ++ quoted g.name) f.marks g.marks,
+        deprecated_weight d (Some g.name) (bytes "field " ++ quoted g.name) f.marks g.marks,
         length-append (bytes "field ") (quoted g.name),
         quoted_length g.name,
         type_one f.type,
@@ -193,7 +193,7 @@ module _ (r : Context) (light : Light r.reading) (S : Short r.old) (T : Short r.
         (omega (
           arith,
           sets_weight x.name (omega (arith, name_short)) x.fields y.fields,
-          deprecated_weight x.name none
+          deprecated_weight x.name None
               (bytes "declaration") x.marks y.marks,
           name_short,
           type_one x.inner,
@@ -250,7 +250,7 @@ module _ (r : Context) (light : Light r.reading) (S : Short r.old) (T : Short r.
     newtypes_weight =
         omega (
           arith,
-          types_weight x.name none (bytes "newtype " ++ (quoted x.name ++ bytes " inner")) x.inner y.inner,
+          types_weight x.name None (bytes "newtype " ++ (quoted x.name ++ bytes " inner")) x.inner y.inner,
           length-append (bytes "newtype ") (quoted x.name ++ bytes " inner"),
           length-append (quoted x.name) (bytes " inner"),
           quoted_length x.name,
@@ -297,7 +297,7 @@ module _ (r : Reading) (light : Light r) (x y : View) (S : Short x.registry) (T 
 
   -- a declaration that is gone or came
   decl_weight : (kind : ℕ) (bump : Bump) (d : Decl) (text : List ℕ) → length text ≤ 12
-      → total line_length (change kind bump d.name none (decl_text d ++ text) ∷ []) ≤ heavy (twice (twice decl_size)) d
+      → total line_length (change kind bump d.name None (decl_text d ++ text) ∷ []) ≤ heavy (twice (twice decl_size)) d
   unfolding decl_text bytes option_length heavy twice decl_size
   decl_weight kind bump d text l =
       le_trans (single_weight _) (simp (length-append, quoted_length) (omega (arith, kind_length d.kind, type_one d.inner)))

@@ -2,7 +2,7 @@
 -- it reports what the clauses do. Assumes nothing.
 use mathlib.Core.Path.{◌≡◌, refl, ap, ap₂}
 use mathlib.Core.Bool.{Bool, true, false, cond, not}
-use mathlib.Core.Option.{Option, none, some}
+use Rattle.std.specs.Prelude.{Option, None, Some}
 use mathlib.Core.List.{List, [], ◌∷◌, ◌++◌, flat_map}
 use Prim.Native.Nat.{ℕ, ◌+◌, ◌≤◌}
 use native.Mathlib.Nat.{le_trans}
@@ -63,8 +63,8 @@ widths_ordinary same j e = record { first = λ x y. only_other j _ _ e; last = �
 
 width_length : (w : Option ℕ) → length (show_width w) ≤ 20
 unfolding show_width
-width_length none = omega arith
-width_length (some w) = decimal_length w
+width_length None = omega arith
+width_length (Some w) = decimal_length w
 
 widths_weight : (x y : Decl) → total line_length (compare_widths x y) ≤ 150 + length x.name
 unfolding compare_widths bytes option_length
@@ -103,10 +103,10 @@ module _ (j : ℕ) where
   -- and so two comparisons that differ in what they keep
   module _ {K E : Type 0} (key : E → K) (lt : K → K → Bool) (r s : Rules E Change) (gone : r.gone ≡ s.gone) (came : r.came ≡ s.came)
       (kept : (e f : E) → count_of j (r.kept e f) ≡ 0 → r.kept e f ≡ s.kept e f) where
-    matched_none : (e : E) (o : Option E) → count_of j (matched r.kept (some e) o) ≡ 0 → matched r.kept (some e) o ≡ matched s.kept (some e) o
+    matched_none : (e : E) (o : Option E) → count_of j (matched r.kept (Some e) o) ≡ 0 → matched r.kept (Some e) o ≡ matched s.kept (Some e) o
     unfolding matched
-    matched_none e none z = refl
-    matched_none e (some f) z = kept e f z
+    matched_none e None z = refl
+    matched_none e (Some f) z = kept e f z
 
     kept_none : (m n : List E) → count_of j (between key lt (matched r.kept) m n) ≡ 0
         → between key lt (matched r.kept) m n ≡ between key lt (matched s.kept) m n

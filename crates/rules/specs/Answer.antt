@@ -1,7 +1,7 @@
 -- The calls over byte lists, in stages: accept an image and judge it alone; judge the pair; compare a view of each by a reading; make the
 -- verdict and the text. The stages are said once, over what a verdict is made of. Assumes nothing.
-use Rattle.std.specs.Prelude.{cond, List, [], ◌∷◌, ℕ, zero, suc, length}
-use Rattle.std.proofs.Math.Option.{Option, none, some, or_else}
+use Rattle.std.specs.Prelude.{cond, List, [], ◌∷◌, ℕ, zero, suc, length, Option, None, Some}
+use Rattle.std.specs.Option.{option_or}
 use Rattle.image.specs.Schema.{Schema}
 use Rattle.image.specs.Codes.{number, alias_pair_refusal, old_side, new_side, both_sides}
 use Rattle.image.specs.Parse.{Parsed, ok, no}
@@ -52,25 +52,25 @@ compared cs =
 
 -- the fault of the first check that finds one
 unfoldable pub first_fault : List Check → Schema → Schema → Option Fault
-first_fault [] x y = none
-first_fault (c ∷ cs) x y = or_else (c x y) (first_fault cs x y)
+first_fault [] x y = None
+first_fault (c ∷ cs) x y = option_or (c x y) (first_fault cs x y)
 
 -- refused with a fault, else what comes after
 unfoldable pub judged : Option Fault → Outcome → Outcome
-judged none o = o
-judged (some f) o = refused f.number f.side
+judged None o = o
+judged (Some f) o = refused f.number f.side
 
 -- an image alone has its own side
 unfoldable pub on_side : ℕ → Option ℕ → Option Fault
-on_side side none = none
-on_side side (some number) = some (fault number side)
+on_side side None = None
+on_side side (Some number) = Some (fault number side)
 
 -- "old before new; in each 1 .. Then 11"
 module _ (p : Policy) where
   -- what one image alone is refused by: 1 to 10, and then its check
   unfoldable pub image_fault : ℕ → Parsed Schema → Option Fault
   image_fault side (ok x n) = on_side side (p.alone x)
-  image_fault side (no k) = some (fault k side)
+  image_fault side (no k) = Some (fault k side)
 
   unfoldable pub fault_in : ℕ → List ℕ → Option Fault
   fault_in side image = image_fault side (read_image image)
@@ -108,11 +108,11 @@ module _ (p : Policy) where
 
 -- 11: "survivors of one name are generic aliases in both images", of what stands in a view
 unfoldable pub alias_check : (Schema → View) → Check
-alias_check view x y = cond (alias_pair (view x) (view y)) (some (fault (number alias_pair_refusal) (number both_sides))) none
+alias_check view x y = cond (alias_pair (view x) (view y)) (Some (fault (number alias_pair_refusal) (number both_sides))) None
 
 -- no check of one image alone; 11 of the pair
 abbrev pub usual : (Schema → View) → Reading → Policy
-usual view reading = record { alone = λ s. none; pair = alias_check view ∷ []; view = view; reading = reading }
+usual view reading = record { alone = λ s. None; pair = alias_check view ∷ []; view = view; reading = reading }
 
 -- ---- the verdict of document 01
 

@@ -1,6 +1,5 @@
 -- Changes: their kinds, their bumps, and the texts that several details share. Assumes nothing.
-use Rattle.std.specs.Prelude.{Bool, true, false, List, [], ◌∷◌, ◌++◌, ℕ}
-use Rattle.std.proofs.Math.Option.{Option}
+use Rattle.std.specs.Prelude.{Bool, true, false, List, [], ◌∷◌, ◌++◌, ℕ, Option}
 use Rattle.image.specs.Schema.{Name}
 use Rattle.image.specs.Words.{bytes}
 use Rattle.text.specs.Decimal.{decimal}

@@ -1,8 +1,7 @@
 -- The eight clauses of document 01, "Clauses and verdict", named as the functions of compat.rs that they stand for. What they compare is
 -- handed in: the views of the two schemas, and how these are read. Clauses 2 and 3 stand last, since they call on 4 to 8. Assumes nothing.
-use Rattle.std.specs.Prelude.{Bool, cond, not, ◌&&◌, ℕ, eqb, ltb}
+use Rattle.std.specs.Prelude.{Bool, cond, not, ◌&&◌, ℕ, eqb, ltb, Option, None, Some}
 use Rattle.std.specs.Bool.{beq}
-use Rattle.std.proofs.Math.Option.{Option, none, some}
 use mathlib.Core.List.{List, [], ◌∷◌, ◌++◌, flat_map}
 use Rattle.maps.specs.Compare.{Rules, compare}
 use Rattle.maps.specs.Orders.{before}
@@ -24,7 +23,7 @@ show_namespace segments = quoted (joined (bytes ".") segments)
 unfoldable pub compare_namespaces : List Name → List Name → List Change
 compare_namespaces old new =
     only (not (same_names old new))
-    (change (kind_at NamespaceChanged) major [] none (bytes "namespace changed" ++ from_to (show_namespace old) (show_namespace new)))
+    (change (kind_at NamespaceChanged) major [] None (bytes "namespace changed" ++ from_to (show_namespace old) (show_namespace new)))
 
 -- ---- how two schemas are read
 
@@ -68,7 +67,7 @@ field_text f = numbered (bytes "field") f.name f.ordinal
 unfoldable pub compare_field_names : Name → Field → Field → List Change
 compare_field_names d f g =
     only (not (same_name f.name g.name))
-    (change (kind_at FieldRenamed) patch d (some g.name)
+    (change (kind_at FieldRenamed) patch d (Some g.name)
     (bytes "field @" ++ (decimal g.ordinal ++ (bytes " renamed" ++ from_to (quoted f.name) (quoted g.name)))))
 
 unfoldable pub same_encoding : Encoding → Encoding → Bool
@@ -77,7 +76,7 @@ same_encoding a b = eqb a.deltas b.deltas && eqb a.base b.base
 unfoldable pub compare_encodings : Name → Field → Field → List Change
 compare_encodings d f g =
     only (not (same_encoding f.encoding g.encoding && same_option eqb f.limit g.limit))
-    (change (kind_at FieldEncodingChanged) major d (some g.name)
+    (change (kind_at FieldEncodingChanged) major d (Some g.name)
     (field_text g ++ (bytes " encoding changed" ++ from_to (show_encoding f.encoding) (show_encoding g.encoding))))
 
 -- the mark was gained: by a field, or by a message itself
@@ -89,14 +88,14 @@ compare_deprecated d field target old new =
 unfoldable pub compare_fields : Context → Name → Field → Field → List Change
 compare_fields r d f g =
     compare_field_names d f g
-    ++ (compare_types r d (some g.name) (field_text g) f.type g.type
+    ++ (compare_types r d (Some g.name) (field_text g) f.type g.type
     ++ (compare_encodings d f g
-    ++ compare_deprecated d (some g.name) (bytes "field " ++ quoted g.name) f.marks g.marks))
+    ++ compare_deprecated d (Some g.name) (bytes "field " ++ quoted g.name) f.marks g.marks))
 
 unfoldable pub field_rules : Context → Name → Rules Field Change
 field_rules r d = record {
-  gone = λ f. change (kind_at FieldRemoved) major d (some f.name) (field_text f ++ bytes " was removed") ∷ [];
-  came = λ f. change (kind_at FieldAdded) major d (some f.name) (field_text f ++ bytes " was added") ∷ [];
+  gone = λ f. change (kind_at FieldRemoved) major d (Some f.name) (field_text f ++ bytes " was removed") ∷ [];
+  came = λ f. change (kind_at FieldAdded) major d (Some f.name) (field_text f ++ bytes " was added") ∷ [];
   kept = λ f g. compare_fields r d f g;
 }
 
@@ -107,7 +106,7 @@ compare_field_sets r d old new = compare ordinal_of ltb (field_rules r d) (field
 unfoldable pub compare_messages : Context → Name → Decl → Decl → List Change
 compare_messages r d old new =
     compare_field_sets r d old.fields new.fields
-    ++ compare_deprecated d none (bytes "declaration") old.marks new.marks
+    ++ compare_deprecated d None (bytes "declaration") old.marks new.marks
 
 -- ---- 5. Enum: `NonExhaustiveChanged` Major; `VariantRemoved` Major; `VariantAdded` Minor if the new enum is non-exhaustive, else Major.
 -- Renames and deprecation silent.
@@ -116,10 +115,10 @@ unfoldable pub variant_text : Variant → List ℕ
 variant_text v = numbered (bytes "variant") v.name v.ordinal
 
 unfoldable pub variant_gone : Name → Variant → List Change
-variant_gone d v = change (kind_at VariantRemoved) major d (some v.name) (variant_text v ++ bytes " was removed") ∷ []
+variant_gone d v = change (kind_at VariantRemoved) major d (Some v.name) (variant_text v ++ bytes " was removed") ∷ []
 
 unfoldable pub variant_came : Bump → Name → Variant → List Change
-variant_came bump d v = change (kind_at VariantAdded) bump d (some v.name) (variant_text v ++ bytes " was added") ∷ []
+variant_came bump d v = change (kind_at VariantAdded) bump d (Some v.name) (variant_text v ++ bytes " was added") ∷ []
 
 unfoldable pub enum_bump : Marks → Bump
 enum_bump new = cond new.non_exhaustive minor major
@@ -130,7 +129,7 @@ enum_rules d new = record { gone = variant_gone d; came = variant_came (enum_bum
 unfoldable pub compare_non_exhaustive : Name → Marks → Marks → List Change
 compare_non_exhaustive d old new =
     only (not (beq old.non_exhaustive new.non_exhaustive))
-    (change (kind_at NonExhaustiveChanged) major d none
+    (change (kind_at NonExhaustiveChanged) major d None
     (bytes "@non_exhaustive changed" ++ from_to (bool_word old.non_exhaustive) (bool_word new.non_exhaustive)))
 
 unfoldable pub compare_enums : Name → Decl → Decl → List Change
@@ -145,8 +144,8 @@ bit_text v = numbered (bytes "bit") v.name v.ordinal
 
 unfoldable pub flags_rules : Name → Rules Variant Change
 flags_rules d = record {
-  gone = λ v. change (kind_at FlagsBitRemoved) major d (some v.name) (bit_text v ++ bytes " was removed") ∷ [];
-  came = λ v. change (kind_at FlagsBitAdded) minor d (some v.name) (bit_text v ++ bytes " was added") ∷ [];
+  gone = λ v. change (kind_at FlagsBitRemoved) major d (Some v.name) (bit_text v ++ bytes " was removed") ∷ [];
+  came = λ v. change (kind_at FlagsBitAdded) minor d (Some v.name) (bit_text v ++ bytes " was added") ∷ [];
   kept = λ v w. [];
 }
 
@@ -172,7 +171,7 @@ compare_unions r d old new = compare variant_ordinal ltb (union_rules r d) (vari
 -- ---- 8. Newtype: `FieldTypeChanged` Major.
 
 unfoldable pub compare_newtypes : Context → Name → Decl → Decl → List Change
-compare_newtypes r d old new = compare_types r d none (bytes "newtype " ++ (quoted d ++ bytes " inner")) old.inner new.inner
+compare_newtypes r d old new = compare_types r d None (bytes "newtype " ++ (quoted d ++ bytes " inner")) old.inner new.inner
 
 -- ---- 3. Per shared name: kinds differ, `DeclarationKindChanged` Major and no more. Config, trait, impl: silent; so is a generic alias, of
 -- which a pair is refused.
@@ -191,7 +190,7 @@ compare_kind other r old new = []
 
 unfoldable pub kind_changed : Decl → Decl → List Change
 kind_changed old new =
-    change (kind_at DeclarationKindChanged) major old.name none
+    change (kind_at DeclarationKindChanged) major old.name None
     (quoted old.name ++ (bytes " changed" ++ from_to (kind_word old.kind) (kind_word new.kind))) ∷ []
 
 -- of one kind: its clause, between what is reported besides
@@ -208,8 +207,8 @@ decl_text d = kind_word d.kind ++ (bytes " " ++ quoted d.name)
 
 unfoldable pub decl_rules : Context → Rules Decl Change
 decl_rules r = record {
-  gone = λ d. change (kind_at DeclarationRemoved) major d.name none (decl_text d ++ bytes " was removed") ∷ [];
-  came = λ d. change (kind_at DeclarationAdded) minor d.name none (decl_text d ++ bytes " was added") ∷ [];
+  gone = λ d. change (kind_at DeclarationRemoved) major d.name None (decl_text d ++ bytes " was removed") ∷ [];
+  came = λ d. change (kind_at DeclarationAdded) minor d.name None (decl_text d ++ bytes " was added") ∷ [];
   kept = λ d e. compare_decls r d e;
 }
 

@@ -1,6 +1,5 @@
 -- The edges (a) to (l) of document 01, each as the whole report of two small schemas. Assumes nothing.
-use Rattle.std.specs.Prelude.{◌≡◌, true, false, List, [], ◌∷◌, ℕ}
-use Rattle.std.proofs.Math.Option.{Option, none, some}
+use Rattle.std.specs.Prelude.{◌≡◌, true, false, List, [], ◌∷◌, ℕ, Option, None, Some}
 use Prim.Native.String.{String}
 use Rattle.image.specs.Schema.{Marks, unmarked, label, Ty, leaf, one, no_type, Field, Variant, Decl, decl, Schema}
 use Rattle.image.specs.Codes.{number, message_kind, enum_kind, union_kind, newtype_kind, impl_kind, primitive_tag, sub_byte_tag, named_tag, optional_tag, array_tag, fixed_array_tag, vec3_tag}
@@ -16,12 +15,12 @@ told old new = report (changes plain_reading (view_of old) (view_of new))
 
 -- of format 1; no namespace; entry 0 is declared, under the name A; a second entry may follow it
 abbrev pub schema : Decl → List (Option Decl) → Schema
-schema d more = record { format = 1; registry = some d ∷ more; ids = 0 ∷ []; namespace = [] }
+schema d more = record { format = 1; registry = Some d ∷ more; ids = 0 ∷ []; namespace = [] }
 
 -- ---- newtypes
 
 abbrev pub newtype : Ty → List (Option Decl) → Schema
-newtype t more = schema (decl (number newtype_kind) (bytes "A") unmarked none [] [] t) more
+newtype t more = schema (decl (number newtype_kind) (bytes "A") unmarked None [] [] t) more
 
 abbrev pub primitive : ℕ → Ty
 primitive code = leaf (label (number primitive_tag) code 0 [])
@@ -45,7 +44,7 @@ abbrev pub f32 : Ty
 f32 = primitive 9
 
 abbrev pub impl : Decl
-impl = decl (number impl_kind) [] unmarked none [] [] no_type
+impl = decl (number impl_kind) [] unmarked None [] [] no_type
 
 -- ---- messages, enums, unions
 
@@ -54,7 +53,7 @@ field ordinal name marks limit t =
     record { ordinal = ordinal; name = bytes name; marks = marks; encoding = record { deltas = 0; base = 0 }; limit = limit; type = t }
 
 abbrev pub message : List Field → Schema
-message fs = schema (decl (number message_kind) (bytes "A") unmarked none fs [] no_type) []
+message fs = schema (decl (number message_kind) (bytes "A") unmarked None fs [] no_type) []
 
 abbrev pub deprecated : Marks
 deprecated = record { deprecated = true; non_exhaustive = false }
@@ -66,10 +65,10 @@ abbrev pub variant : ℕ → String → Variant
 variant ordinal name = record { ordinal = ordinal; name = bytes name; fields = [] }
 
 abbrev pub enum : Marks → List Variant → Schema
-enum marks vs = schema (decl (number enum_kind) (bytes "A") marks none [] vs no_type) []
+enum marks vs = schema (decl (number enum_kind) (bytes "A") marks None [] vs no_type) []
 
 abbrev pub union : List Variant → Schema
-union vs = schema (decl (number union_kind) (bytes "A") unmarked none [] vs no_type) []
+union vs = schema (decl (number union_kind) (bytes "A") unmarked None [] vs no_type) []
 
 -- ---- "Held of the clauses as one proved group"
 
@@ -84,12 +83,12 @@ pub record Edges : Type 0 where
   pub b : told (newtype (around (number optional_tag) (around (number vec3_tag) f32)) []) (newtype (around (number optional_tag) (around (number vec3_tag) f32)) [])
       ≡ bytes "FieldTypeChanged;Major;A;-;newtype 'A' inner type changed from optional<vec3<f32>> to optional<vec3<f32>>\nBreaking;Major;1\n"
   -- "(c) two unresolvable ids equal": an id past the registry, and one whose entry is empty
-  pub c : told (newtype (named 7) []) (newtype (named 1) (none ∷ [])) ≡ silent
+  pub c : told (newtype (named 7) []) (newtype (named 1) (None ∷ [])) ≡ silent
   -- "(d) unresolvable and impl differ"
-  pub d : told (newtype (named 7) []) (newtype (named 1) (some impl ∷ []))
+  pub d : told (newtype (named 7) []) (newtype (named 1) (Some impl ∷ []))
       ≡ bytes "FieldTypeChanged;Major;A;-;newtype 'A' inner type changed from <unknown> to \nBreaking;Major;1\n"
   -- "(e) limit 8 to 9: `default to default`, Major"
-  pub e : told (message (field 0 "x" unmarked (some 8) u8 ∷ [])) (message (field 0 "x" unmarked (some 9) u8 ∷ []))
+  pub e : told (message (field 0 "x" unmarked (Some 8) u8 ∷ [])) (message (field 0 "x" unmarked (Some 9) u8 ∷ []))
       ≡ bytes "FieldEncodingChanged;Major;A;+x;field 'x' @0 encoding changed from default to default\nBreaking;Major;1\n"
   -- "(f) `array<u8>` and `array<u8, 4>` differ"
   pub f : told (newtype (around (number array_tag) u8) []) (newtype (fixed_array 4 u8) [])
@@ -104,9 +103,9 @@ pub record Edges : Type 0 where
   pub i : told (enum unmarked []) (enum non_exhaustive (variant 0 "x" ∷ []))
       ≡ bytes "NonExhaustiveChanged;Major;A;-;@non_exhaustive changed from false to true\nVariantAdded;Minor;A;+x;variant 'x' @0 was added\nBreaking;Major;2\n"
   -- "(j) deprecation lost: silent"
-  pub j : told (message (field 0 "x" deprecated none u8 ∷ [])) (message (field 0 "x" unmarked none u8 ∷ [])) ≡ silent
+  pub j : told (message (field 0 "x" deprecated None u8 ∷ [])) (message (field 0 "x" unmarked None u8 ∷ [])) ≡ silent
   -- "(k) union variant renamed: silent"
   pub k : told (union (variant 0 "x" ∷ [])) (union (variant 0 "y" ∷ [])) ≡ silent
   -- "(l) ordinal 3 twice: the second counts": the first is of another type
-  pub l : told (message (field 3 "x" unmarked none f32 ∷ field 3 "y" unmarked none u8 ∷ [])) (message (field 3 "z" unmarked none u8 ∷ []))
+  pub l : told (message (field 3 "x" unmarked None f32 ∷ field 3 "y" unmarked None u8 ∷ [])) (message (field 3 "z" unmarked None u8 ∷ []))
       ≡ bytes "FieldRenamed;Patch;A;+z;field @3 renamed from 'y' to 'z'\nCompatible;Patch;1\n"

@@ -1,6 +1,5 @@
 -- Tests of equality: of names, of lists, of what may be absent; and when a test is sound. Assumes nothing.
-use Rattle.std.specs.Prelude.{◌≡◌, Bool, true, false, not, ◌&&◌, List, [], ◌∷◌, eqb}
-use Rattle.std.proofs.Math.Option.{Option, none, some}
+use Rattle.std.specs.Prelude.{◌≡◌, Bool, true, false, not, ◌&&◌, List, [], ◌∷◌, eqb, Option, None, Some}
 use Rattle.image.specs.Schema.{Name}
 
 unfoldable pub same_list : {A : Type 0} → (A → A → Bool) → List A → List A → Bool
@@ -10,10 +9,10 @@ same_list same (x ∷ xs) [] = false
 same_list same (x ∷ xs) (y ∷ ys) = same x y && same_list same xs ys
 
 unfoldable pub same_option : {A : Type 0} → (A → A → Bool) → Option A → Option A → Bool
-same_option same none none = true
-same_option same none (some b) = false
-same_option same (some a) none = false
-same_option same (some a) (some b) = same a b
+same_option same None None = true
+same_option same None (Some b) = false
+same_option same (Some a) None = false
+same_option same (Some a) (Some b) = same a b
 
 unfoldable pub same_name : Name → Name → Bool
 same_name a b = same_list eqb a b

@@ -1,6 +1,5 @@
 -- R-6: "The earlier verdicts accept both formats and ignore the width." What two images hold that differ in nothing else. Assumes nothing.
-use Rattle.std.specs.Prelude.{◌≡◌, List, map, ℕ}
-use Rattle.std.proofs.Math.Option.{none, map as map_option}
+use Rattle.std.specs.Prelude.{◌≡◌, List, map, ℕ, None, option_map}
 use Rattle.image.specs.Schema.{Decl, decl, Schema}
 use Rattle.rules.specs.Outcome.{Outcome}
 use Rattle.rules.specs.Answer.{outcome, plain}
@@ -9,10 +8,10 @@ use Rattle.rules.specs.Refusals.{AcceptedPair}
 
 -- what is left of a declaration without its width, and of a schema without its format and all widths
 unfoldable pub unsized : Decl → Decl
-unsized d = decl d.kind d.name d.marks none d.fields d.variants d.inner
+unsized d = decl d.kind d.name d.marks None d.fields d.variants d.inner
 
 unfoldable pub unsized_schema : Schema → Schema
-unsized_schema s = record { format = 1; registry = map (map_option unsized) s.registry; ids = s.ids; namespace = s.namespace }
+unsized_schema s = record { format = 1; registry = map (option_map unsized) s.registry; ids = s.ids; namespace = s.namespace }
 
 -- two images that are accepted, and hold the same but for format and widths
 abbrev pub SameUnsized : List ℕ → List ℕ → Type 0

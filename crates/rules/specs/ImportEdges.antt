@@ -1,7 +1,6 @@
 -- R-2 on its edges, each as the whole report of two small schemas, by the verdict with imports and, where it says something, by that of
 -- document 01; and a chain of imports of any length. Assumes nothing.
-use Rattle.std.specs.Prelude.{◌≡◌, List, [], ◌∷◌, ◌++◌, ℕ, zero, suc, ◌≤◌}
-use Rattle.std.proofs.Math.Option.{Option, none, some}
+use Rattle.std.specs.Prelude.{◌≡◌, List, [], ◌∷◌, ◌++◌, ℕ, zero, suc, ◌≤◌, Option, None, Some}
 use Prim.Native.String.{String}
 use Rattle.image.specs.Schema.{unmarked, label, Ty, two, no_type, Field, Variant, Decl, decl, Schema}
 use Rattle.image.specs.Codes.{number, newtype_kind, alias_kind, optional_tag, array_tag, map_tag, result_tag, vec3_tag}
@@ -21,10 +20,10 @@ told p old new = written (compare_pair p old new) []
 
 -- a newtype of a name, and a generic alias
 abbrev pub entry : String → Ty → Option Decl
-entry name t = some (decl (number newtype_kind) (bytes name) unmarked none [] [] t)
+entry name t = Some (decl (number newtype_kind) (bytes name) unmarked None [] [] t)
 
 abbrev pub alias : String → Option Decl
-alias name = some (decl (number alias_kind) (bytes name) unmarked none [] [] no_type)
+alias name = Some (decl (number alias_kind) (bytes name) unmarked None [] [] no_type)
 
 -- A names entry 1; the entries from 1 on
 abbrev pub naming : List (Option Decl) → Schema
@@ -60,7 +59,7 @@ twice first second more = newtype (result (named 1) (named 2)) (first ∷ second
 
 -- a field that names entry 1, and a variant with that field
 abbrev pub field_naming : Field
-field_naming = field 0 "x" unmarked none (named 1)
+field_naming = field 0 "x" unmarked None (named 1)
 
 abbrev pub variant_naming : Variant
 variant_naming = record { ordinal = 0; name = bytes "x"; fields = field_naming ∷ [] }
@@ -76,11 +75,11 @@ seen = bytes "FieldTypeChanged;Major;B;-;newtype 'B' inner type changed from u8 
 
 -- an entry is a newtype of the next; and so many entries from an id on
 abbrev pub link : ℕ → Decl
-link id = decl (number newtype_kind) (bytes "A" ++ decimal id) unmarked none [] [] (named (suc id))
+link id = decl (number newtype_kind) (bytes "A" ++ decimal id) unmarked None [] [] (named (suc id))
 
 unfoldable pub links : ℕ → ℕ → List (Option Decl)
 links from zero = []
-links from (suc n) = some (link from) ∷ links (suc from) n
+links from (suc n) = Some (link from) ∷ links (suc from) n
 
 -- entries 0 to n, of which 0 is listed; what n names is unresolvable
 unfoldable pub chain : ℕ → Schema
@@ -100,7 +99,7 @@ pub record ImportEdges : Type 0 where
       ≡ bytes "FieldTypeChanged;Major;B;-;newtype 'B' inner type changed from optional<A> to array<A>\nBreaking;Major;1\n"
   -- B is named in a field, or a variant, that survives; and only in one that does not
   pub kept_field : changing imports (λ b. holding (message (field_naming ∷ [])) (b ∷ [])) ≡ seen
-  pub lost_field : changing imports (λ b. holding (message (field_naming ∷ field 0 "y" unmarked none u8 ∷ [])) (b ∷ [])) ≡ silent
+  pub lost_field : changing imports (λ b. holding (message (field_naming ∷ field 0 "y" unmarked None u8 ∷ [])) (b ∷ [])) ≡ silent
   pub kept_variant : changing imports (λ b. holding (union (variant_naming ∷ [])) (b ∷ [])) ≡ seen
   pub lost_variant : changing imports (λ b. holding (union (variant_naming ∷ variant 0 "y" ∷ [])) (b ∷ [])) ≡ silent
   -- of two reached entries of one name that with the higher id stands, and the other is followed all the same
@@ -121,7 +120,7 @@ pub record ImportEdges : Type 0 where
   -- not 11: it is reached on both sides, and another declaration of its name survives
   pub alias_hidden : changing imports (λ b. listing (naming (alias "B" ∷ b ∷ [])) (2 ∷ [])) ≡ seen
   -- an id past the registry and one of an empty entry reach nothing; then B is there
-  pub unresolvable : told imports (newtype (result (named 7) (named 1)) (none ∷ [])) (newtype (result (named 7) (named 1)) (none ∷ [])) ≡ silent
+  pub unresolvable : told imports (newtype (result (named 7) (named 1)) (None ∷ [])) (newtype (result (named 7) (named 1)) (None ∷ [])) ≡ silent
   pub resolvable : told imports (newtype (named 7) []) (naming (entry "B" u8 ∷ []))
       ≡ bytes "DeclarationAdded;Minor;B;-;newtype 'B' was added\nFieldTypeChanged;Major;A;-;newtype 'A' inner type changed from <unknown> to B\nBreaking;Major;2\n"
   -- B is named inside a map, a result, a vector, and by the last of 32 nodes
@@ -137,7 +136,7 @@ pub record ImportEdges : Type 0 where
       ≡ bytes "DeclarationRemoved;Major;B;-;newtype 'B' was removed\nFieldTypeChanged;Major;A;-;newtype 'A' inner type changed from B to u8\nBreaking;Major;2\n"
   pub came : told imports (newtype u8 []) (naming (entry "B" u8 ∷ []))
       ≡ bytes "DeclarationAdded;Minor;B;-;newtype 'B' was added\nFieldTypeChanged;Major;A;-;newtype 'A' inner type changed from u8 to B\nBreaking;Major;2\n"
-  pub reached_impl : told imports (naming (some impl ∷ [])) (newtype u8 [])
+  pub reached_impl : told imports (naming (Some impl ∷ [])) (newtype u8 [])
       ≡ bytes "DeclarationRemoved;Major;;-;impl '' was removed\nFieldTypeChanged;Major;A;-;newtype 'A' inner type changed from  to u8\nBreaking;Major;2\n"
   -- B was listed and is now imported only
   pub moved : told imports (listing (naming (entry "B" u8 ∷ [])) (1 ∷ [])) (naming (entry "B" u8 ∷ [])) ≡ silent

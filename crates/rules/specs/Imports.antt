@@ -1,7 +1,6 @@
 -- R-2, "Follow the imports": what stands with what is reached, and the verdict and the report over it. The clauses, the checks and the stages
 -- are those of document 01. Assumes nothing.
-use Rattle.std.specs.Prelude.{◌≡◌, true, cond, List, [], ◌∷◌, ◌++◌, ℕ, suc, ◌<◌}
-use Rattle.std.proofs.Math.Option.{Option, none, some}
+use Rattle.std.specs.Prelude.{◌≡◌, true, cond, List, [], ◌∷◌, ◌++◌, ℕ, suc, ◌<◌, Option, None, Some}
 use Rattle.maps.specs.Lists.{count}
 use Rattle.maps.specs.Keyed.{survivors, lookup}
 use Rattle.maps.specs.Orders.{before}
@@ -39,14 +38,14 @@ imports = usual imports_view plain_reading
 
 -- no reached entry has this name, of the ids that have P
 abbrev pub NoneNamed : Schema → Name → (ℕ → Type 0) → Type 0
-NoneNamed s name P = (id : ℕ) (d : Decl) → P id → Reached s id → stands_for s.registry id ≡ some d → d.name ≡ name → ⊥
+NoneNamed s name P = (id : ℕ) (d : Decl) → P id → Reached s id → stands_for s.registry id ≡ Some d → d.name ≡ name → ⊥
 
 -- "For each name the surviving declaration stands, reached or not; where there is none, the reached entry with the highest id."
 pub data Stands (s : Schema) (name : Name) : Option Decl → Type 0 where
-  survivor : {d : Decl} → lookup name_of before name (declarations s) ≡ some d → Stands s name (some d)
-  imported : {id : ℕ} {d : Decl} → lookup name_of before name (declarations s) ≡ none → Reached s id → stands_for s.registry id ≡ some d
-      → d.name ≡ name → NoneNamed s name (λ j. id < j) → Stands s name (some d)
-  absent : lookup name_of before name (declarations s) ≡ none → NoneNamed s name (λ j. Unit {0}) → Stands s name none
+  survivor : {d : Decl} → lookup name_of before name (declarations s) ≡ Some d → Stands s name (Some d)
+  imported : {id : ℕ} {d : Decl} → lookup name_of before name (declarations s) ≡ None → Reached s id → stands_for s.registry id ≡ Some d
+      → d.name ≡ name → NoneNamed s name (λ j. id < j) → Stands s name (Some d)
+  absent : lookup name_of before name (declarations s) ≡ None → NoneNamed s name (λ j. Unit {0}) → Stands s name None
 
 -- nothing that is not listed is reached
 abbrev pub OnlyListed : Schema → Type 0
@@ -55,7 +54,7 @@ OnlyListed s = (id : ℕ) → Reached s id → member id s.ids ≡ true
 pub record Imported : Type 0 where
   pub stands : (s : Schema) (name : Name) → Stands s name (lookup name_of before name (imports_view s).standing)
   -- "Each reached name is compared a single time, however the schemas refer back to themselves."
-  pub once : (s : Schema) (id : ℕ) (d : Decl) → Reached s id → stands_for s.registry id ≡ some d
+  pub once : (s : Schema) (id : ℕ) (d : Decl) → Reached s id → stands_for s.registry id ≡ Some d
       → count (λ e. same_name d.name e.name) (imports_view s).standing ≡ 1
   -- where nothing that is not listed is reached in an image that is accepted, on either side, verdict and report are those of document 01
   pub plain : (old new : List ℕ) → ((x : Schema) (n : ℕ) → read_image old ≡ ok x n → OnlyListed x)

@@ -1,7 +1,6 @@
 -- R-5, "Three answers from the type comparison": what it says of two types, and the mended verdict, which reads the third answer as equal and
 -- reports widths (Widths). The clauses and the stages are those of document 01. Assumes nothing.
-use Rattle.std.specs.Prelude.{◌≡◌, Bool, true, false, cond, ◌&&◌, ◌↔◌, List, [], ◌∷◌, ℕ, ◌+◌}
-use Rattle.std.proofs.Math.Option.{none}
+use Rattle.std.specs.Prelude.{◌≡◌, Bool, true, false, cond, ◌&&◌, ◌↔◌, List, [], ◌∷◌, ℕ, ◌+◌, None}
 use Rattle.image.specs.Codes.{number, mixed_refusal}
 use Rattle.image.specs.Schema.{Ty}
 use Rattle.rules.specs.Survivors.{view_of}
@@ -61,7 +60,7 @@ mended_reading = record { same = mended_type; first = compare_widths; last = λ 
 
 -- R-6: 16 is tested "after 10 and before 11"
 abbrev pub mended : Policy
-mended = record { alone = λ s. none; pair = mixed_check ∷ alias_check view_of ∷ []; view = view_of; reading = mended_reading }
+mended = record { alone = λ s. None; pair = mixed_check ∷ alias_check view_of ∷ []; view = view_of; reading = mended_reading }
 
 -- Of images that are not refused by 16, where no type that is compared in one of the two holds a vector, quaternion or matrix, and no width
 -- has changed, verdict and report are those of document 01.

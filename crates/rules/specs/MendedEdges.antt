@@ -1,7 +1,6 @@
 -- R-5 and R-6 on their edges: the three answers on small types, and each as the whole report of two small schemas, by the mended verdict and,
 -- where it says something, by that of document 01; then widths, in the same way. Assumes nothing.
-use Rattle.std.specs.Prelude.{◌≡◌, List, [], ◌∷◌, ℕ}
-use Rattle.std.proofs.Math.Option.{none, some}
+use Rattle.std.specs.Prelude.{◌≡◌, List, [], ◌∷◌, ℕ, None, Some}
 use Prim.Native.String.{String}
 use Rattle.image.specs.Schema.{Marks, unmarked, Ty, no_type, Variant, Decl, decl, Schema}
 use Rattle.image.specs.Codes.{number, enum_kind, flags_kind, vec2_tag, vec3_tag, vec4_tag, quat_tag, mat3_tag, mat4_tag}
@@ -39,11 +38,11 @@ kept p t = turned p t t
 
 -- a message with a field of a type
 abbrev pub having : String → Ty → Schema
-having name t = message (field 0 name unmarked none t ∷ [])
+having name t = message (field 0 name unmarked None t ∷ [])
 
 -- a union with a variant that has such a field
 abbrev pub within : Ty → Schema
-within t = union (record { ordinal = 0; name = bytes "v"; fields = field 0 "x" unmarked none t ∷ [] } ∷ [])
+within t = union (record { ordinal = 0; name = bytes "v"; fields = field 0 "x" unmarked None t ∷ [] } ∷ [])
 
 -- a message with a field that names B, a newtype of a type
 abbrev pub by_field : Ty → Schema
@@ -55,17 +54,17 @@ to_b t = resolve (by_field t).registry (named 1)
 
 -- A is an enum of a width in wire bits
 abbrev pub enum_of : ℕ → Marks → List Variant → Schema
-enum_of width marks vs = schema (decl (number enum_kind) (bytes "A") marks (some width) [] vs no_type) []
+enum_of width marks vs = schema (decl (number enum_kind) (bytes "A") marks (Some width) [] vs no_type) []
 
 -- flags of a width in wire bytes, under a name; A is one, or A an enum and B is one
 abbrev pub flags_named : String → ℕ → List Variant → Decl
-flags_named name width vs = decl (number flags_kind) (bytes name) unmarked (some width) [] vs no_type
+flags_named name width vs = decl (number flags_kind) (bytes name) unmarked (Some width) [] vs no_type
 
 abbrev pub flags_of : ℕ → List Variant → Schema
 flags_of width vs = schema (flags_named "A" width vs) []
 
 abbrev pub both : Schema → Decl → Schema
-both s d = listing (holding s (some d ∷ [])) (1 ∷ [])
+both s d = listing (holding s (Some d ∷ [])) (1 ∷ [])
 
 pub record MendedEdges : Type 0 where
   -- ---- the answers
@@ -112,7 +111,7 @@ pub record MendedEdges : Type 0 where
   pub behind_it : turned mended (map (vec3 f32) u8) (map (vec3 f32) f32)
       ≡ bytes "FieldTypeChanged;Major;A;-;newtype 'A' inner type changed from map<vec3<f32>, u8> to map<vec3<f32>, f32>\nBreaking;Major;1\n"
   -- ---- a named node inside a vector: the same name under another id, another name, unresolvable ids
-  pub same_name : told mended (newtype (vec3 (named 1)) (entry "B" u8 ∷ [])) (newtype (vec3 (named 2)) (none ∷ entry "B" u8 ∷ [])) ≡ silent
+  pub same_name : told mended (newtype (vec3 (named 1)) (entry "B" u8 ∷ [])) (newtype (vec3 (named 2)) (None ∷ entry "B" u8 ∷ [])) ≡ silent
   pub other_name : told mended (newtype (vec3 (named 1)) (entry "B" u8 ∷ [])) (newtype (vec3 (named 1)) (entry "C" u8 ∷ []))
       ≡ bytes "FieldTypeChanged;Major;A;-;newtype 'A' inner type changed from vec3<B> to vec3<C>\nBreaking;Major;1\n"
   pub unresolvable : turned mended (vec3 (named 7)) (vec3 (named 8)) ≡ silent
@@ -132,7 +131,7 @@ pub record MendedEdges : Type 0 where
   pub renamed : told mended (having "x" (vec3 f32)) (having "y" (vec3 f32)) ≡ bytes "FieldRenamed;Patch;A;+y;field @0 renamed from 'x' to 'y'\nCompatible;Patch;1\n"
   pub renamed_plain : told plain (having "x" (vec3 f32)) (having "y" (vec3 f32))
       ≡ bytes "FieldRenamed;Patch;A;+y;field @0 renamed from 'x' to 'y'\nFieldTypeChanged;Major;A;+y;field 'y' @0 type changed from vec3<f32> to vec3<f32>\nBreaking;Major;2\n"
-  pub marked : told mended (having "x" (vec3 f32)) (message (field 0 "x" deprecated none (vec3 f32) ∷ []))
+  pub marked : told mended (having "x" (vec3 f32)) (message (field 0 "x" deprecated None (vec3 f32) ∷ []))
       ≡ bytes "FieldDeprecated;Patch;A;+x;field 'x' was marked @deprecated\nCompatible;Patch;1\n"
   pub in_variant : told mended (within (vec3 f32)) (within (vec3 f32)) ≡ silent
   pub changed_in_variant : told mended (within (vec3 f32)) (within (vec3 u8))
@@ -165,5 +164,5 @@ pub record MendedEdges : Type 0 where
   pub gone : told mended (both (enum_of 8 unmarked []) (flags_named "B" 1 [])) (enum_of 8 unmarked [])
       ≡ bytes "DeclarationRemoved;Major;B;-;flags 'B' was removed\nBreaking;Major;1\n"
   -- of a declaration that is not listed, none is compared
-  pub not_listed : told mended (holding (enum_of 8 unmarked []) (some (flags_named "B" 1 []) ∷ [])) (holding (enum_of 8 unmarked []) (some (flags_named "B" 2 []) ∷ []))
+  pub not_listed : told mended (holding (enum_of 8 unmarked []) (Some (flags_named "B" 1 []) ∷ [])) (holding (enum_of 8 unmarked []) (Some (flags_named "B" 2 []) ∷ []))
       ≡ silent

@@ -1,10 +1,9 @@
 -- R-2, "Follow the imports": what is reached through named nodes, as a statement and as something that computes. That the two are the same is
 -- proved (`ReachedIs`). Assumes nothing.
-use Rattle.std.specs.Prelude.{◌≡◌, ◌↔◌, Bool, true, false, cond, ℕ, zero, suc, eqb, length, get_or, set, replicate}
-use Rattle.std.proofs.Math.Option.{Option, none, some}
+use Rattle.std.specs.Prelude.{◌≡◌, ◌↔◌, Bool, true, false, cond, ℕ, zero, suc, eqb, length, get_or, set, replicate, Option, None, Some}
 use mathlib.Core.List.{List, [], ◌∷◌, ◌++◌, flat_map}
 use Rattle.maps.specs.Lists.{pass}
-use Rattle.maps.specs.Walk.{is_some}
+use Rattle.std.specs.Option.{is_some}
 use Rattle.image.specs.Schema.{Label, Ty, leaf, one, two, Decl, Schema}
 use Rattle.image.specs.Codes.{number, named_tag}
 use Rattle.image.specs.Kinds.{kind_of}
@@ -44,7 +43,7 @@ resolvable R id = is_some (stands_for R id)
 -- reached, over any number of steps. Every entry reached is followed, also one that does not stand."
 pub data Reached (s : Schema) : ℕ → Type 0 where
   by_survivor : {id : ℕ} → member id (named_from (view_of s)) ≡ true → resolvable s.registry id ≡ true → Reached s id
-  by_reached : {via id : ℕ} {d : Decl} → Reached s via → stands_for s.registry via ≡ some d → member id (named_of d) ≡ true
+  by_reached : {via id : ℕ} {d : Decl} → Reached s via → stands_for s.registry via ≡ Some d → member id (named_of d) ≡ true
       → resolvable s.registry id ≡ true → Reached s id
 
 -- ---- and computed
@@ -65,8 +64,8 @@ mark_all R m ids = pass (mark R) m ids
 
 -- what the entry of an id names; nothing, if it is unresolvable
 unfoldable pub named_by : Option Decl → List ℕ
-named_by none = []
-named_by (some d) = named_of d
+named_by None = []
+named_by (Some d) = named_of d
 
 -- an id of the set is followed
 unfoldable pub follow : Registry → IdSet → ℕ → IdSet

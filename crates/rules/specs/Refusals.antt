@@ -1,7 +1,6 @@
 -- Document 01, "Turned back", for two images: when each number is given, with which side, and what a refusal is. When a single image is
 -- refused, and that its numbers are 1 to 10, is said by the crate refusals. Assumes nothing.
-use Rattle.std.specs.Prelude.{◌≡◌, ◌↔◌, List, ℕ, ◌≤◌, ◌<◌}
-use Rattle.std.proofs.Math.Option.{none, some}
+use Rattle.std.specs.Prelude.{◌≡◌, ◌↔◌, List, ℕ, ◌≤◌, ◌<◌, None, Some}
 use Rattle.maps.specs.Keyed.{lookup}
 use Rattle.maps.specs.Orders.{before}
 use Rattle.image.specs.Schema.{Name, Decl, Schema}
@@ -25,7 +24,7 @@ pub record Refusal (answer : ℕ → ℕ) : Type 0 where
 pub record Passes (p : Policy) (image : List ℕ) (x : Schema) : Type 0 where
   pub end : ℕ
   pub read : read_image image ≡ ok x end
-  pub alone : p.alone x ≡ none
+  pub alone : p.alone x ≡ None
 
 -- a number of one image
 abbrev pub OneToTen : ℕ → Type 0
@@ -35,14 +34,14 @@ OneToTen k = (number long_refusal ≤ k) × (k ≤ number deep_refusal)
 pub data Decided (p : Policy) (old new : List ℕ) : Outcome → Type 0 where
   -- 1 to 10, "old before new", and after them the check of one image
   old_refused : {k : ℕ} → OneToTen k → read_image old ≡ no k → Decided p old new (refused k (number old_side))
-  old_alone : {x : Schema} {end k : ℕ} → read_image old ≡ ok x end → p.alone x ≡ some k → Decided p old new (refused k (number old_side))
+  old_alone : {x : Schema} {end k : ℕ} → read_image old ≡ ok x end → p.alone x ≡ Some k → Decided p old new (refused k (number old_side))
   new_refused : {x : Schema} {k : ℕ} → Passes p old x → OneToTen k → read_image new ≡ no k → Decided p old new (refused k (number new_side))
-  new_alone : {x y : Schema} {end k : ℕ} → Passes p old x → read_image new ≡ ok y end → p.alone y ≡ some k
+  new_alone : {x y : Schema} {end k : ℕ} → Passes p old x → read_image new ≡ ok y end → p.alone y ≡ Some k
       → Decided p old new (refused k (number new_side))
   -- the checks of the pair
-  pair_refused : {x y : Schema} {f : Fault} → Passes p old x → Passes p new y → first_fault p.pair x y ≡ some f
+  pair_refused : {x y : Schema} {f : Fault} → Passes p old x → Passes p new y → first_fault p.pair x y ≡ Some f
       → Decided p old new (refused f.number f.side)
-  verdict : {x y : Schema} → Passes p old x → Passes p new y → first_fault p.pair x y ≡ none
+  verdict : {x y : Schema} → Passes p old x → Passes p new y → first_fault p.pair x y ≡ None
       → Decided p old new (compared (changes p.reading (p.view x) (p.view y)))
 
 -- a number that neither says that there is a verdict nor that a buffer is full
@@ -51,8 +50,8 @@ Own k = (k ≡ number not_refused → ⊥) × (k ≡ number full_refusal → ⊥
 
 -- the numbers of a policy's checks are such
 pub record Numbered (p : Policy) : Type 0 where
-  pub alone : (x : Schema) (k : ℕ) → p.alone x ≡ some k → Own k
-  pub pair : (x y : Schema) (f : Fault) → first_fault p.pair x y ≡ some f → Own f.number
+  pub alone : (x : Schema) (k : ℕ) → p.alone x ≡ Some k → Own k
+  pub pair : (x y : Schema) (f : Fault) → first_fault p.pair x y ≡ Some f → Own f.number
 
 pub record PolicyRefusals (p : Policy) (old new : List ℕ) : Type 0 where
   -- an outcome is that of the two images exactly if they are decided so
@@ -114,7 +113,7 @@ module _ (view : Schema → View) where
   -- what stands of a name is a generic alias
   pub record Alias (name : Name) (s : Schema) : Type 0 where
     pub decl : Decl
-    pub stands : lookup name_of before name (view s).standing ≡ some decl
+    pub stands : lookup name_of before name (view s).standing ≡ Some decl
     pub generic : decl.kind ≡ number alias_kind
 
   -- "survivors of one name are generic aliases in both images"

@@ -1,7 +1,6 @@
 -- The report: document 01, "Report". Assumes nothing.
-use Rattle.std.proofs.Math.Option.{Option, none, some}
+use Rattle.std.specs.Prelude.{Option, None, Some, ℕ, length}
 use mathlib.Core.List.{List, [], ◌∷◌, ◌++◌, flat_map}
-use Rattle.std.specs.Prelude.{ℕ, length}
 use Prim.Native.String.{String}
 use Rattle.image.specs.Schema.{Name}
 use Rattle.image.specs.Words.{bytes}
@@ -35,8 +34,8 @@ result_word result = word result_names result
 
 -- "`-` if the change has no field, else `+` and the field"
 unfoldable pub field_part : Option Name → List ℕ
-field_part none = bytes "-"
-field_part (some n) = bytes "+" ++ n
+field_part None = bytes "-"
+field_part (Some n) = bytes "+" ++ n
 
 -- "parted by `;`, ended by byte 10"
 unfoldable pub line : List (List ℕ) → List ℕ

@@ -1,7 +1,6 @@
 -- Survivors: "Of declarations with one name the last listed stands. .. The same holds for ordinals and bits inside one body or variant."
 -- Assumes nothing.
-use Rattle.std.proofs.Math.Option.{Option, none, some}
-use Rattle.std.specs.Prelude.{List, [], ◌∷◌, ℕ, ltb, get_or}
+use Rattle.std.specs.Prelude.{Option, None, Some, List, [], ◌∷◌, ℕ, ltb, get_or}
 use Rattle.maps.specs.Keyed.{survivors}
 use Rattle.maps.specs.Orders.{before}
 use Rattle.image.specs.Schema.{Name, Field, Variant, Decl, Schema}
@@ -11,12 +10,12 @@ Registry = List (Option Decl)
 
 -- "An id that is N or more, or whose entry is empty, is unresolvable"
 unfoldable pub stands_for : Registry → ℕ → Option Decl
-stands_for R id = get_or R id none
+stands_for R id = get_or R id None
 
 -- "in the declaration list it is skipped"
 unfoldable pub resolved : Option Decl → List Decl → List Decl
-resolved none ds = ds
-resolved (some d) ds = d ∷ ds
+resolved None ds = ds
+resolved (Some d) ds = d ∷ ds
 
 unfoldable pub listed : Registry → List ℕ → List Decl
 listed R [] = []

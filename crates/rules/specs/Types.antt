@@ -1,6 +1,5 @@
 -- Types: when two are equal. Assumes nothing.
-use Rattle.std.specs.Prelude.{Bool, false, cond, not, ◌&&◌, ◌||◌, List, [], ◌∷◌, ℕ, eqb, leb}
-use Rattle.std.proofs.Math.Option.{Option, none, some}
+use Rattle.std.specs.Prelude.{Bool, false, cond, not, ◌&&◌, ◌||◌, List, [], ◌∷◌, ℕ, eqb, leb, Option, None, Some}
 use Rattle.image.specs.Schema.{Name, Label, label, Ty, leaf, one, two, Decl}
 use Rattle.image.specs.Codes.{number, named_tag, vec2_tag, mat4_tag}
 use Rattle.rules.specs.Equal.{same_names}
@@ -8,8 +7,8 @@ use Rattle.rules.specs.Survivors.{Registry, stands_for}
 
 -- the name that an id stands for in its own registry: a list with that name, or with none if the id is unresolvable
 unfoldable pub name_or_none : Option Decl → List Name
-name_or_none none = []
-name_or_none (some d) = d.name ∷ []
+name_or_none None = []
+name_or_none (Some d) = d.name ∷ []
 
 -- a named node has its name instead of its id
 unfoldable pub resolve_label : Registry → Label → Label

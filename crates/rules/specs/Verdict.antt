@@ -1,6 +1,5 @@
 -- The verdict: bump, result, counts; and refusal 11. Assumes nothing.
-use Rattle.std.specs.Prelude.{Bool, false, cond, ◌&&◌, ◌||◌, List, [], ◌∷◌, ℕ, eqb}
-use Rattle.std.proofs.Math.Option.{Option, none, some}
+use Rattle.std.specs.Prelude.{Bool, false, cond, ◌&&◌, ◌||◌, List, [], ◌∷◌, ℕ, eqb, Option, None, Some}
 use Rattle.maps.specs.Lists.{largest, count}
 use Rattle.maps.specs.Keyed.{lookup}
 use Rattle.maps.specs.Orders.{before}
@@ -29,8 +28,8 @@ unfoldable pub alias : Decl → Bool
 alias d = eqb d.kind (number alias_kind)
 
 unfoldable pub is_alias : Option Decl → Bool
-is_alias none = false
-is_alias (some d) = alias d
+is_alias None = false
+is_alias (Some d) = alias d
 
 unfoldable pub any : {A : Type 0} → (A → Bool) → List A → Bool
 any p [] = false

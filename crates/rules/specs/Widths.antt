@@ -1,6 +1,5 @@
 -- R-6, "Widths written out": what the mended verdict reports of widths, and its check that both images store them. Assumes nothing.
-use Rattle.std.specs.Prelude.{Bool, cond, not, ◌||◌, ◌++◌, List, [], ℕ, eqb}
-use Rattle.std.proofs.Math.Option.{Option, none, some}
+use Rattle.std.specs.Prelude.{Bool, cond, not, ◌||◌, ◌++◌, List, [], ℕ, eqb, Option, None, Some}
 use Rattle.image.specs.Schema.{Decl, Schema}
 use Rattle.image.specs.Codes.{number, mixed_refusal, both_sides}
 use Rattle.image.specs.Words.{bytes}
@@ -11,19 +10,19 @@ use Rattle.rules.specs.Answer.{fault, Check}
 
 -- as it is stored; a format without widths, which this verdict refuses, has nothing to show
 unfoldable pub show_width : Option ℕ → List ℕ
-show_width none = []
-show_width (some w) = decimal w
+show_width None = []
+show_width (Some w) = decimal w
 
 -- "reports a differing width between two enums or two flags as WidthChanged, Major, without a field, .. with the detail "width changed from 8
 -- to 16", both numbers as stored". Of two declarations of one kind; other kinds have no width.
 unfoldable pub compare_widths : Decl → Decl → List Change
 compare_widths old new =
     only (not (same_option eqb old.width new.width))
-    (change (kind_at WidthChanged) major old.name none (bytes "width changed" ++ from_to (show_width old.width) (show_width new.width)))
+    (change (kind_at WidthChanged) major old.name None (bytes "width changed" ++ from_to (show_width old.width) (show_width new.width)))
 
 -- 16: "if either image or both are format 1"
 unfoldable pub mixed : Schema → Schema → Bool
 mixed x y = eqb x.format 1 || eqb y.format 1
 
 unfoldable pub mixed_check : Check
-mixed_check x y = cond (mixed x y) (some (fault (number mixed_refusal) (number both_sides))) none
+mixed_check x y = cond (mixed x y) (Some (fault (number mixed_refusal) (number both_sides))) None

@@ -1,6 +1,6 @@
 -- What the searches over the declarations say of those that stand: for a walk over them by rising name. Assumes nothing.
 use mathlib.Core.Path.{◌≡◌, sym, ◌∙◌}
-use mathlib.Core.Option.{none, some}
+use Rattle.std.specs.Prelude.{Option, None, Some}
 use mathlib.Core.List.{List}
 use Prim.Native.Nat.{ℕ}
 use Rattle.maps.specs.Orders.{before}
@@ -8,8 +8,6 @@ use Rattle.maps.specs.Keyed.{lookup}
 use Rattle.maps.specs.Walk.{following}
 use Rattle.image.specs.Schema.{Name, Decl}
 use Rattle.parts.specs.Promise.{DeclHere, decl_in}
-use Rattle.parts.specs.declared.Entry.{Entry}
-use Rattle.parts.specs.declared.Entry.TheVariants.{Body, Unresolvable}
 use Rattle.rules.specs.Survivors.{name_of}
 use Rattle.survivors.specs.Answers.{named, Survives, Follows}
 use Rattle.survivors.proofs.Laws.Nearest.{entry_here}
@@ -19,24 +17,24 @@ pub use Rattle.survivors.proofs.Laws.Nearest.{decl_none, decl_body, named_none, 
 -- ---- the answers, where m are the declarations that stand
 
 -- of `survivor`
-module _ {m : List Decl} (s : List ℕ) (name : Name) {r : Entry} (h : Survives m s name r) where
-  pub survives_none : r ≡ Unresolvable → lookup name_of before name m ≡ none
+module _ {m : List Decl} (s : List ℕ) (name : Name) {r : Option ℕ} (h : Survives m s name r) where
+  pub survives_none : r ≡ None → lookup name_of before name m ≡ None
   survives_none e = sym h.value ∙ decl_none s e
 
-  module _ {at : ℕ} (e : r ≡ Body at) where
-    pub survives_body : lookup name_of before name m ≡ some (decl_in s at)
+  module _ {at : ℕ} (e : r ≡ Some at) where
+    pub survives_body : lookup name_of before name m ≡ Some (decl_in s at)
     survives_body = sym h.value ∙ decl_body s e
 
     pub survives_here : DeclHere s at
     survives_here = entry_here s e h.here
 
 -- of `next_decl`
-module _ {m : List Decl} (s : List ℕ) (after : Entry) {r : Entry} (h : Follows m s after r) where
-  pub follows_none : r ≡ Unresolvable → following name_of before (named s after) m ≡ none
+module _ {m : List Decl} (s : List ℕ) (after : Option ℕ) {r : Option ℕ} (h : Follows m s after r) where
+  pub follows_none : r ≡ None → following name_of before (named s after) m ≡ None
   follows_none e = sym h.value ∙ decl_none s e
 
-  module _ {at : ℕ} (e : r ≡ Body at) where
-    pub follows_body : following name_of before (named s after) m ≡ some (decl_in s at)
+  module _ {at : ℕ} (e : r ≡ Some at) where
+    pub follows_body : following name_of before (named s after) m ≡ Some (decl_in s at)
     follows_body = sym h.value ∙ decl_body s e
 
     pub follows_here : DeclHere s at

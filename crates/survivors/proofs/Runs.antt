@@ -1,7 +1,7 @@
 -- What the searches over a run of items say of the items that stand: for a walk over them by rising ordinal. Assumes nothing.
 use mathlib.Core.Path.{◌≡◌, refl, sym, ap, ◌∙◌}
 use mathlib.Core.Bool.{Bool}
-use mathlib.Core.Option.{Option, none, some, map}
+use Rattle.std.specs.Prelude.{Option, None, Some, option_map}
 use mathlib.Core.List.{List}
 use Prim.Native.Nat.{ℕ, zero, suc, ◌<◌}
 use native.Mathlib.Omega.{arith}
@@ -9,7 +9,8 @@ use native.Mathlib.Numerals.{sub-one}
 use lib.Dec.{ltb}
 use Rattle.maps.specs.Lists.{All}
 use Rattle.maps.specs.Keyed.{survivors, lookup}
-use Rattle.maps.specs.Walk.{is_some, Rising, following}
+use Rattle.std.specs.Option.{is_some}
+use Rattle.maps.specs.Walk.{Rising, following}
 use Rattle.maps.proofs.Orders.{by_number}
 use Rattle.maps.proofs.Survivors.{rising}
 use Rattle.maps.proofs.Places.{Placed, lookup_placed, following_placed}
@@ -19,14 +20,9 @@ use Rattle.parts.specs.declared.Shape.TheVariants as shape
 use Rattle.parts.specs.declared.Run.{Run}
 use Rattle.parts.proofs.Promise.{places_none, places_more, items_first, items_rest, field_ordinal, variant_ordinal_lem}
 use Rattle.rules.specs.Survivors.{field_map, variant_map}
-use Rattle.survivors.specs.Answers.{place_of, FoundHere, number_of, place_map, ItemSurvives, place_next, NextHere, ItemFollows}
+use Rattle.survivors.proofs.Laws.Better.{some_map}
+use Rattle.survivors.specs.Answers.{place_map, ItemSurvives, place_next, NextHere, ItemFollows}
 use Rattle.survivors.specs.Runs.{item_in, item_ordinal, item_map, items_of, Holds}
-use Rattle.survivors.specs.declared.Found.{Found}
-use Rattle.survivors.specs.declared.Found.TheVariants as found
-use Rattle.survivors.specs.declared.Ordinal.{Ordinal}
-use Rattle.survivors.specs.declared.Ordinal.TheVariants as ordinal
-use Rattle.survivors.specs.declared.Next.{Next}
-use Rattle.survivors.specs.declared.Next.TheVariants as next
 
 -- a run that is well formed
 pub run_holds : (h : Shape) (s : List ℕ) (n : Run) → ItemsHere h s n.count n.start → Holds h s n (items_of h s n)
@@ -60,39 +56,31 @@ placed h s (suc c) at g =
     rw (places_more s (suc c) at h l, sub-one)
     (item_ordinal_lem h s at (items_first h s (suc c) at l g), placed h s c (item_end h s at) (rw sub-one at (items_rest h s (suc c) at l g)))
 
-some_map : {A B : Type 0} (f : A → B) (o : Option A) → is_some o ≡ is_some (map f o)
-unfolding is_some
-some_map f none = refl
-some_map f (some a) = refl
-
 module _ (h : Shape) (s : List ℕ) (n : Run) {xs : List (ItemOf h)} (r : Holds h s n xs) where
   -- what stands is at the places that stand
-  pub holds_lookup : (k : ℕ) → lookup (item_ordinal h) ltb k (item_map h xs) ≡ map (item_in h s) (lookup (ordinal_in s) ltb k (place_map h s n))
+  pub holds_lookup : (k : ℕ) → lookup (item_ordinal h) ltb k (item_map h xs) ≡ option_map (item_in h s) (lookup (ordinal_in s) ltb k (place_map h s n))
   unfolding items_of place_map
   holds_lookup k =
       rw (stands h xs, r.are)
       (lookup_placed (item_ordinal h) ltb (item_in h s) (ordinal_in s) k (places_from h s n.count n.start) (placed h s n.count n.start r.here))
 
   pub holds_following : (b : Option ℕ)
-      → following (item_ordinal h) ltb b (item_map h xs) ≡ map (item_in h s) (following (ordinal_in s) ltb b (place_map h s n))
+      → following (item_ordinal h) ltb b (item_map h xs) ≡ option_map (item_in h s) (following (ordinal_in s) ltb b (place_map h s n))
   unfolding items_of place_map
   holds_following b =
       rw (stands h xs, r.are)
       (following_placed (item_ordinal h) ltb (item_in h s) (ordinal_in s) b (places_from h s n.count n.start) (placed h s n.count n.start r.here))
 
   -- the answers of `survivor_item`
-  module _ (k : ℕ) {o : Found} (a : ItemSurvives h s n k o) where
-    pub found_none : o ≡ found.Nothing → lookup (item_ordinal h) ltb k (item_map h xs) ≡ none
-    unfolding place_of
-    found_none e = holds_lookup k ∙ ap (map (item_in h s)) (sym a.place ∙ ap place_of e)
+  module _ (k : ℕ) {o : Option ℕ} (a : ItemSurvives h s n k o) where
+    pub found_none : o ≡ None → lookup (item_ordinal h) ltb k (item_map h xs) ≡ None
+    found_none e = holds_lookup k ∙ ap (option_map (item_in h s)) (sym a.place ∙ e)
 
-    module _ {p : ℕ} (e : o ≡ found.At p) where
-      pub found_item : lookup (item_ordinal h) ltb k (item_map h xs) ≡ some (item_in h s p)
-      unfolding place_of
-      found_item = holds_lookup k ∙ ap (map (item_in h s)) (sym a.place ∙ ap place_of e)
+    module _ {p : ℕ} (e : o ≡ Some p) where
+      pub found_item : lookup (item_ordinal h) ltb k (item_map h xs) ≡ Some (item_in h s p)
+      found_item = holds_lookup k ∙ ap (option_map (item_in h s)) (sym a.place ∙ e)
 
       pub found_here : ItemHere h s p
-      unfolding FoundHere
       found_here = rw e at a.here
 
   -- the answers of `has_item`
@@ -100,29 +88,16 @@ module _ (h : Shape) (s : List ℕ) (n : Run) {xs : List (ItemOf h)} (r : Holds 
   has_stands k a = a ∙ some_map (item_in h s) (lookup (ordinal_in s) ltb k (place_map h s n)) ∙ ap is_some (sym (holds_lookup k))
 
   -- the answers of `next_item`
-  module _ (after : Ordinal) {o : Next} (a : ItemFollows h s n after o) where
-    pub next_none : o ≡ next.Nothing → following (item_ordinal h) ltb (number_of after) (item_map h xs) ≡ none
-    unfolding place_next
-    next_none e = holds_following (number_of after) ∙ ap (map (item_in h s)) (sym a.place ∙ ap place_next e)
+  module _ (after : Option ℕ) {o : Option (ℕ × ℕ)} (a : ItemFollows h s n after o) where
+    pub next_none : o ≡ None → following (item_ordinal h) ltb after (item_map h xs) ≡ None
+    next_none e = holds_following after ∙ ap (option_map (item_in h s)) (sym a.place ∙ ap place_next e)
 
-    module _ {k p : ℕ} (e : o ≡ next.Is k p) where
-      pub next_item : following (item_ordinal h) ltb (number_of after) (item_map h xs) ≡ some (item_in h s p)
-      unfolding place_next
-      next_item = holds_following (number_of after) ∙ ap (map (item_in h s)) (sym a.place ∙ ap place_next e)
+    module _ {k p : ℕ} (e : o ≡ Some (k, p)) where
+      pub next_item : following (item_ordinal h) ltb after (item_map h xs) ≡ Some (item_in h s p)
+      next_item = holds_following after ∙ ap (option_map (item_in h s)) (sym a.place ∙ ap place_next e)
 
       pub next_here : ItemHere h s p
-      unfolding NextHere
       next_here = (rw e at a.here).1
 
       pub next_ordinal : item_ordinal h (item_in h s p) ≡ k
-      unfolding NextHere
       next_ordinal = item_ordinal_lem h s p next_here ∙ sym (rw e at a.here).0
-
--- where a walk starts, and the bound after an ordinal
-pub number_none : {o : Ordinal} → o ≡ ordinal.Nothing → number_of o ≡ none
-unfolding number_of
-number_none e = rw e
-
-pub number_is : {o : Ordinal} {k : ℕ} → o ≡ ordinal.Is k → number_of o ≡ some k
-unfolding number_of
-number_is e = rw e

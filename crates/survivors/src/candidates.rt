@@ -2,7 +2,6 @@
 ghost use Rattle.std.specs.Prelude.{◌≡◌, ◌<◌, length};
 ghost use Rattle.survivors.specs.Candidates.{Searchable, candidates, Candidate};
 
-use parts::Entry;
 use parts::entries::{entry, id_at, id_count};
 
 // How many positions there are.
@@ -14,8 +13,8 @@ pub fn candidate_count(image: &[u8], reached: &[bool]) -> usize
     reached.len() + listed
 }
 
-// The entry at a position: unresolvable too where the set does not have an id.
-pub fn candidate(image: &[u8], reached: &[bool], i: usize) -> Entry
+// The place of the declaration at a position: none, too, where the set does not have an id.
+pub fn candidate(image: &[u8], reached: &[bool], i: usize) -> Option<usize>
     requires { Searchable image.now reached.now × (i < length (candidates image.now reached.now)) }
     ensures { Candidate image.now reached.now i result }
 {
@@ -24,7 +23,7 @@ pub fn candidate(image: &[u8], reached: &[bool], i: usize) -> Entry
         return entry(image, id_at(image, i - n));
     }
     if !reached[i] {
-        return Entry::Unresolvable;
+        return None;
     }
     entry(image, i as u32)
 }

@@ -5,24 +5,3 @@
 pub mod candidates;
 pub mod decls;
 pub mod items;
-
-// The place of an item.
-#[derive(Clone, Copy)]
-pub enum Found {
-    At(usize),
-    Nothing,
-}
-
-// The ordinal of an item.
-#[derive(Clone, Copy)]
-pub enum Ordinal {
-    Is(u32),
-    Nothing,
-}
-
-// An item that comes next: its ordinal and its place.
-#[derive(Clone, Copy)]
-pub enum Next {
-    Is(u32, usize),
-    Nothing,
-}

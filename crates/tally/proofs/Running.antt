@@ -2,7 +2,7 @@
 -- reporter asks, and a law takes each part off. Assumes nothing.
 use mathlib.Core.Path.{◌≡◌, refl, sym, ap, ◌∙◌}
 use mathlib.Core.List.{List, [], ◌∷◌, flat_map, append-nil}
-use Prim.Native.Nat.{ℕ, ◌<◌}
+use Prim.Native.Nat.{ℕ}
 use native.Mathlib.Nat.{zero-add}
 use native.Mathlib.Omega.{arith}
 use lib.ListN.{length}
@@ -12,7 +12,7 @@ use Rattle.text.proofs.Writing.{puts_length}
 use Rattle.text.proofs.Pieces.{together, together_cons, Owes, owes_start, owes_room, owes_next, owes_end, owes_cut}
 use Rattle.text.proofs.Lending.{part, with_part, Lent, lent}
 use Rattle.maps.specs.Lists.{pass}
-use Rattle.rules.specs.Changes.{level, kind_count, Change}
+use Rattle.rules.specs.Changes.{level, Change}
 use Rattle.rules.specs.Report.{change_line}
 use Rattle.tally.specs.Tallies.{no_change, with_change, tallied, tally_from, lines_of, TallyOf, Sound, Countable}
 use Rattle.tally.specs.Reporting.{Ready, Ran}
@@ -98,12 +98,12 @@ module _ {m : Mode} {d : List ℕ} {t : Tally} {c : Change} (q : Ready m d t (c 
   unfolding lines_of flat_map
   one_space = rw append-nil at q.space
 
-  pub one_lent : {done : ℕ} → done ≡ start_in m t.length → Lent m d t.length (change_line c) done
+  pub one_lent : {done : ℕ} → done ≡ start_in m (length d) t.length → Lent m d t.length (change_line c) done
   one_lent e = lent (change_line c) one_space e
 
-  module _ {done : ℕ} (e : done ≡ start_in m t.length) {n : ℕ} {ys : List ℕ} (w : Puts m (part d done) 0 (change_line c) n ys) where
-    pub one_countable : {kind : ℕ} → kind < kind_count → Countable t kind n
-    one_countable k = record { sound = q.sound; known = k; small = omega (arith, one_space.small, w.end) }
+  module _ {done : ℕ} (e : done ≡ start_in m (length d) t.length) {n : ℕ} {ys : List ℕ} (w : Puts m (part d done) 0 (change_line c) n ys) where
+    pub one_countable : Countable t n
+    one_countable = record { sound = q.sound; small = omega (arith, one_space.small, w.end) }
 
     pub ran_one : {kind l : ℕ} {r : Tally} → r ≡ with_change t kind l n → kind ≡ c.kind → l ≡ level c.bump → Ran m d t (c ∷ []) r (with_part d done ys)
     unfolding tally_from pass tallied lines_of flat_map

@@ -2,11 +2,36 @@
 use Rattle.std.specs.Prelude.{◌≡◌, ℕ, ◌+◌, ◌^◌, ◌≤◌, ◌<◌, max, length, get_or, set, replicate}
 use mathlib.Core.List.{List, flat_map}
 use Rattle.maps.specs.Lists.{pass}
-use Rattle.rules.specs.Changes.{level, kind_count, Change}
+use Rattle.rules.specs.Changes.{level, kind_at, kind_count, Change}
+use Rattle.rules.specs.Changes as spec
 use Rattle.rules.specs.Report.{change_line}
 use Rattle.rules.specs.Verdict.{bump_of}
 use Rattle.rules.specs.Answer.{counts}
+use Rattle.tally.specs.declared.ChangeKind.{ChangeKind}
+use Rattle.tally.specs.declared.ChangeKind.TheVariants as kind
 use Rattle.tally.specs.declared.Tally.{Tally}
+
+-- the place of a kind among the counts, as `ChangeKind` of the requirements has it
+abbrev pub kind_number : ChangeKind → ℕ
+kind_number kind.FieldAdded = kind_at spec.FieldAdded
+kind_number kind.FieldRemoved = kind_at spec.FieldRemoved
+kind_number kind.FieldTypeChanged = kind_at spec.FieldTypeChanged
+kind_number kind.FieldOrdinalChanged = kind_at spec.FieldOrdinalChanged
+kind_number kind.FieldRenamed = kind_at spec.FieldRenamed
+kind_number kind.FieldDeprecated = kind_at spec.FieldDeprecated
+kind_number kind.FieldEncodingChanged = kind_at spec.FieldEncodingChanged
+kind_number kind.VariantAdded = kind_at spec.VariantAdded
+kind_number kind.VariantRemoved = kind_at spec.VariantRemoved
+kind_number kind.VariantOrdinalChanged = kind_at spec.VariantOrdinalChanged
+kind_number kind.DeclarationAdded = kind_at spec.DeclarationAdded
+kind_number kind.DeclarationRemoved = kind_at spec.DeclarationRemoved
+kind_number kind.DeclarationKindChanged = kind_at spec.DeclarationKindChanged
+kind_number kind.NamespaceChanged = kind_at spec.NamespaceChanged
+kind_number kind.NonExhaustiveChanged = kind_at spec.NonExhaustiveChanged
+kind_number kind.FlagsBitAdded = kind_at spec.FlagsBitAdded
+kind_number kind.FlagsBitRemoved = kind_at spec.FlagsBitRemoved
+kind_number kind.FlagsBitOrdinalChanged = kind_at spec.FlagsBitOrdinalChanged
+kind_number kind.WidthChanged = kind_at spec.WidthChanged
 
 -- of no change
 unfoldable pub no_change : Tally
@@ -45,7 +70,6 @@ pub record Sound (t : Tally) : Type 0 where
   pub few : t.changes ≤ t.length
 
 -- what is asked before a change is counted
-pub record Countable (t : Tally) (kind n : ℕ) : Type 0 where
+pub record Countable (t : Tally) (n : ℕ) : Type 0 where
   pub sound : Sound t
-  pub known : kind < kind_count
   pub small : t.length + n < 2 ^ 62

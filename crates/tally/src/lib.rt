@@ -1,15 +1,50 @@
 // The tally of changes: a count for each kind, the bump, the length of the lines, and how many changes there are.
 #![tactic(auto)]
 
-ghost use Rattle.std.specs.Prelude.{◌≡◌, max};
+ghost use Rattle.std.specs.Prelude.{◌≡◌, ◌<◌, max};
+ghost use Rattle.rules.specs.Changes.{kind_count};
 ghost use Rattle.rules.specs.Verdict.{result_at};
-ghost use Rattle.tally.specs.Tallies.{Countable, no_change, with_change};
+ghost use Rattle.tally.specs.Tallies.{Countable, kind_number, no_change, with_change};
+
+// The kinds of change, in the order of compat.rs, each with its place among the counts; after them the one of widths.
+#[derive(Clone, Copy, Debug, PartialEq, Eq)]
+pub enum ChangeKind {
+    FieldAdded = 0,
+    FieldRemoved = 1,
+    FieldTypeChanged = 2,
+    FieldOrdinalChanged = 3,
+    FieldRenamed = 4,
+    FieldDeprecated = 5,
+    FieldEncodingChanged = 6,
+    VariantAdded = 7,
+    VariantRemoved = 8,
+    VariantOrdinalChanged = 9,
+    DeclarationAdded = 10,
+    DeclarationRemoved = 11,
+    DeclarationKindChanged = 12,
+    NamespaceChanged = 13,
+    NonExhaustiveChanged = 14,
+    FlagsBitAdded = 15,
+    FlagsBitRemoved = 16,
+    FlagsBitOrdinalChanged = 17,
+    WidthChanged = 18,
+}
+
+impl ChangeKind {
+    // Its place among the counts.
+    pub fn place(self) -> usize
+        ensures is { result ≡ kind_number self }
+        ensures known { result < kind_count }
+    {
+        self as usize
+    }
+}
 
 // How many kinds are counted.
 pub const KINDS: usize = 19;
 
 // The weight of a change.
-#[derive(Clone, Copy)]
+#[derive(Clone, Copy, Debug, PartialEq, Eq, PartialOrd, Ord)]
 pub struct Bump {
     pub level: u8,
 }
@@ -25,11 +60,7 @@ impl Bump {
     pub fn larger(self, other: Bump) -> Bump
         ensures { result.level ≡ max self.level other.level }
     {
-        if self.level < other.level {
-            other
-        } else {
-            self
-        }
+        self.max(other)
     }
 
     // "the result (Breaking exactly at Major)": Breaking 1, Compatible 0, also the places of their words.
@@ -66,20 +97,20 @@ impl Tally {
     }
 
     // With a change more, whose line has n bytes.
-    pub fn with_change(self, kind: usize, bump: Bump, n: usize) -> Tally
-        requires { Countable self kind n }
-        ensures { result ≡ with_change self kind bump.level n }
+    pub fn with_change(self, kind: ChangeKind, bump: Bump, n: usize) -> Tally
+        requires { Countable self n }
+        ensures { result ≡ with_change self (kind_number kind) bump.level n }
     {
         let mut counts = self.counts;
-        counts[kind] += 1;
+        counts[kind.place()] += 1;
         let largest = self.bump.larger(bump);
         let length = self.length + n;
         let changes = self.changes + 1;
         Tally {
-            counts: counts,
+            counts,
             bump: largest,
-            length: length,
-            changes: changes,
+            length,
+            changes,
         }
     }
 }

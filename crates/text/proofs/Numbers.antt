@@ -8,10 +8,9 @@ use native.Mathlib.Numerals.{add-one}
 use native.Mathlib.Omega.{arith}
 use borrow.Author.Tests.{lt-ltb, le-ltb}
 use lib.Dec.{ltb}
-use lib.ListN.{length, set, take, drop, length-append, length-drop, length-set}
+use lib.ListN.{length, set, drop, length-append, length-set}
 use lib.Pow.{pow-add}
-use lib.Seq.{take_all}
-use Rattle.text.specs.Decimal.{digits, decimal, Spelled}
+use Rattle.text.specs.Decimal.{digits, decimal}
 
 drop_set : (l : List ℕ) (j v : ℕ) → j < length l → drop j (set l j v) ≡ v ∷ drop (suc j) l
 drop_set [] j v h = absurd (not-suc-le-zero h)
@@ -47,9 +46,6 @@ spells_last x bytes zero left h s = absurd (not-suc-le-zero s.some)
 spells_last x bytes (suc j) left h s =
     let e : suc j - 1 ≡ j = omega arith in
     rw (e, drop_set bytes j (48 + left) s.within) (rw (lt-ltb left 10 h) at s.rest)
-
-pub spelled_part : (n : ℕ) (bytes : List ℕ) (from : ℕ) → Spelled n bytes from → take (20 - from) (drop from bytes) ≡ decimal n
-spelled_part n bytes from s = take_all (20 - from) (drop from bytes) (rw length-drop (omega arith)) ∙ s.are
 
 -- how many digits there are
 digits_length : (d n : ℕ) → length (digits d n) ≤ d

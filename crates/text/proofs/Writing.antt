@@ -2,7 +2,7 @@
 use mathlib.Core.Path.{◌≡◌, refl, sym, ap, ◌∙◌}
 use mathlib.Core.List.{List, [], ◌++◌, append_assoc}
 use Prim.Native.Nat.{ℕ, ◌+◌, ◌^◌, ◌≤◌, ◌<◌}
-use native.Mathlib.Nat.{add_assoc, zero-add, le_refl}
+use native.Mathlib.Nat.{add_assoc, le_refl}
 use native.Mathlib.Omega.{arith}
 use lib.ListN.{length, take, drop, length-append}
 use lib.Seq.{length-take-le, take-length, take_at, drop_at, drop-drop, paste, length-paste, paste-zero}
@@ -17,7 +17,7 @@ pub paste_put : (d : List ℕ) (at : ℕ) (xs : List ℕ) → paste d at xs (len
 unfolding put
 paste_put d at xs = rw (take-length, append_assoc)
 
-put_length : (d : List ℕ) (at : ℕ) (xs : List ℕ) → at + length xs ≤ length d → length (put d at xs) ≡ length d
+pub put_length : (d : List ℕ) (at : ℕ) (xs : List ℕ) → at + length xs ≤ length d → length (put d at xs) ≡ length d
 put_length d at xs h = rw (← paste_put d at xs) (length-paste d at xs (length xs) h (le_refl (length xs)))
 
 put_nil : (d : List ℕ) (at : ℕ) → put d at [] ≡ d
@@ -68,11 +68,6 @@ space_measure h = record { small = h; room = tt }
 pub space_write : {d : List ℕ} {at n : ℕ} → at + n < 2 ^ 62 → at + n ≤ length d → Space Write d at n
 unfolding Room
 space_write h r = record { small = h; room = r }
-
--- from the start of a buffer
-pub puts_written : {d : List ℕ} {xs : List ℕ} {r : ℕ} {d' : List ℕ} → Puts Write d 0 xs r d' → d' ≡ xs ++ drop (length xs) d
-unfolding put_in put
-puts_written {d} {xs} p = p.bytes ∙ ap (λ (k : ℕ). xs ++ drop k d) (zero-add (length xs))
 
 -- a writer keeps the buffer's length
 pub puts_length : {m : Mode} {d : List ℕ} {at : ℕ} (xs : List ℕ) {r : ℕ} {d' : List ℕ} → Space m d at (length xs) → Puts m d at xs r d' → length d' ≡ length d

@@ -27,7 +27,7 @@ pub record Puts (mode : Mode) (d : List ℕ) (at : ℕ) (xs : List ℕ) (r : ℕ
   pub end : r ≡ at + length xs
   pub bytes : d' ≡ put_in mode d at xs
 
--- where the part of a buffer starts that a writer at a place is lent: what only measures is lent the whole
-unfoldable pub start_in : Mode → ℕ → ℕ
-start_in Measure at = 0
-start_in Write at = at
+-- where the part of a buffer of so many bytes starts that a writer at a place is lent: what only measures is lent none of it
+unfoldable pub start_in : Mode → ℕ → ℕ → ℕ
+start_in Measure len at = len
+start_in Write len at = at

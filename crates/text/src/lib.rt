@@ -1,9 +1,10 @@
-// Text that is measured, or written into a lent buffer at a place.
+// Text after text into a lent buffer, as far as it reaches.
 #![tactic(auto)]
 
 ghost use Rattle.std.specs.Prelude.{◌≡◌, [], ◌∷◌, ◌+◌, ◌≤◌, length};
 ghost use Rattle.text.specs.Decimal.{decimal, Spelled};
 ghost use Rattle.text.specs.Text.{put, Space, Puts, start_in};
+ghost use Rattle.text.specs.Writers.{Adds};
 
 // Whether text is only measured, or written too.
 #[derive(Clone, Copy)]
@@ -24,34 +25,9 @@ fn copy(out: &mut [u8], at: usize, s: &[u8])
     requires { at + length s.now ≤ length out.old }
     ensures { out.new ≡ put out.old at s.now }
 {
-    let mut j = 0;
-    while j < s.len() {
+    for j in 0..s.len() {
         out[at + j] = s[j];
-        j += 1;
     }
-}
-
-// Text in its place, if it is to be written; and the place after it.
-pub fn put_text(mode: Mode, out: &mut [u8], at: usize, s: &[u8]) -> usize
-    requires { Space mode out.old at (length s.now) }
-    ensures { Puts mode out.old at s.now result out.new }
-{
-    match mode {
-        Mode::Measure => at + s.len(),
-        Mode::Write => {
-            copy(out, at, s);
-            at + s.len()
-        }
-    }
-}
-
-// A byte in its place, and the place after it.
-pub fn put_byte(mode: Mode, out: &mut [u8], at: usize, b: u8) -> usize
-    requires { Space mode out.old at 1 }
-    ensures { Puts mode out.old at (b ∷ []) result out.new }
-{
-    let s = [b];
-    put_text(mode, out, at, &s)
 }
 
 // A number in decimal.
@@ -74,23 +50,65 @@ fn spelled(n: u64) -> Digits
     }
 }
 
-// A number in decimal in its place, and the place after it.
-pub fn put_number(mode: Mode, out: &mut [u8], at: usize, n: u64) -> usize
-    requires { Space mode out.old at (length (decimal n)) }
-    ensures { Puts mode out.old at (decimal n) result out.new }
-{
-    let d = spelled(n);
-    let from = d.from;
-    let bytes = d.bytes;
-    put_text(mode, out, at, &bytes[from..])
+// Text after text into a buffer, as far as the buffer reaches: what is past its end is only counted, so that an empty buffer measures.
+// `at` is the place after the text so far.
+#[derive(Drop)]
+pub struct Writer<'a> {
+    out: &'a mut [u8],
+    pub at: usize,
 }
 
-// Where the part of a buffer starts that a writer at a place is lent: what only measures is lent the whole.
-pub fn start_in(mode: Mode, at: usize) -> usize
-    ensures { result ≡ start_in mode at }
+impl Writer<'_> {
+    // From the start of a buffer.
+    pub fn new(out: &mut [u8]) -> Writer<'_>
+        ensures same_reference { result.out.ghost_name ≡ out.entry.ghost_name }
+        ensures bytes { result.out.now ≡ out.old }
+        ensures start { result.at ≡ 0 }
+    {
+        Writer { out, at: 0 }
+    }
+
+    // A byte after the text so far.
+    pub fn byte(&mut self, b: u8)
+        ensures { Adds self.old (b ∷ []) self.new }
+    {
+        let at = self.at;
+        if at < self.out.len() {
+            self.out[at] = b;
+        }
+        self.at = at.saturating_add(1);
+    }
+
+    // A text after the text so far.
+    pub fn text(&mut self, s: &[u8])
+        ensures { Adds self.old s.now self.new }
+    {
+        let at = self.at;
+        let len = self.out.len();
+        if at < len {
+            let reached = s.len().min(len - at);
+            copy(self.out, at, &s[..reached]);
+        }
+        self.at = at.saturating_add(s.len());
+    }
+
+    // A number in decimal after the text so far.
+    pub fn number(&mut self, n: u64)
+        ensures { Adds self.old (decimal n) self.new }
+    {
+        let d = spelled(n);
+        let from = d.from;
+        let bytes = d.bytes;
+        self.text(&bytes[from..]);
+    }
+}
+
+// Where the part of a buffer of so many bytes starts that a writer at a place is lent: what only measures is lent none of it.
+pub fn start_in(mode: Mode, len: usize, at: usize) -> usize
+    ensures { result ≡ start_in mode len at }
 {
     match mode {
-        Mode::Measure => 0,
+        Mode::Measure => len,
         Mode::Write => at,
     }
 }

@@ -11,12 +11,11 @@ ghost use Rattle.types.specs.Readings.{reads_alike, reading_of};
 
 use crate::Reading;
 use crate::likeness::{Likeness, joined, of_tag, read_as};
-use crate::names::{same_name, same_names};
+use crate::names::same_names;
 use crate::nodes::inner_types;
-use parts::Entry;
 use parts::decls::decl_name;
 use parts::entries::entry;
-use parts::tags::{BITS, FIXED_ARRAY, NAMED, PRIMITIVE, SEMANTIC, SUB_BYTE};
+use parts::tags::Tag;
 use parts::types::{bit_names, label_end, type_bits, type_code, type_id, type_size, type_tag};
 
 // How alike two types are, and the places after them; if they are different, the places say nothing.
@@ -28,20 +27,16 @@ struct Compared {
 }
 
 // Whether two ids stand for the same name, each in its own registry; two that are unresolvable are equal too.
+#[tactic(auto, using(crate::proofs::Laws::Labels::ids))]
 fn named_equal(a: &[u8], old: u32, b: &[u8], new: u32) -> bool
     requires { Accepted a.now × Accepted b.now }
     ensures { result ≡ same_names (named_by a.now old) (named_by b.now new) }
 {
-    let Entry::Body(i) = entry(a, old) else {
-        let Entry::Unresolvable = entry(b, new) else {
-            return false;
-        };
-        return true;
-    };
-    let Entry::Body(j) = entry(b, new) else {
-        return false;
-    };
-    same_name(decl_name(a, i), decl_name(b, j))
+    match (entry(a, old), entry(b, new)) {
+        (Some(i), Some(j)) => decl_name(a, i) == decl_name(b, j),
+        (None, None) => true,
+        _ => false,
+    }
 }
 
 // Whether two sub-bytes are both signed or both not, and have as many bits.
@@ -49,13 +44,11 @@ fn sub_bytes_equal(a: &[u8], i: usize, b: &[u8], j: usize) -> bool
     requires { LabelHere a.now i × LabelHere b.now j × ((label_in a.now i).tag ≡ number sub_byte_tag) × ((label_in b.now j).tag ≡ number sub_byte_tag) }
     ensures { result ≡ same_codes (label_in a.now i) (label_in b.now j) }
 {
-    if type_code(a, i) != type_code(b, j) {
-        return false;
-    }
-    type_bits(a, i) == type_bits(b, j)
+    type_code(a, i) == type_code(b, j) && type_bits(a, i) == type_bits(b, j)
 }
 
 // Whether two nodes are the same but for their inner types. Vectors, quaternions and matrices are compared like the others.
+#[tactic(auto, using(crate::proofs::Laws::Labels::labels))]
 fn labels_equal(a: &[u8], i: usize, b: &[u8], j: usize) -> bool
     requires { Accepted a.now × Accepted b.now × LabelHere a.now i × LabelHere b.now j }
     ensures { result ≡ same_label (node_in a.now i) (node_in b.now j) }
@@ -65,11 +58,11 @@ fn labels_equal(a: &[u8], i: usize, b: &[u8], j: usize) -> bool
         return false;
     }
     match tag {
-        PRIMITIVE | SEMANTIC => type_code(a, i) == type_code(b, j),
-        SUB_BYTE => sub_bytes_equal(a, i, b, j),
-        NAMED => named_equal(a, type_id(a, i), b, type_id(b, j)),
-        FIXED_ARRAY => type_size(a, i) == type_size(b, j),
-        BITS => same_names(a, bit_names(a, i), b, bit_names(b, j)),
+        Tag::Primitive | Tag::Semantic => type_code(a, i) == type_code(b, j),
+        Tag::SubByte => sub_bytes_equal(a, i, b, j),
+        Tag::Named => named_equal(a, type_id(a, i), b, type_id(b, j)),
+        Tag::FixedArray => type_size(a, i) == type_size(b, j),
+        Tag::Bits => same_names(a, bit_names(a, i), b, bit_names(b, j)),
         _ => true,
     }
 }
@@ -78,9 +71,8 @@ fn labels_equal(a: &[u8], i: usize, b: &[u8], j: usize) -> bool
 fn after(before: Likeness, rest: Compared) -> Compared
     ensures { After (likeness_of before) rest result }
 {
-    let likeness = rest.likeness;
     Compared {
-        likeness: joined(before, likeness),
+        likeness: joined(before, rest.likeness),
         old_end: rest.old_end,
         new_end: rest.new_end,
     }
@@ -115,12 +107,11 @@ fn compare_nodes(a: &[u8], i: usize, b: &[u8], j: usize, left: usize) -> Compare
     if inner == 1 {
         return first;
     }
-    let likeness = first.likeness;
-    if !read_as(true, likeness) {
+    if first.likeness == Likeness::Different {
         return first;
     }
     after(
-        likeness,
+        first.likeness,
         compare_nodes(a, first.old_end, b, first.new_end, left - 1),
     )
 }
@@ -134,6 +125,7 @@ pub fn types_likeness(a: &[u8], i: usize, b: &[u8], j: usize) -> Likeness
 }
 
 // How the third answer is read. A reading more is a case more.
+#[tactic(auto, unfolding(crate::specs::Readings::reads_alike))]
 fn reads_alike(reading: Reading) -> bool
     ensures { result ≡ reads_alike reading }
 {
@@ -144,6 +136,7 @@ fn reads_alike(reading: Reading) -> bool
 }
 
 // Whether two types are equal, as they are read.
+#[tactic(auto, using(crate::proofs::Laws::Readings::read))]
 pub fn types_equal(reading: Reading, a: &[u8], i: usize, b: &[u8], j: usize) -> bool
     requires { Accepted a.now × Accepted b.now × TypeHere 32 a.now i × TypeHere 32 b.now j }
     ensures { result ≡ (reading_of reading).same (type_in a.now i) (type_in b.now j) }

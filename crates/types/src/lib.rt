@@ -8,7 +8,7 @@ pub mod namespaces;
 pub mod nodes;
 
 // How two images are read, as document 01 says, or mended: when their types are equal, and whether widths are reported.
-#[derive(Clone, Copy)]
+#[derive(Clone, Copy, Debug, PartialEq, Eq)]
 pub enum Reading {
     Plain,
     Mended,

@@ -7,23 +7,15 @@ use parts::Run;
 use parts::names::{name_at, name_end};
 
 // Whether two names are the same bytes.
+#[tactic(auto, using(crate::proofs::Laws::Names::bytes))]
 pub fn same_name(a: &[u8], b: &[u8]) -> bool
     ensures { result ≡ same_name a.now b.now }
 {
-    if a.len() != b.len() {
-        return false;
-    }
-    let mut i = 0;
-    while i < a.len() {
-        if a[i] != b[i] {
-            return false;
-        }
-        i += 1;
-    }
-    true
+    a == b
 }
 
 // The names of a run in one image and those of a run in another.
+#[tactic(auto, using(crate::proofs::Laws::Names::runs))]
 pub(crate) fn same_names(a: &[u8], old: Run, b: &[u8], new: Run) -> bool
     requires { NamesIn a.now old × NamesIn b.now new }
     ensures { result ≡ same_names (names_in a.now old) (names_in b.now new) }
@@ -33,14 +25,12 @@ pub(crate) fn same_names(a: &[u8], old: Run, b: &[u8], new: Run) -> bool
     }
     let mut i = old.start;
     let mut j = new.start;
-    let mut left = old.count;
-    while 0 < left {
-        if !same_name(name_at(a, i), name_at(b, j)) {
+    for _ in 0..old.count {
+        if name_at(a, i) != name_at(b, j) {
             return false;
         }
         i = name_end(a, i);
         j = name_end(b, j);
-        left -= 1;
     }
     true
 }

@@ -7,6 +7,7 @@ use crate::names::same_names;
 use parts::entries::segments;
 
 // Whether two images have the same segments, in order.
+#[tactic(auto, using(crate::proofs::Laws::Names::namespaces))]
 pub fn namespaces_equal(a: &[u8], b: &[u8]) -> bool
     requires { Accepted a.now × Accepted b.now }
     ensures { result ≡ same_names (schema_of a.now).namespace (schema_of b.now).namespace }

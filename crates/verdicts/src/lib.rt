@@ -2,8 +2,11 @@
 #![tactic(auto)]
 
 ghost use Rattle.std.specs.Prelude.{◌≡◌};
+ghost use Rattle.image.specs.Numbers.{refusal_number, side_number};
 ghost use Rattle.verdicts.specs.Verdicts.{refused_by, of_tally, select_in};
 
+use image::refusals::Refusal;
+use image::sides::Side;
 use tally::{Bump, KINDS, Tally};
 
 // What a call is asked for: the number and the side of a refusal, 0 if there is none; bump, result, the length of the text, counts.
@@ -19,12 +22,12 @@ pub struct Verdict {
 
 impl Verdict {
     // "with bump Major, result Breaking, all counts and length 0"
-    pub fn refused(number: u8, side: u8) -> Verdict
-        ensures { result ≡ refused_by number side }
+    pub fn refused(refusal: Refusal, side: Side) -> Verdict
+        ensures { result ≡ refused_by (refusal_number refusal) (side_number side) }
     {
         Verdict {
-            number: number,
-            side: side,
+            number: refusal.number(),
+            side: side.number(),
             bump: Bump::MAJOR,
             result: 1,
             length: 0,
@@ -36,16 +39,14 @@ impl Verdict {
     pub fn of_tally(t: Tally, length: usize) -> Verdict
         ensures { result ≡ of_tally t length }
     {
-        let bump = t.bump;
-        let result = bump.result();
         let counts = t.counts;
         Verdict {
             number: 0,
             side: 0,
-            bump: bump,
-            result: result,
-            length: length,
-            counts: counts,
+            bump: t.bump,
+            result: t.bump.result(),
+            length,
+            counts,
         }
     }
 

@@ -2,7 +2,7 @@
 use mathlib.Core.Path.{◌≡◌, refl, sym, ap, ◌∙◌}
 use mathlib.Core.Logic.{◌↔◌}
 use mathlib.Core.Bool.{Bool, true}
-use mathlib.Core.Option.{Option, none, some}
+use Rattle.std.specs.Prelude.{Option, None, Some}
 use mathlib.Core.List.{List, [], ◌∷◌, ◌++◌}
 use Prim.Native.Nat.{ℕ, zero, suc, ◌+◌, ◌*◌, ◌≤◌, ◌<◌}
 use native.Mathlib.Nat.{add-zero}
@@ -27,9 +27,9 @@ use Rattle.written.proofs.Whole.{written_read}
 
 -- an entry as the contents have it
 data Entry (s : List ℕ) (i : ℕ) : Option Decl → Type 0 where
-  none_here : entry_offset s i ≡ 0 → entry_length s i ≡ 0 → Entry s i none
+  none_here : entry_offset s i ≡ 0 → entry_length s i ≡ 0 → Entry s i None
   some_here : {d : Decl} → DeclWithin (format s) d → entry_offset s i ≡ body_start s i → entry_length s i ≡ length (write_body d)
-      → Run s (body_start s i) (body_start s (suc i)) (write_body d) → Entry s i (some d)
+      → Run s (body_start s i) (body_start s (suc i)) (write_body d) → Entry s i (Some d)
 
 -- the entries from the i-th on
 record Entries (s : List ℕ) (i : ℕ) (es : List (Option Decl)) : Type 0 where
@@ -65,7 +65,7 @@ module _ (s : List ℕ) (bytes : Each Byte s) where
       body : List ℕ
       body = part (entry_offset s i) (entry_length s i) s
 
-      there : (d : Decl) → ¬ (entry_length s i ≡ 0) → DeclWithin (format s) d × (body ≡ write_body d) → Entry s i (some d)
+      there : (d : Decl) → ¬ (entry_length s i ≡ 0) → DeclWithin (format s) d × (body ≡ write_body d) → Entry s i (Some d)
       there d z q =
           let f = placed_full p z in
           let fits : body_start s i + entry_length s i ≤ length s = f.1 in

@@ -1,7 +1,7 @@
 -- Marks, encodings, limits, widths, fields and variants are read back where they were written, and so is a body. Assumes nothing.
 use mathlib.Core.Path.{◌≡◌, refl, sym, ap, ◌∙◌}
 use mathlib.Core.Bool.{Bool, true, false}
-use mathlib.Core.Option.{Option, none, some}
+use Rattle.std.specs.Prelude.{Option, None, Some}
 use mathlib.Core.List.{List, [], ◌∷◌, ◌++◌}
 use Prim.Native.Nat.{ℕ, zero, suc, ◌+◌, ◌*◌, ◌≤◌}
 use native.Mathlib.Nat.{zero-add}
@@ -58,8 +58,8 @@ encoding_back e q = deltas_back 8 e.deltas e.base q.deltas q.base
 
 pub limit_back : (l : Option ℕ) → LimitWithin l → Reads limit_at (write_limit l) l
 unfolding limit_at write_limit pick
-limit_back none free s at h = got _ (code_back 0 1 0 (omega arith) (omega arith) s at h) refl
-limit_back (some v) (most q) s at h =
+limit_back None free s at h = got _ (code_back 0 1 0 (omega arith) (omega arith) s at h) refl
+limit_back (Some v) (most q) s at h =
     seq (1 ∷ []) _ h _ (code_back 0 1 1 (omega arith) (omega arith) s at) (λ g. got _ (number_back 8 v q s _ g) refl)
 
 pub field_back : (f : Field) → FieldWithin f → Reads field_at (write_field f) f
@@ -92,7 +92,7 @@ variant_back v q s at h =
 width_back : (f : ℕ) (wire : List ℕ → ℕ → Parsed ℕ) (P : ℕ → Type 0) → ((w : ℕ) → P w → Reads wire (w ∷ []) w) → (w : Option ℕ)
     → WidthWithin f P w → Reads (width_at f wire) (write_width w) w
 unfolding width_at write_width pick
-width_back f wire P back _ (absent e) s at h = rw e (stay none at)
+width_back f wire P back _ (absent e) s at h = rw e (stay None at)
 width_back f wire P back _ (stored {w = w} e q) s at h = rw e (got _ (back w q s at h) refl)
 
 bits_back : (w : ℕ) → Byte w → Reads wire_bits_at (w ∷ []) w

@@ -1,7 +1,7 @@
 -- What is written of a schema within the limits are bytes: each is below 256. Assumes nothing.
 use mathlib.Core.Path.{◌≡◌}
 use mathlib.Core.Bool.{true, and-false}
-use mathlib.Core.Option.{Option, none, some}
+use Rattle.std.specs.Prelude.{Option, None, Some}
 use mathlib.Core.List.{List, [], ◌∷◌, ◌++◌}
 use Prim.Native.Nat.{ℕ, zero, suc, ◌+◌, ◌/◌, ◌%◌, ◌≤◌, ◌<◌}
 use native.Mathlib.Omega.{arith}
@@ -85,8 +85,8 @@ deltas_bytes (suc d) base h = byte 3 (omega arith) (deltas_bytes d base h)
 
 limit_bytes : (l : Option ℕ) → Each Byte (write_limit l)
 unfolding write_limit
-limit_bytes none = byte 0 (omega arith) end
-limit_bytes (some v) = byte 1 (omega arith) (digits_bytes 8 v)
+limit_bytes None = byte 0 (omega arith) end
+limit_bytes (Some v) = byte 1 (omega arith) (digits_bytes 8 v)
 
 marks_bytes : (m : Marks) {w : List ℕ} → Each Byte w → Each Byte (marks_byte m ∷ w)
 marks_bytes m b = byte (marks_byte m) (omega (arith, marks_most m)) b
@@ -112,8 +112,8 @@ variant_bytes v q =
 
 width_bytes : {f : ℕ} {P : ℕ → Type 0} → ((w : ℕ) → P w → Byte w) → (w : Option ℕ) → WidthWithin f P w → Each Byte (write_width w)
 unfolding write_width
-width_bytes below none (absent e) = end
-width_bytes below (some w) (stored e q) = byte w (below w q) end
+width_bytes below None (absent e) = end
+width_bytes below (Some w) (stored e q) = byte w (below w q) end
 
 wire_byte : (w : ℕ) → WireBytes w → Byte w
 wire_byte _ in_one = omega arith
@@ -142,14 +142,14 @@ body_bytes _ impl = byte 8 (omega arith) end
 
 entry_bytes : {f : ℕ} (e : Option Decl) → EntryWithin f e → Each Byte (write_entry e)
 unfolding write_entry
-entry_bytes none empty = end
-entry_bytes (some d) (full q) = body_bytes d q
+entry_bytes None empty = end
+entry_bytes (Some d) (full q) = body_bytes d q
 
 contents_bytes : (es : List (Option Decl)) (at : ℕ) → Each Byte (write_contents es at)
 unfolding write_contents
 contents_bytes [] at = end
-contents_bytes (none ∷ es) at = each_join (digits_bytes 2 0) (each_join (digits_bytes 2 0) (contents_bytes es at))
-contents_bytes (some d ∷ es) at =
+contents_bytes (None ∷ es) at = each_join (digits_bytes 2 0) (each_join (digits_bytes 2 0) (contents_bytes es at))
+contents_bytes (Some d ∷ es) at =
     each_join (digits_bytes 2 at) (each_join (digits_bytes 2 (length (write_body d))) (contents_bytes es (at + length (write_body d))))
 
 ids_bytes : (ids : List ℕ) → Each Byte (write_each (digits 4) ids)

@@ -2,7 +2,7 @@
 -- of them give each number that a short image can give. Imports definitions only. Assumes nothing.
 use mathlib.Core.Path.{◌≡◌, refl}
 use mathlib.Core.Bool.{true, false}
-use mathlib.Core.Option.{none, some}
+use Rattle.std.specs.Prelude.{None, Some}
 use mathlib.Core.List.{List, [], ◌∷◌, ◌++◌, map}
 use Prim.Native.Nat.{ℕ}
 use lib.ListN.{take, set, replicate}
@@ -31,7 +31,7 @@ ride =
 speed : Field
 unfolding bytes plain
 speed =
-    record { ordinal = 0; name = bytes "speed"; marks = unmarked; encoding = plain 0; limit = none; type = leaf (label 0 2 0 []) }
+    record { ordinal = 0; name = bytes "speed"; marks = unmarked; encoding = plain 0; limit = None; type = leaf (label 0 2 0 []) }
 
 -- "Image of `ride`, message `Drive`"
 pub ride_schema : Schema
@@ -39,7 +39,7 @@ unfolding bytes
 ride_schema =
     record {
       format = 1;
-      registry = some (decl 0 (bytes "Drive") unmarked none (speed ∷ []) [] no_type) ∷ [];
+      registry = Some (decl 0 (bytes "Drive") unmarked None (speed ∷ []) [] no_type) ∷ [];
       ids = 0 ∷ [];
       namespace = bytes "ride" ∷ [];
     }
@@ -64,8 +64,8 @@ park_schema =
     record {
       format = 2;
       registry =
-          some (decl 1 (bytes "Gear") open_marks (some 8) [] (item 0 (bytes "park") ∷ []) no_type)
-          ∷ some (decl 2 (bytes "Lamps") unmarked (some 2) [] (item 0 (bytes "low") ∷ item 8 (bytes "fog") ∷ []) no_type)
+          Some (decl 1 (bytes "Gear") open_marks (Some 8) [] (item 0 (bytes "park") ∷ []) no_type)
+          ∷ Some (decl 2 (bytes "Lamps") unmarked (Some 2) [] (item 0 (bytes "low") ∷ item 8 (bytes "fog") ∷ []) no_type)
           ∷ [];
       ids = 0 ∷ 1 ∷ [];
       namespace = bytes "ride" ∷ [];

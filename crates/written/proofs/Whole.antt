@@ -1,7 +1,7 @@
 -- A whole image is read back as it was written: nothing valid is refused. Assumes nothing.
 use mathlib.Core.Path.{◌≡◌, refl, ap, ap₂, ◌∙◌}
 use mathlib.Core.Bool.{true}
-use mathlib.Core.Option.{Option, none, some}
+use Rattle.std.specs.Prelude.{Option, None, Some}
 use mathlib.Core.List.{List, [], ◌∷◌, ◌++◌}
 use Prim.Native.Nat.{ℕ, ◌+◌, ◌*◌, ◌^◌, ◌≤◌, ◌<◌}
 use native.Mathlib.Omega.{arith}
@@ -39,8 +39,8 @@ ids_length (i ∷ ids) = omega (arith, ids_length ids)
 contents_length : (es : List (Option Decl)) (at : ℕ) → length (write_contents es at) ≡ 4 * length es
 unfolding write_contents digits
 contents_length [] at = refl
-contents_length (none ∷ es) at = omega (arith, contents_length es at)
-contents_length (some d ∷ es) at = omega (arith, contents_length es (at + length (write_body d)))
+contents_length (None ∷ es) at = omega (arith, contents_length es at)
+contents_length (Some d ∷ es) at = omega (arith, contents_length es (at + length (write_body d)))
 
 -- the i-th pair of the contents, and the pairs after it
 record Pair (s : List ℕ) (i offset size : ℕ) (after : List ℕ) : Type 0 where
@@ -76,13 +76,13 @@ abbrev Read : ℕ → List (Option Decl) → List ℕ → ℕ → ℕ → Type 0
 Read f es s i at = (laid (length es) s i at ≡ true) × (entries_of f (length es) s i ≡ ok es (length s))
 
 empty_back : (f : ℕ) (es : List (Option Decl)) (s : List ℕ) (i at : ℕ) → entry_offset s i ≡ 0 → entry_length s i ≡ 0 → Read f es s (i + 1) at
-    → Read f (none ∷ es) s i at
+    → Read f (None ∷ es) s i at
 unfolding laid entries_of entry_of pick bind
 empty_back f es s i at o n r = (simp (o, n, r.0), simp (n, r.1))
 
 full_back : (f : ℕ) (d : Decl) → DeclWithin f d → (es : List (Option Decl)) (s : List ℕ) (i at : ℕ) → entry_offset s i ≡ at
     → entry_length s i ≡ length (write_body d)
-    → Here s at (write_body d) → Read f es s (i + 1) (at + length (write_body d)) → Read f (some d ∷ es) s i at
+    → Here s at (write_body d) → Read f es s (i + 1) (at + length (write_body d)) → Read f (Some d ∷ es) s i at
 unfolding laid entries_of entry_of pick bind
 full_back f d q es s i at o n h r = (
   simp (o, n, ne_eqb _ 0 (some_byte d), eq-eqb at at refl, le-leb _ _ (here_fits h), r.0),
@@ -94,10 +94,10 @@ entries_back : (f : ℕ) (es : List (Option Decl)) → Each (EntryWithin f) es �
     → Read f es s i at
 unfolding laid entries_of write_contents write_each write_entry
 entries_back f [] end s l i at h g e = (eq-eqb at (length s) (omega arith), refl)
-entries_back f (none ∷ es) (also empty qs) s l i at h g e =
+entries_back f (None ∷ es) (also empty qs) s l i at h g e =
     let p = pair_back i 0 0 (write_contents es at) (omega arith) (omega arith) h in
     empty_back f es s i at p.offset_is p.size_is (entries_back f es qs s l (i + 1) at p.next g e)
-entries_back f (some d ∷ es) (also (full q) qs) s l i at h g e =
+entries_back f (Some d ∷ es) (also (full q) qs) s l i at h g e =
     let b = here_first (write_body d) (write_each write_entry es) g in
     let fits : at + length (write_body d) ≤ length s = here_fits b in
     let p = pair_back i at (length (write_body d)) (write_contents es (at + length (write_body d))) (omega arith) (omega arith) h in

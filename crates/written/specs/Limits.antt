@@ -1,6 +1,5 @@
 -- The schemas within the limits of documents 01 and 02: those that an image can hold, in its format. Assumes nothing.
-use Rattle.std.specs.Prelude.{◌≡◌, true, false, List, [], ◌∷◌, ℕ, suc, ◌^◌, max, ◌≤◌, ◌<◌, length}
-use Rattle.std.proofs.Math.Option.{Option, none, some}
+use Rattle.std.specs.Prelude.{◌≡◌, true, false, List, [], ◌∷◌, ℕ, suc, ◌^◌, max, ◌≤◌, ◌<◌, length, Option, None, Some}
 use Rattle.image.specs.Codes.{number, message_kind, enum_kind, flags_kind, union_kind, newtype_kind, config_kind, alias_kind, trait_kind, impl_kind, primitive_tag, sub_byte_tag, semantic_tag, named_tag, optional_tag, array_tag, fixed_array_tag, set_tag, map_tag, result_tag, vec2_tag, mat4_tag, bits_tag}
 use Rattle.image.specs.Schema.{Name, Marks, unmarked, Encoding, Label, label, Ty, leaf, one, two, Field, Variant, Decl, decl, no_type, Schema}
 use Rattle.image.specs.Formats.{has_widths}
@@ -72,8 +71,8 @@ pub record EncodingWithin (e : Encoding) : Type 0 where
   pub base : e.base ≤ 2
 
 pub data LimitWithin : Option ℕ → Type 0 where
-  free : LimitWithin none
-  most : {v : ℕ} → U64 v → LimitWithin (some v)
+  free : LimitWithin None
+  most : {v : ℕ} → U64 v → LimitWithin (Some v)
 
 pub record FieldWithin (f : Field) : Type 0 where
   pub ordinal : U32 f.ordinal
@@ -97,8 +96,8 @@ pub record VariantWithin (v : Variant) : Type 0 where
 
 -- "Image format 2 stores the width": there is one exactly in a format that stores it
 pub data WidthWithin (format : ℕ) (P : ℕ → Type 0) : Option ℕ → Type 0 where
-  absent : has_widths format ≡ false → WidthWithin format P none
-  stored : {w : ℕ} → has_widths format ≡ true → P w → WidthWithin format P (some w)
+  absent : has_widths format ≡ false → WidthWithin format P None
+  stored : {w : ℕ} → has_widths format ≡ true → P w → WidthWithin format P (Some w)
 
 -- "1, 2, 4 or 8"
 pub data WireBytes : ℕ → Type 0 where
@@ -110,22 +109,22 @@ pub data WireBytes : ℕ → Type 0 where
 -- a declaration of each kind, what the kind has not at its default
 pub data DeclWithin (f : ℕ) : Decl → Type 0 where
   message : {x : Name} {m : Marks} {fs : List Field} → NameWithin x → Few fs → Each FieldWithin fs
-      → DeclWithin f (decl (number message_kind) x m none fs [] no_type)
+      → DeclWithin f (decl (number message_kind) x m None fs [] no_type)
   enum : {x : Name} {m : Marks} {w : Option ℕ} {vs : List Variant} → NameWithin x → WidthWithin f Byte w → Few vs → Each BareWithin vs
       → DeclWithin f (decl (number enum_kind) x m w [] vs no_type)
   flags : {x : Name} {w : Option ℕ} {vs : List Variant} → NameWithin x → WidthWithin f WireBytes w → Few vs → Each BareWithin vs
       → DeclWithin f (decl (number flags_kind) x unmarked w [] vs no_type)
   union : {x : Name} {vs : List Variant} → NameWithin x → Few vs → Each VariantWithin vs
-      → DeclWithin f (decl (number union_kind) x unmarked none [] vs no_type)
-  newtype : {x : Name} {t : Ty} → NameWithin x → TypeWithin t → DeclWithin f (decl (number newtype_kind) x unmarked none [] [] t)
-  config : {x : Name} → NameWithin x → DeclWithin f (decl (number config_kind) x unmarked none [] [] no_type)
-  alias : {x : Name} → NameWithin x → DeclWithin f (decl (number alias_kind) x unmarked none [] [] no_type)
-  trait : {x : Name} → NameWithin x → DeclWithin f (decl (number trait_kind) x unmarked none [] [] no_type)
-  impl : DeclWithin f (decl (number impl_kind) [] unmarked none [] [] no_type)
+      → DeclWithin f (decl (number union_kind) x unmarked None [] vs no_type)
+  newtype : {x : Name} {t : Ty} → NameWithin x → TypeWithin t → DeclWithin f (decl (number newtype_kind) x unmarked None [] [] t)
+  config : {x : Name} → NameWithin x → DeclWithin f (decl (number config_kind) x unmarked None [] [] no_type)
+  alias : {x : Name} → NameWithin x → DeclWithin f (decl (number alias_kind) x unmarked None [] [] no_type)
+  trait : {x : Name} → NameWithin x → DeclWithin f (decl (number trait_kind) x unmarked None [] [] no_type)
+  impl : DeclWithin f (decl (number impl_kind) [] unmarked None [] [] no_type)
 
 pub data EntryWithin (f : ℕ) : Option Decl → Type 0 where
-  empty : EntryWithin f none
-  full : {d : Decl} → DeclWithin f d → EntryWithin f (some d)
+  empty : EntryWithin f None
+  full : {d : Decl} → DeclWithin f d → EntryWithin f (Some d)
 
 -- "N or M over 512, S over 16" is crowded; "image over 32,768 bytes" is long
 pub record Within (s : Schema) : Type 0 where

@@ -1,6 +1,5 @@
 -- The format from the other side: the bytes of a schema, in document 01's words and order, with R-6's widths. Assumes nothing.
-use Rattle.std.specs.Prelude.{Bool, true, false, List, [], ◌∷◌, ◌++◌, ℕ, zero, suc, ◌+◌, ◌*◌, ◌/◌, ◌%◌, length, replicate}
-use Rattle.std.proofs.Math.Option.{Option, none, some}
+use Rattle.std.specs.Prelude.{Bool, true, false, List, [], ◌∷◌, ◌++◌, ℕ, zero, suc, ◌+◌, ◌*◌, ◌/◌, ◌%◌, length, replicate, Option, None, Some}
 use Rattle.image.specs.Kinds.{Kind, message, enum, flags, union, newtype, config, alias, trait, impl, other, kind_of}
 use Rattle.image.specs.Schema.{Name, Marks, Encoding, Label, Ty, leaf, one, two, Field, Variant, Decl, Schema}
 use Rattle.image.specs.Types.{Follows, code, sub_byte, identity, size, nothing, bits, unknown, follows_tag}
@@ -36,8 +35,8 @@ write_encoding e = replicate e.deltas 3 ++ e.base ∷ []
 
 -- "u8 0 or 1 for a limit (1: u64 follows)"
 unfoldable pub write_limit : Option ℕ → List ℕ
-write_limit none = 0 ∷ []
-write_limit (some v) = 1 ∷ digits 8 v
+write_limit None = 0 ∷ []
+write_limit (Some v) = 1 ∷ digits 8 v
 
 -- "A type starts with a u8 tag", and what follows it
 unfoldable pub write_after : Follows → Label → List ℕ
@@ -76,8 +75,8 @@ write_variant v = digits 4 v.ordinal ++ (write_name v.name ++ write_counted writ
 
 -- "a u8 of wire bits after an enum's marks, a u8 of wire bytes .. after a flags name", where there is a width
 unfoldable pub write_width : Option ℕ → List ℕ
-write_width none = []
-write_width (some w) = w ∷ []
+write_width None = []
+write_width (Some w) = w ∷ []
 
 -- what follows the kind
 unfoldable pub write_decl : Kind → Decl → List ℕ
@@ -98,14 +97,14 @@ write_body d = d.kind ∷ write_decl (kind_of d.kind) d
 
 -- the body of an entry, none for an empty one
 unfoldable pub write_entry : Option Decl → List ℕ
-write_entry none = []
-write_entry (some d) = write_body d
+write_entry None = []
+write_entry (Some d) = write_body d
 
 -- "N pairs of u16 offset (from the image's first byte) and u16 length, 0 and 0 for an empty entry", of bodies that start at `at`
 unfoldable pub write_contents : List (Option Decl) → ℕ → List ℕ
 write_contents [] at = []
-write_contents (none ∷ es) at = digits 2 0 ++ (digits 2 0 ++ write_contents es at)
-write_contents (some d ∷ es) at = digits 2 at ++ (digits 2 (length (write_body d)) ++ write_contents es (at + length (write_body d)))
+write_contents (None ∷ es) at = digits 2 0 ++ (digits 2 0 ++ write_contents es at)
+write_contents (Some d ∷ es) at = digits 2 at ++ (digits 2 (length (write_body d)) ++ write_contents es (at + length (write_body d)))
 
 -- "Head: u16 format ..; u16 N registry entries; u16 M declaration ids; u16 S namespace segments."
 unfoldable pub write_head : Schema → List ℕ

@@ -5,7 +5,7 @@ use Rattle.compat.proofs.Outcomes.{passing, old_refused_lem}
 use Rattle.compat.proofs.verdict.Goals as goal
 
 pub verdict_new-requires : goal.verdict_new-requires
-verdict_new-requires c = passing c.args.policy c.args.old.now c.args.new.now (number old_side) c.args.old.now c.accept.ensures c.in-Passes.is
+verdict_new-requires c = passing c.args.policy c.args.old.now c.args.new.now (number old_side) c.args.old.now c.accept.ensures c.in-Ok.is
 
-pub returns-in-Fault : goal.returns-in-Fault
-returns-in-Fault c = c.refused.ensures ∙ old_refused_lem c.args.policy c.args.old.now c.args.new.now c.accept.ensures c.in-Fault.is
+pub returns-in-Err : goal.returns-in-Err
+returns-in-Err c = c.refused.ensures ∙ old_refused_lem c.args.policy c.args.old.now c.args.new.now c.accept.ensures c.in-Err.is

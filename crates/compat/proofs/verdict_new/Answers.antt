@@ -8,15 +8,15 @@ use Rattle.compat.proofs.verdict_new.Goals as goal
 pub compare-requires : goal.compare-requires
 compare-requires c =
     both_accepted c.args.policy c.args.old.now c.args.new.now c.requires
-    (passing c.args.policy c.args.old.now c.args.new.now (number new_side) c.args.new.now c.accept.ensures c.in-Passes.is)
+    (passing c.args.policy c.args.old.now c.args.new.now (number new_side) c.args.new.now c.accept.ensures c.in-Ok.is)
 
-pub returns-in-Passes : goal.returns-in-Passes
-returns-in-Passes c =
+pub returns-in-Ok : goal.returns-in-Ok
+returns-in-Ok c =
     c.compare.ensures
     ∙ ap verdict_is
     (pair_outcome c.args.policy c.args.old.now c.args.new.now c.requires
-    (passing c.args.policy c.args.old.now c.args.new.now (number new_side) c.args.new.now c.accept.ensures c.in-Passes.is))
+    (passing c.args.policy c.args.old.now c.args.new.now (number new_side) c.args.new.now c.accept.ensures c.in-Ok.is))
 
-pub returns-in-Fault : goal.returns-in-Fault
-returns-in-Fault c =
-    c.refused.ensures ∙ new_refused_lem c.args.policy c.args.old.now c.args.new.now c.requires c.accept.ensures c.in-Fault.is
+pub returns-in-Err : goal.returns-in-Err
+returns-in-Err c =
+    c.refused.ensures ∙ new_refused_lem c.args.policy c.args.old.now c.args.new.now c.requires c.accept.ensures c.in-Err.is

@@ -1,4 +1,4 @@
--- The measure of the cycle of calls {node_display} is `left`, the nodes that a path may still have. Assumes nothing.
+-- How many nodes a path may still have. Assumes nothing.
 use Rattle.display.proofs.+node_display.Given as goal
 
 abbrev pub decreases-node_display : goal.decreases-node_display

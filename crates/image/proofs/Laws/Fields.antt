@@ -1,8 +1,9 @@
 -- Encodings, limits and items: what the code's answers say of them. Assumes nothing.
 use mathlib.Core.Path.{◌≡◌, refl, sym, ap, ◌∙◌}
-use mathlib.Core.Option.{some}
+use Rattle.std.specs.Prelude.{Some}
 use mathlib.Core.List.{List, []}
-use Prim.Native.Nat.{ℕ, zero, suc, ◌-◌}
+use Prim.Native.Nat.{ℕ, zero, suc, ◌+◌, ◌-◌, ◌≤◌, ◌<◌}
+use native.Mathlib.Omega.{arith}
 use native.Mathlib.Numerals.{sub-one}
 use borrow.Author.Tests.{ne_eqb}
 use lib.ListN.{get_or}
@@ -11,36 +12,42 @@ use Rattle.image.specs.Parse.{Parsed, ok, no, bind, pick, code_at, number_at, co
 use Rattle.image.specs.Names.{name_at}
 use Rattle.image.specs.Types.{type_at}
 use Rattle.image.specs.Fields.{marks_at, delta, encoding_of, encoding_at, limit_at, field_at, bare_at, variant_at}
-use Rattle.image.specs.Reads.{skip}
-use Rattle.image.specs.declared.Read.{Read}
-use Rattle.image.specs.declared.Read.TheVariants.{At, Refused}
+use Rattle.image.specs.Reads.{skip, Read, read_of}
 use Rattle.image.proofs.Laws.Answers.{Got, next, stop, skip_ok}
 use Rattle.image.proofs.Laws.Numbers.{There}
+use Rattle.std.specs.Prelude.{Ok, Err, ⊤}
+use Rattle.image.specs.declared.refusals.Refusal.{Refusal}
+use Rattle.image.specs.declared.refusals.Refusal.TheVariants.{Deep}
+
+-- marks are a coded byte
+pub marks_code : (s : List ℕ) (at : ℕ) → skip (code_at 0 3 s at) ≡ skip (marks_at s at)
+unfolding marks_at
+marks_code s at = sym (skip_ok (code_at 0 3 s at) _)
 
 -- an encoding of at most `left` deltas: its byte is refused; it is no delta; a delta too many; a delta and an inner encoding
 module _ (left : ℕ) (s : List ℕ) (at : ℕ) where
-  pub encoding_stop : {x : Read} {k : ℕ} → x ≡ Refused k → x ≡ skip (code_at 0 3 s at) → x ≡ skip (encoding_of left s at)
+  encoding_stop : {x : Read} {k : Refusal} → x ≡ Err k → read_of x ≡ skip (code_at 0 3 s at) → read_of x ≡ skip (encoding_of left s at)
   unfolding encoding_of
   encoding_stop {x} h e = go left
     where
-      go : (left : ℕ) → x ≡ skip (encoding_of left s at)
+      go : (left : ℕ) → read_of x ≡ skip (encoding_of left s at)
       go zero = stop (code_at 0 3 s at) _ h e
       go (suc left) = stop (code_at 0 3 s at) _ h e
 
   module _ {n : ℕ} (b : There (code_at 0 3 s at) s at n) where
-    pub encoding_plain : (get_or s at 0 ≡ 3 → ⊥) → At n ≡ skip (encoding_of left s at)
-    unfolding encoding_of bind skip pick
+    encoding_plain : (get_or s at 0 ≡ 3 → ⊥) → read_of (Ok n) ≡ skip (encoding_of left s at)
+    unfolding encoding_of bind skip read_of pick
     encoding_plain d = go left
       where
-        go : (left : ℕ) → At n ≡ skip (encoding_of left s at)
+        go : (left : ℕ) → read_of (Ok n) ≡ skip (encoding_of left s at)
         go zero = simp (b.is, ne_eqb _ _ d)
         go (suc left) = simp (b.is, ne_eqb _ _ d)
 
-    pub encoding_ninth : left ≡ 0 → get_or s at 0 ≡ 3 → Refused 10 ≡ skip (encoding_of left s at)
-    unfolding encoding_of bind skip pick
+    encoding_ninth : left ≡ 0 → get_or s at 0 ≡ 3 → read_of (Err Deep) ≡ skip (encoding_of left s at)
+    unfolding encoding_of bind skip read_of pick
     encoding_ninth e d = simp (e, b.is, d)
 
-    pub encoding_more : (left ≡ 0 → ⊥) → get_or s at 0 ≡ 3 → skip (encoding_of (left - 1) s n) ≡ skip (encoding_of left s at)
+    encoding_more : (left ≡ 0 → ⊥) → get_or s at 0 ≡ 3 → skip (encoding_of (left - 1) s n) ≡ skip (encoding_of left s at)
     unfolding encoding_of bind pick
     encoding_more p d = go left p
       where
@@ -48,20 +55,51 @@ module _ (left : ℕ) (s : List ℕ) (at : ℕ) where
         go zero p = absurd (p refl)
         go (suc left) p = simp (sub-one, b.is, d) (sym (skip_ok (encoding_of left s n) delta))
 
+-- The invariant of the loop over the codes of an encoding, of which `done` were deltas: what it answers for the one that starts here is its
+-- answer t; after the ninth delta that is a refusal.
+pub record Within (s : List ℕ) (here done : ℕ) (t : Parsed ⊤) : Type 0 where
+  pub more : done ≤ 8 → skip (encoding_of (8 - done) s here) ≡ t
+  pub deep : 8 < done → read_of (Err Deep) ≡ t
+
+pub within_start : (s : List ℕ) (at : ℕ) → Within s at 0 (skip (encoding_at s at))
+unfolding encoding_at
+within_start s at = record { more = λ _. refl; deep = λ h. absurd (omega arith) }
+
+-- i is where the code is that is read
+module _ {s : List ℕ} {here done : ℕ} {t : Parsed ⊤} (w : Within s here done t) (few : done < 9) {i : ℕ} (z : i ≡ here) where
+  now : skip (encoding_of (8 - done) s i) ≡ t
+  now = rw z (w.more (omega arith))
+
+  pub within_stop : {x : Read} {k : Refusal} → x ≡ Err k → read_of x ≡ skip (code_at 0 3 s i) → read_of x ≡ t
+  within_stop h e = encoding_stop (8 - done) s i h e ∙ now
+
+  module _ {n : ℕ} (b : There (code_at 0 3 s i) s i n) where
+    pub within_plain : (get_or s i 0 ≡ 3 → ⊥) → read_of (Ok n) ≡ t
+    within_plain d = encoding_plain (8 - done) s i b d ∙ now
+
+    -- and m is where the next one is
+    pub within_more : {m : ℕ} → m ≡ n → get_or s i 0 ≡ 3 → Within s m (done + 1) t
+    within_more {m} y d = record {
+      more = λ h.
+          let l : 8 - (done + 1) ≡ 8 - done - 1 = omega arith in
+          rw (l, y) (encoding_more (8 - done) s i b (omega arith) d ∙ now);
+      deep = λ h. encoding_ninth (8 - done) s i b (omega arith) d ∙ now;
+    }
+
 -- a limit: its byte is refused; it is 0; it is 1, and a number follows
 module _ (s : List ℕ) (at : ℕ) where
-  pub limit_stop : {x : Read} {k : ℕ} → x ≡ Refused k → x ≡ skip (code_at 0 1 s at) → x ≡ skip (limit_at s at)
+  pub limit_stop : {x : Read} {k : Refusal} → x ≡ Err k → read_of x ≡ skip (code_at 0 1 s at) → read_of x ≡ skip (limit_at s at)
   unfolding limit_at
   limit_stop h e = stop _ _ h e
 
   module _ {n : ℕ} (b : There (code_at 0 1 s at) s at n) where
-    pub limit_none : get_or s at 0 ≡ 0 → At n ≡ skip (limit_at s at)
-    unfolding limit_at bind skip pick
+    pub limit_none : get_or s at 0 ≡ 0 → read_of (Ok n) ≡ skip (limit_at s at)
+    unfolding limit_at bind skip read_of pick
     limit_none e = simp (b.is, e)
 
     pub limit_number : (get_or s at 0 ≡ 0 → ⊥) → skip (number_at 8 s n) ≡ skip (limit_at s at)
     unfolding limit_at bind pick
-    limit_number e = simp (b.is, ne_eqb _ _ e) (sym (skip_ok (number_at 8 s n) some))
+    limit_number e = simp (b.is, ne_eqb _ _ e) (sym (skip_ok (number_at 8 s n) Some))
 
 -- what starts with an ordinal and a name starts with a bare item
 bare_first : {B : Type 0} (s : List ℕ) (at : ℕ) (f : ℕ → Name → ℕ → Parsed B)
@@ -82,54 +120,54 @@ bare_first s at f = go (number_at 4 s at)
     go (no k) = refl
 
 module _ {B : Type 0} (s : List ℕ) (at : ℕ) (f : ℕ → Name → ℕ → Parsed B) where
-  bare_stop : {x : Read} {k : ℕ} → x ≡ Refused k → x ≡ skip (bare_at s at)
-      → x ≡ skip (bind (number_at 4 s at) (λ o n. bind (name_at 8 s n) (λ x m. f o x m)))
+  bare_stop : {x : Read} {k : Refusal} → x ≡ Err k → read_of x ≡ skip (bare_at s at)
+      → read_of x ≡ skip (bind (number_at 4 s at) (λ o n. bind (name_at 8 s n) (λ x m. f o x m)))
   bare_stop h e = stop (bare_at s at) _ h e ∙ ap skip (bare_first s at f)
 
-  bare_next : {r : Read} {n : ℕ} → Got (bare_at s at) n → ((o : ℕ) (y : Name) → r ≡ skip (f o y n))
+  bare_next : {r : Parsed ⊤} {n : ℕ} → Got (bare_at s at) n → ((o : ℕ) (y : Name) → r ≡ skip (f o y n))
       → r ≡ skip (bind (number_at 4 s at) (λ o n. bind (name_at 8 s n) (λ x m. f o x m)))
   bare_next b g = next _ b (λ v. g v.ordinal v.name) ∙ ap skip (bare_first s at f)
 
 module _ (s : List ℕ) (at : ℕ) where
   -- a bare item: its ordinal refused, or its name's answer
-  pub ordinal_stop : {x : Read} {k : ℕ} → x ≡ Refused k → x ≡ skip (number_at 4 s at) → x ≡ skip (bare_at s at)
+  pub ordinal_stop : {x : Read} {k : Refusal} → x ≡ Err k → read_of x ≡ skip (number_at 4 s at) → read_of x ≡ skip (bare_at s at)
   unfolding bare_at
   ordinal_stop h e = stop _ _ h e
 
-  pub ordinal_name : {r : Read} {n : ℕ} → Got (number_at 4 s at) n → r ≡ skip (name_at 8 s n) → r ≡ skip (bare_at s at)
+  pub ordinal_name : {r : Parsed ⊤} {n : ℕ} → Got (number_at 4 s at) n → r ≡ skip (name_at 8 s n) → r ≡ skip (bare_at s at)
   unfolding bare_at
   ordinal_name {n = n} o q = next _ o (λ _. q ∙ sym (skip_ok (name_at 8 s n) _))
 
   -- a variant of a union: its ordinal and name refused, or its fields' answer
-  pub variant_stop : {x : Read} {k : ℕ} → x ≡ Refused k → x ≡ skip (bare_at s at) → x ≡ skip (variant_at s at)
+  pub variant_stop : {x : Read} {k : Refusal} → x ≡ Err k → read_of x ≡ skip (bare_at s at) → read_of x ≡ skip (variant_at s at)
   unfolding variant_at
   variant_stop h e = bare_stop s at _ h e
 
-  pub variant_fields : {r : Read} {n : ℕ} → Got (bare_at s at) n → r ≡ skip (counted field_at s n) → r ≡ skip (variant_at s at)
+  pub variant_fields : {r : Parsed ⊤} {n : ℕ} → Got (bare_at s at) n → r ≡ skip (counted field_at s n) → r ≡ skip (variant_at s at)
   unfolding variant_at
   variant_fields {n = n} b q = bare_next s at _ b (λ o y. q ∙ sym (skip_ok (counted field_at s n) _))
 
   -- a field: the first part refused, or the one after those that were read, or the type's answer
-  pub field_stop : {x : Read} {k : ℕ} → x ≡ Refused k → x ≡ skip (bare_at s at) → x ≡ skip (field_at s at)
+  pub field_stop : {x : Read} {k : Refusal} → x ≡ Err k → read_of x ≡ skip (bare_at s at) → read_of x ≡ skip (field_at s at)
   unfolding field_at
   field_stop h e = bare_stop s at _ h e
 
   module _ {n₁ : ℕ} (b : Got (bare_at s at) n₁) where
-    pub field_marks : {x : Read} {k : ℕ} → x ≡ Refused k → x ≡ skip (marks_at s n₁) → x ≡ skip (field_at s at)
+    pub field_marks : {x : Read} {k : Refusal} → x ≡ Err k → read_of x ≡ skip (marks_at s n₁) → read_of x ≡ skip (field_at s at)
     unfolding field_at
     field_marks h e = bare_next s at _ b (λ _ _. stop _ _ h e)
 
     module _ {n₂ : ℕ} (m : Got (marks_at s n₁) n₂) where
-      pub field_encoding : {x : Read} {k : ℕ} → x ≡ Refused k → x ≡ skip (encoding_at s n₂) → x ≡ skip (field_at s at)
+      pub field_encoding : {x : Read} {k : Refusal} → x ≡ Err k → read_of x ≡ skip (encoding_at s n₂) → read_of x ≡ skip (field_at s at)
       unfolding field_at
       field_encoding h e = bare_next s at _ b (λ _ _. next _ m (λ _. stop _ _ h e))
 
       module _ {n₃ : ℕ} (e : Got (encoding_at s n₂) n₃) where
-        pub field_limit : {x : Read} {k : ℕ} → x ≡ Refused k → x ≡ skip (limit_at s n₃) → x ≡ skip (field_at s at)
+        pub field_limit : {x : Read} {k : Refusal} → x ≡ Err k → read_of x ≡ skip (limit_at s n₃) → read_of x ≡ skip (field_at s at)
         unfolding field_at
         field_limit h q = bare_next s at _ b (λ _ _. next _ m (λ _. next _ e (λ _. stop _ _ h q)))
 
-        pub field_type : {n₄ : ℕ} → Got (limit_at s n₃) n₄ → {r : Read} → r ≡ skip (type_at s n₄) → r ≡ skip (field_at s at)
+        pub field_type : {n₄ : ℕ} → Got (limit_at s n₃) n₄ → {r : Parsed ⊤} → r ≡ skip (type_at s n₄) → r ≡ skip (field_at s at)
         unfolding field_at
         field_type {n₄} l q =
             bare_next s at _ b (λ _ _.

@@ -11,27 +11,30 @@ use lib.ListN.{length, get_or, take, drop, length-take, length-drop}
 use lib.Seq.{drop-cons}
 use Rattle.image.specs.Parse.{bind, pick, part, byte_at}
 use Rattle.image.specs.Names.{name_byte, name_bytes, name_at}
-use Rattle.image.specs.Reads.{skip}
-use Rattle.image.specs.declared.Read.TheVariants.{At, Refused}
+use Rattle.image.specs.Numbers.{refusal_number}
+use Rattle.image.specs.Reads.{skip, read_of}
+use Rattle.image.specs.declared.refusals.Refusal.{Refusal}
+use Rattle.std.specs.Prelude.{Ok, Err}
+use Rattle.image.specs.declared.refusals.Refusal.TheVariants.{Name}
 
 -- the length is past the end; the bytes run past the end; one is not allowed; all are
-module _ (short : ℕ) (s : List ℕ) (at : ℕ) where
-  pub name_past : length s ≤ at → Refused short ≡ skip (name_at short s at)
-  unfolding name_at byte_at bind skip pick
+module _ (short : Refusal) (s : List ℕ) (at : ℕ) where
+  pub name_past : length s ≤ at → read_of (Err short) ≡ skip (name_at (refusal_number short) s at)
+  unfolding name_at byte_at bind skip read_of pick
   name_past h = rw (le-ltb at (length s) h)
 
   module _ (h : at < length s) where
-    pub name_long : length s < at + 1 + get_or s at 0 → Refused short ≡ skip (name_at short s at)
-    unfolding name_at byte_at bind skip pick
+    pub name_long : length s < at + 1 + get_or s at 0 → read_of (Err short) ≡ skip (name_at (refusal_number short) s at)
+    unfolding name_at byte_at bind skip read_of pick
     name_long l = rw (lt-ltb at (length s) h, lt-leb (at + 1 + get_or s at 0) (length s) l)
 
     module _ (l : at + 1 + get_or s at 0 ≤ length s) where
-      pub name_bad : name_bytes (part (at + 1) (get_or s at 0) s) ≡ false → Refused 7 ≡ skip (name_at short s at)
-      unfolding name_at byte_at bind skip pick
+      pub name_bad : name_bytes (part (at + 1) (get_or s at 0) s) ≡ false → read_of (Err Name) ≡ skip (name_at (refusal_number short) s at)
+      unfolding name_at byte_at bind skip read_of pick
       name_bad e = rw (lt-ltb at (length s) h, le-leb (at + 1 + get_or s at 0) (length s) l, e)
 
-      pub name_good : name_bytes (part (at + 1) (get_or s at 0) s) ≡ true → At (at + 1 + get_or s at 0) ≡ skip (name_at short s at)
-      unfolding name_at byte_at bind skip pick
+      pub name_good : name_bytes (part (at + 1) (get_or s at 0) s) ≡ true → read_of (Ok (at + 1 + get_or s at 0)) ≡ skip (name_at (refusal_number short) s at)
+      unfolding name_at byte_at bind skip read_of pick
       name_good e = rw (lt-ltb at (length s) h, le-leb (at + 1 + get_or s at 0) (length s) l, e)
 
 -- a part is no longer than its count, nor than what is there

@@ -16,10 +16,9 @@ use Rattle.image.specs.Types.{inner_at, type_of, type_at}
 use Rattle.image.specs.Fields.{marks_at, encoding_of, encoding_at, limit_at, field_at, bare_at, variant_at}
 use Rattle.image.specs.Formats.{known}
 use Rattle.image.specs.Image.{format, entry_count, id_count, segment_count, head_of}
-use Rattle.image.specs.Reads.{skip}
-use Rattle.image.specs.declared.Read.{Read}
-use Rattle.image.specs.declared.Read.TheVariants.{At}
+use Rattle.image.specs.Reads.{skip, Read, read_of}
 use Rattle.image.proofs.Laws.Answers.{Got, got}
+use Rattle.std.specs.Prelude.{Ok, Err, IfOk}
 
 pub data Sure {A : Type 0} (P : A → ℕ → Type 0) : Parsed A → Type 0 where
   sure_ok : {a : A} {n : ℕ} → P a n → Sure P (ok a n)
@@ -53,7 +52,7 @@ sure_got {n = n} (sure_ok {a = a} {n = m} q) g =
     rw d at (rw e at q)
 sure_got sure_no g = absurd (let z : ◌≡◌ {A = ℕ} 0 1 = cc in omega arith)
 
-pub sure_at : {A : Type 0} {P : A → ℕ → Type 0} {p : Parsed A} {x : Read} {n : ℕ} → Sure P p → x ≡ At n → x ≡ skip p
+pub sure_at : {A : Type 0} {P : A → ℕ → Type 0} {p : Parsed A} {x : Read} {n : ℕ} → Sure P p → x ≡ Ok n → read_of x ≡ skip p
     → (a : A) × (p ≡ ok a n) × P a n
 sure_at q h e =
     let g = got h e in
@@ -248,6 +247,11 @@ variant_sure s at =
     sure_bind _ (number_in 4 s at) (λ o n₁ _.
     sure_bind _ (name_sure 8 s n₁) (λ x n₂ _.
     sure_bind _ (counted_sure field_at s (field_sure s) n₂) (λ fs n₃ r. sure_ok r)))
+
+-- a read of it ends within the list
+pub read_inside : {A : Type 0} (p : Parsed A) (s : List ℕ) (r : Read) → Sure (In s) p → read_of r ≡ skip p → IfOk r (λ n. n ≤ length s)
+read_inside p s (Ok n) q e = sure_got q (got refl e)
+read_inside p s (Err k) q e = tt
 
 -- what is known of an image whose head is read, and of the format that it gives
 pub record Head (s : List ℕ) (f n : ℕ) : Type 0 where

@@ -1,39 +1,40 @@
 -- Widths, case by case: a format without them, and one that stores them. Assumes nothing.
 use mathlib.Core.Path.{◌≡◌, refl, ◌∙◌, sym}
 use mathlib.Core.Bool.{true, false}
-use mathlib.Core.Option.{some}
+use Rattle.std.specs.Prelude.{Some}
 use mathlib.Core.List.{List}
 use Prim.Native.Nat.{ℕ}
 use lib.ListN.{get_or}
 use Rattle.image.specs.Formats.{has_widths}
 use Rattle.image.specs.Parse.{Parsed, pick, byte_at}
 use Rattle.image.specs.Widths.{wire_bytes, wire_bytes_at, width_at}
-use Rattle.image.specs.Reads.{skip}
-use Rattle.image.specs.declared.Read.{Read}
-use Rattle.image.specs.declared.Read.TheVariants.{At, Refused}
+use Rattle.image.specs.Reads.{skip, Read, read_of}
 use Rattle.image.proofs.Laws.Answers.{stop, next_is, skip_ok, pick_true, pick_false}
 use Rattle.image.proofs.Laws.Numbers.{There}
+use Rattle.std.specs.Prelude.{Ok, Err, ⊤}
+use Rattle.image.specs.declared.refusals.Refusal.{Refusal}
+use Rattle.image.specs.declared.refusals.Refusal.TheVariants.{Code}
 
 module _ (format : ℕ) (wire : List ℕ → ℕ → Parsed ℕ) (s : List ℕ) (at : ℕ) where
-  pub width_none : false ≡ has_widths format → At at ≡ skip (width_at format wire s at)
-  unfolding width_at skip pick
+  pub width_none : false ≡ has_widths format → read_of (Ok at) ≡ skip (width_at format wire s at)
+  unfolding width_at skip read_of pick
   width_none h = rw (sym h)
 
-  pub width_read : {r : Read} → true ≡ has_widths format → r ≡ skip (wire s at) → r ≡ skip (width_at format wire s at)
+  pub width_read : {r : Parsed ⊤} → true ≡ has_widths format → r ≡ skip (wire s at) → r ≡ skip (width_at format wire s at)
   unfolding width_at
-  width_read h e = pick_true (has_widths format) _ _ (sym h) (e ∙ sym (skip_ok (wire s at) some))
+  width_read h e = pick_true (has_widths format) _ _ (sym h) (e ∙ sym (skip_ok (wire s at) Some))
 
 -- the wire bytes of flags: a byte that is not there, not one of the four, and one of them
 module _ (s : List ℕ) (at : ℕ) where
-  pub bytes_stop : {r : Read} {k : ℕ} → r ≡ Refused k → r ≡ skip (byte_at 8 s at) → r ≡ skip (wire_bytes_at s at)
+  pub bytes_stop : {r : Read} {k : Refusal} → r ≡ Err k → read_of r ≡ skip (byte_at 8 s at) → read_of r ≡ skip (wire_bytes_at s at)
   unfolding wire_bytes_at
   bytes_stop h e = stop (byte_at 8 s at) _ h e
 
   module _ {n : ℕ} (b : There (byte_at 8 s at) s at n) where
-    pub bytes_other : false ≡ wire_bytes (get_or s at 0) → Refused 9 ≡ skip (wire_bytes_at s at)
-    unfolding wire_bytes_at skip
+    pub bytes_other : false ≡ wire_bytes (get_or s at 0) → read_of (Err Code) ≡ skip (wire_bytes_at s at)
+    unfolding wire_bytes_at skip read_of
     bytes_other h = next_is _ b.is (pick_false (wire_bytes (get_or s at 0)) _ _ (sym h) refl)
 
-    pub bytes_one : {r : Read} → true ≡ wire_bytes (get_or s at 0) → r ≡ At n → r ≡ skip (wire_bytes_at s at)
-    unfolding wire_bytes_at skip
-    bytes_one h e = next_is _ b.is (pick_true (wire_bytes (get_or s at 0)) _ _ (sym h) e)
+    pub bytes_one : {r : Read} → true ≡ wire_bytes (get_or s at 0) → r ≡ Ok n → read_of r ≡ skip (wire_bytes_at s at)
+    unfolding wire_bytes_at skip read_of
+    bytes_one h e = next_is _ b.is (pick_true (wire_bytes (get_or s at 0)) _ _ (sym h) (rw e))

@@ -7,8 +7,8 @@ use Rattle.listing.specs.Listing.{accept, outcome}
 use Rattle.listing.proofs.checked.Goals as goal
 
 pub measured-requires : goal.measured-requires
-measured-requires c = accepted _ c.read_image.ensures c.in-Accepted.is
+measured-requires c = accepted _ c.read_image.ensures c.in-Ok.is
 
-pub returns-in-Rejected : goal.returns-in-Rejected
+pub returns-in-Err : goal.returns-in-Err
 unfolding outcome accept fit verdict_is
-returns-in-Rejected c = c.refused.ensures ∙ rw (rejected_read c.args.image.now c.read_image.ensures c.in-Rejected.is)
+returns-in-Err c = c.refused.ensures ∙ rw (rejected_read c.args.image.now c.read_image.ensures c.in-Err.is)

@@ -2,7 +2,7 @@
 -- Assumes nothing.
 use mathlib.Core.Path.{◌≡◌, refl, sym, ap, ◌∙◌}
 use mathlib.Core.Bool.{Bool, true, false}
-use mathlib.Core.Option.{none, some}
+use Rattle.std.specs.Prelude.{None, Some}
 use mathlib.Core.List.{List, []}
 use Prim.Native.Nat.{ℕ, zero, suc, ◌+◌, ◌*◌, ◌≤◌, ◌<◌}
 use native.Mathlib.Omega.{arith}
@@ -59,10 +59,10 @@ module _ (f : ℕ) (s : List ℕ) where
   entry_good zero i j l g = absurd (omega arith)
   entry_good (suc c) i zero l g =
       let z : i + 0 ≡ i = omega arith in
-      rw z (good_first none (entry_of f s i) _ g)
+      rw z (good_first None (entry_of f s i) _ g)
   entry_good (suc c) i (suc j) l g =
       let z : i + suc j ≡ i + 1 + j = omega arith in
-      rw z (entry_good c (i + 1) j (omega arith) (good_first [] (entries_of f c s (i + 1)) _ (good_second none (entry_of f s i) _ g)))
+      rw z (entry_good c (i + 1) j (omega arith) (good_first [] (entries_of f c s (i + 1)) _ (good_second None (entry_of f s i) _ g)))
 
   body_good : (i : ℕ) → (entry_length s i ≡ 0 → ⊥) → Good (entry_of f s i) → Good (body_of f (part (entry_offset s i) (entry_length s i) s))
   unfolding entry_of pick
@@ -121,7 +121,7 @@ module _ (s : List ℕ) (g : Accepted s) (id : ℕ) (l : id < length (schema_of 
           record {
             inside = omega (arith, fits);
             whole = rw same good;
-            is = (body_entry s g id id_within some_body).1 ∙ ap some (rw same in_image);
+            is = (body_entry s g id id_within some_body).1 ∙ ap Some (rw same in_image);
             here = rw same h.here;
             kind = rw same h.kind;
             name = rw same h.name;
@@ -131,7 +131,7 @@ module _ (s : List ℕ) (g : Accepted s) (id : ℕ) (l : id < length (schema_of 
     entry_body = record { empty = λ z. empty_entry s g id id_within (sym e ∙ z); body = found }
 
   -- the name of its declaration, if it has one
-  pub entry_short : (d : Decl) → get_or (schema_of s).registry id none ≡ some d → length d.name ≤ length s
+  pub entry_short : (d : Decl) → get_or (schema_of s).registry id None ≡ Some d → length d.name ≤ length s
   entry_short d q = go (eqb (entry_length s id) 0) refl
     where
       go : (t : Bool) → eqb (entry_length s id) 0 ≡ t → length d.name ≤ length s
@@ -143,3 +143,6 @@ module _ (s : List ℕ) (g : Accepted s) (id : ℕ) (l : id < length (schema_of 
           let n = sym b.1 ∙ q in
           let k : decl_in s (entry_offset s id) ≡ d = cc in
           rw (sym k) (name_short s (entry_offset s id) b.0)
+
+-- what the code needs
+pub ruleset bodies = (entry_pair, entry_body)

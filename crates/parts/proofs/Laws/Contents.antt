@@ -1,6 +1,7 @@
 -- The tables of an accepted image: its ids, its namespace, and the bodies of its entries. Assumes nothing.
 use mathlib.Core.Path.{◌≡◌, refl, sym, ap, ◌∙◌}
-use mathlib.Core.Option.{Option, none, some}
+use Rattle.std.specs.Prelude.{Option, None, Some}
+use mathlib.Core.Bool.{true}
 use mathlib.Core.List.{List, [], ◌∷◌}
 use Prim.Native.Nat.{ℕ, zero, suc, ◌+◌, ◌*◌, ◌≤◌, ◌<◌}
 use native.Mathlib.Omega.{arith}
@@ -10,6 +11,7 @@ use Rattle.image.specs.Schema.{Decl, Schema, no_schema}
 use Rattle.image.specs.Parse.{ok, bind, pick, part, little_endian, byte_at}
 use Rattle.image.specs.Names.{name_at, names_at}
 use Rattle.image.specs.Bodies.{body_of}
+use Rattle.image.specs.Formats.{known}
 use Rattle.image.specs.Image.{format, entry_count, id_count, segment_count, entry_offset, entry_length, ids_at, segments_at, ids_from, head_of, tables_of, entry_of, entries_of, read_image}
 use Rattle.image.specs.WellFormed.{Good, value_or, end_of}
 use Rattle.image.proofs.Laws.Sure.{head_sure}
@@ -25,6 +27,7 @@ use Rattle.parts.proofs.Laws.Places.{many_places}
 pub record Whole (s : List ℕ) : Type 0 where
   pub most : length s ≤ 32768
   pub least : 8 ≤ length s
+  pub known : known (format s) ≡ true
   pub tables : segments_at s ≤ length s
   pub names : Good (names_at 2 (segment_count s) s (segments_at s))
   pub entries : Good (entries_of (format s) (entry_count s) s 0)
@@ -54,6 +57,7 @@ whole s g =
     record {
       most = h.most;
       least = h.least;
+      known = rw h.format at h.known;
       tables = leb-true (segments_at s) (length s) (need_true 2 _ _ b₂);
       names = b₃;
       entries = b₅;
@@ -75,11 +79,11 @@ module _ (s : List ℕ) where
 -- the entries, one by one, in a format
 module _ (f : ℕ) (s : List ℕ) where
   entries_more : (c i : ℕ) → Good (entries_of f (suc c) s i)
-      → Good (entry_of f s i) × Good (entries_of f c s (i + 1)) × (value_or [] (entries_of f (suc c) s i) ≡ value_or none (entry_of f s i) ∷ value_or [] (entries_of f c s (i + 1)))
+      → Good (entry_of f s i) × Good (entries_of f c s (i + 1)) × (value_or [] (entries_of f (suc c) s i) ≡ value_or None (entry_of f s i) ∷ value_or [] (entries_of f c s (i + 1)))
   unfolding entries_of value_or
   entries_more c i g =
-      let a = good_first none (entry_of f s i) _ g in
-      let e = good_is none (entry_of f s i) a in
+      let a = good_first None (entry_of f s i) _ g in
+      let e = good_is None (entry_of f s i) a in
       let b = good_first [] (entries_of f c s (i + 1)) _ (then_good _ e g) in
       (a, b, ap (value_or []) (then_is _ e ∙ then_is _ (good_is [] _ b)))
 
@@ -93,24 +97,24 @@ module _ (f : ℕ) (s : List ℕ) where
       let (a, b, e) = entries_more c i g in
       ap length e ∙ ap suc (entries_count c (i + 1) b)
 
-  entries_at : (c i j : ℕ) → j < c → Good (entries_of f c s i) → Good (entry_of f s (i + j)) × (get_or (value_or [] (entries_of f c s i)) j none ≡ value_or none (entry_of f s (i + j)))
+  entries_at : (c i j : ℕ) → j < c → Good (entries_of f c s i) → Good (entry_of f s (i + j)) × (get_or (value_or [] (entries_of f c s i)) j None ≡ value_or None (entry_of f s (i + j)))
   entries_at zero i j l g = absurd (omega arith)
   entries_at (suc c) i zero l g =
       let (a, b, e) = entries_more c i g in
       let z : i + 0 ≡ i = omega arith in
-      rw z (a, ap (λ (r : List (Option Decl)). get_or r 0 none) e)
+      rw z (a, ap (λ (r : List (Option Decl)). get_or r 0 None) e)
   entries_at (suc c) i (suc j) l g =
       let (a, b, e) = entries_more c i g in
       let z : i + suc j ≡ i + 1 + j = omega arith in
       let r = entries_at c (i + 1) j (omega arith) b in
-      rw z (r.0, ap (λ (r : List (Option Decl)). get_or r (suc j) none) e ∙ r.1)
+      rw z (r.0, ap (λ (r : List (Option Decl)). get_or r (suc j) None) e ∙ r.1)
 
   -- an empty one, and one with a body
-  entry_empty : (i : ℕ) → entry_length s i ≡ 0 → value_or none (entry_of f s i) ≡ none
+  entry_empty : (i : ℕ) → entry_length s i ≡ 0 → value_or None (entry_of f s i) ≡ None
   unfolding entry_of pick value_or
   entry_empty i z = rw z
 
-  entry_is : (i : ℕ) → (entry_length s i ≡ 0 → ⊥) → entry_of f s i ≡ bind (body_of f (part (entry_offset s i) (entry_length s i) s)) (λ d n. ok (some d) n)
+  entry_is : (i : ℕ) → (entry_length s i ≡ 0 → ⊥) → entry_of f s i ≡ bind (body_of f (part (entry_offset s i) (entry_length s i) s)) (λ d n. ok (Some d) n)
   unfolding entry_of pick
   entry_is i n = rw (ne_eqb (entry_length s i) 0 n)
 
@@ -123,14 +127,14 @@ module _ (f : ℕ) (s : List ℕ) where
 -- a body's declaration stands in the image at the body's place
 module _ (s : List ℕ) where
   entry_body : (i : ℕ) → (entry_length s i ≡ 0 → ⊥) → Good (entry_of (format s) s i)
-      → DeclHere s (entry_offset s i) × (value_or none (entry_of (format s) s i) ≡ some (decl_in s (entry_offset s i)))
+      → DeclHere s (entry_offset s i) × (value_or None (entry_of (format s) s i) ≡ Some (decl_in s (entry_offset s i)))
   unfolding DeclHere decl_in value_or
   entry_body i n g =
       let t = part (entry_offset s i) (entry_length s i) s in
       let e = entry_is (format s) s i n in
       let b = good_first no_decl (body_of (format s) t) _ (rw e at g) in
       let k = body_kept (entry_offset s i) t s (part_of (entry_offset s i) (entry_length s i) s (body_there (format s) s (entry_offset s i) (entry_length s i) b)) in
-      (kept_good k b, ap (value_or none) (e ∙ then_is _ (good_is no_decl (body_of (format s) t) b)) ∙ ap some (sym (kept_value no_decl k b)))
+      (kept_good k b, ap (value_or None) (e ∙ then_is _ (good_is no_decl (body_of (format s) t) b)) ∙ ap Some (sym (kept_value no_decl k b)))
 
 -- what an accepted image says of its tables
 module _ (s : List ℕ) (g : Accepted s) where
@@ -143,6 +147,9 @@ module _ (s : List ℕ) (g : Accepted s) where
   tables_there : 8 + 4 * entry_count s + 4 * id_count s ≤ length s
   unfolding segments_at ids_at
   tables_there = (whole s g).tables
+
+  pub format_known : known (format s) ≡ true
+  format_known = (whole s g).known
 
   pub format_is : format s ≡ (schema_of s).format
   format_is = sym (ap (λ (c : Schema). c.format) (whole s g).is)
@@ -175,23 +182,23 @@ module _ (s : List ℕ) (g : Accepted s) where
   pub ids_most : length (schema_of s).ids ≤ length s
   ids_most = omega (arith, id_count_is, tables_there)
 
-  pub entry_past : (id : ℕ) → entry_count s ≤ id → get_or (schema_of s).registry id none ≡ none
-  entry_past id l = get_or-eq_default (schema_of s).registry none (let e = entry_count_is in omega arith)
+  pub entry_past : (id : ℕ) → entry_count s ≤ id → get_or (schema_of s).registry id None ≡ None
+  entry_past id l = get_or-eq_default (schema_of s).registry None (let e = entry_count_is in omega arith)
 
   module _ (id : ℕ) (l : id < entry_count s) where
     pub pair_there : 8 + 4 * id + 4 ≤ length s
     pair_there = let t = tables_there in omega arith
 
-    found : Good (entry_of (format s) s id) × (get_or (schema_of s).registry id none ≡ value_or none (entry_of (format s) s id))
+    found : Good (entry_of (format s) s id) × (get_or (schema_of s).registry id None ≡ value_or None (entry_of (format s) s id))
     found =
         let z : 0 + id ≡ id = omega arith in
         let r = entries_at (format s) s (entry_count s) 0 id l (whole s g).entries in
-        (rw z at r.0, ap (λ (r : List (Option Decl)). get_or r id none) entries_are ∙ r.1 ∙ ap (λ (i : ℕ). value_or none (entry_of (format s) s i)) z)
+        (rw z at r.0, ap (λ (r : List (Option Decl)). get_or r id None) entries_are ∙ r.1 ∙ ap (λ (i : ℕ). value_or None (entry_of (format s) s i)) z)
 
-    pub empty_entry : entry_length s id ≡ 0 → get_or (schema_of s).registry id none ≡ none
+    pub empty_entry : entry_length s id ≡ 0 → get_or (schema_of s).registry id None ≡ None
     empty_entry e = found.1 ∙ entry_empty (format s) s id e
 
-    pub body_entry : (entry_length s id ≡ 0 → ⊥) → DeclHere s (entry_offset s id) × (get_or (schema_of s).registry id none ≡ some (decl_in s (entry_offset s id)))
+    pub body_entry : (entry_length s id ≡ 0 → ⊥) → DeclHere s (entry_offset s id) × (get_or (schema_of s).registry id None ≡ Some (decl_in s (entry_offset s id)))
     body_entry f = let r = entry_body s id f found.0 in (r.0, found.1 ∙ r.1)
 
   -- the namespace
@@ -206,3 +213,10 @@ module _ (s : List ℕ) (g : Accepted s) where
   segments_listed =
       let h = names_again in
       record { here = h.0; are = h.1 ∙ many_places [] (name_at 8) s (segment_count s) (segments_at s) h.0 }
+
+-- what the code needs of the head
+pub ruleset heads = (head_there, format_known, format_is, id_count_is, entry_count_is)
+
+pub ruleset entries = (head_there, entry_past, pair_there, empty_entry, body_entry)
+
+pub ruleset ids = (head_there, id_is)

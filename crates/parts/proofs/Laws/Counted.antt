@@ -1,7 +1,7 @@
 -- What follows the head of a declaration: a count and its items, by its kind, or a newtype's type. Assumes nothing.
 use mathlib.Core.Path.{◌≡◌, refl, sym, ap, ◌∙◌}
 use mathlib.Core.Bool.{true, false, cond}
-use mathlib.Core.Option.{Option, none, some}
+use Rattle.std.specs.Prelude.{Option, None, Some}
 use mathlib.Core.List.{List, []}
 use Prim.Native.Nat.{ℕ, zero, suc, ◌+◌, ◌≤◌}
 use native.Mathlib.Omega.{arith}
@@ -57,7 +57,7 @@ module _ (f : ℕ) (s : List ℕ) (at : ℕ) where
   its_marks = marks_of (get_or s (name_end s at) 0)
 
   abbrev width_from : ℕ → Option ℕ
-  width_from n = cond (has_widths f) (some (get_or s n 0)) none
+  width_from n = cond (has_widths f) (Some (get_or s n 0)) None
 
   module _ {A : Type 0} (h : Name → ℕ → Parsed A) where
     name_read : Good (bind (name_at 8 s at) h) → bind (name_at 8 s at) h ≡ h (name_in s at) (name_end s at)
@@ -71,10 +71,10 @@ module _ (f : ℕ) (s : List ℕ) (at : ℕ) where
   module _ {A : Type 0} (h : Option ℕ → ℕ → Parsed A) where
     width_read : (wire : List ℕ → ℕ → Parsed ℕ) (n : ℕ) → (Good (wire s n) → Byte-read s n (wire s n)) → Good (bind (width_at f wire s n) h)
         → bind (width_at f wire s n) h ≡ h (width_from n) (n + cond (has_widths f) 1 0)
-    width_read wire n w g = then_is _ (width_is s n f wire w (good_first none (width_at f wire s n) _ g)).0
+    width_read wire n w g = then_is _ (width_is s n f wire w (good_first None (width_at f wire s n) _ g)).0
 
   message_listing : Good (message_at s at)
-      → message_at s at ≡ listed field_at s (λ fs. decl (number message_kind) (name_in s at) its_marks none fs [] no_type) (name_end s at + 1)
+      → message_at s at ≡ listed field_at s (λ fs. decl (number message_kind) (name_in s at) its_marks None fs [] no_type) (name_end s at + 1)
   unfolding message_at listed
   message_listing g =
       let n = name_read _ g in
@@ -98,7 +98,7 @@ module _ (f : ℕ) (s : List ℕ) (at : ℕ) where
       let n = name_read _ g in
       n ∙ width_read _ wire_bytes_at _ (wire_bytes_is s (name_end s at)) (rw n at g)
 
-  union_listing : Good (union_at s at) → union_at s at ≡ listed variant_at s (λ vs. decl (number union_kind) (name_in s at) unmarked none [] vs no_type) (name_end s at)
+  union_listing : Good (union_at s at) → union_at s at ≡ listed variant_at s (λ vs. decl (number union_kind) (name_in s at) unmarked None [] vs no_type) (name_end s at)
   unfolding union_at listed
   union_listing g = name_read _ g
 
@@ -198,7 +198,7 @@ module _ (s : List ℕ) (at : ℕ) (g : DeclHere s at) where
 
   -- a newtype's type
   module _ (e : (decl_in s at).kind ≡ number newtype_kind) where
-    newtype_parts : (Good (type_at s (inner_place s at))) × (newtype_at s (at + 1) ≡ bind (type_at s (inner_place s at)) (λ t n. ok (decl (number newtype_kind) (name_in s (at + 1)) unmarked none [] [] t) n))
+    newtype_parts : (Good (type_at s (inner_place s at))) × (newtype_at s (at + 1) ≡ bind (type_at s (inner_place s at)) (λ t n. ok (decl (number newtype_kind) (name_in s (at + 1)) unmarked None [] [] t) n))
     unfolding kind_of decl_at newtype_at NameHere inner_place
     newtype_parts =
         let b = kind_good s at g (number newtype_kind) e in
@@ -213,3 +213,6 @@ module _ (s : List ℕ) (at : ℕ) (g : DeclHere s at) where
     inner_tree =
         ap (λ (d : Decl). d.inner) (kind_value s at g (number newtype_kind) e)
         ∙ ap (λ (q : Parsed Decl). (value_or no_decl q).inner) (newtype_parts.1 ∙ then_is _ (type_at_is s (inner_place s at) newtype_parts.0))
+
+-- what the code needs
+pub ruleset counts = (items_after, items_after_width)

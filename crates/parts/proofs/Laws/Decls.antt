@@ -1,11 +1,11 @@
 -- Declarations at places of the image: their kinds, names, marks and widths. Assumes nothing.
 use mathlib.Core.Path.{◌≡◌, refl, sym, ap, ◌∙◌}
 use mathlib.Core.Bool.{Bool, true, false}
-use mathlib.Core.Option.{Option, none, some}
+use Rattle.std.specs.Prelude.{Option, None, Some}
 use mathlib.Core.List.{List, []}
 use Prim.Native.Nat.{ℕ, ◌+◌, ◌≤◌, ◌<◌}
 use native.Mathlib.Omega.{arith}
-use borrow.Author.Tests.{eqb-true, eqb-false}
+use borrow.Author.Tests.{eqb-true, eqb-false, leb-true, leb-false}
 use lib.Dec.{eqb}
 use lib.ListN.{length, get_or}
 use Rattle.image.specs.Kinds.{Kind, kind_of}
@@ -23,10 +23,10 @@ use Rattle.image.specs.WellFormed.{Good, value_or}
 use Rattle.image.proofs.Laws.Sure.{Sure, sure_ok, sure_no, sure_bind, code_sure}
 use Rattle.image.proofs.Laws.Good.{sure_good, good_first}
 use Rattle.image.proofs.Laws.Kinds.{Says, message, enum, flags, union, newtype, config, alias, trait, impl, other, says}
-use Rattle.parts.specs.Promise.{no_decl, NameHere, name_in, name_end, body_at, DeclHere, decl_in, marks_size, width_place, measured, stores_width, start_kind, start_name}
+use Rattle.parts.specs.Promise.{no_decl, NameHere, name_in, name_end, body_at, DeclHere, decl_in, marked, marks_size, width_place, measured, stores_width, start_kind, start_name}
 use Rattle.parts.proofs.Laws.Steps.{then_is, byte_is, wire_bits_is, wire_bytes_is, itself, name_stands}
 use Rattle.parts.proofs.Laws.Starts.{Started, start_nameless, start_named}
-use Rattle.parts.proofs.Laws.Widths.{measured_most, stores, stores_not, stored_most, Stored, width_sure_here, no_width_lem, its_width}
+use Rattle.parts.proofs.Laws.Widths.{place_by, measured_most, stores, stores_not, stored_most, Stored, width_sure_here, no_width_lem, its_width}
 
 -- the head of a declaration in a format: its kind, and by the kind a name, marks and a width, from `at` on
 pub record Headed (f kind : ℕ) (s : List ℕ) (at : ℕ) (d : Decl) : Type 0 where
@@ -80,7 +80,7 @@ module _ (f : ℕ) (s : List ℕ) (at : ℕ) where
   }
 
   pub head_sure : {kind : ℕ} {k : Kind} → Says kind k → Sure (λ d n. Headed f kind s at d) (decl_at f k s at)
-  unfolding decl_at message_at enum_at flags_at union_at newtype_at other_at impl_at measured marks_size
+  unfolding decl_at message_at enum_at flags_at union_at newtype_at other_at impl_at measured marks_size marked
   head_sure message =
       sure_bind _ name_sure_here (λ x n q.
       sure_bind _ (marks_sure_here s n) (λ m k r.
@@ -167,14 +167,33 @@ module _ (s : List ℕ) (at : ℕ) (g : DeclHere s at) where
       let h = name_stands s (at + 1) n in
       (n, omega arith)
 
-  -- whether a width is stored, by the kind's byte
-  pub width_never : measured (get_or s at 0) ≡ false → stores_width (format s) (decl_in s at).kind ≡ false
-  width_never e = stores_not (format s) _ (ap measured decl_kind ∙ e)
+  -- the marks, by whether the kind has them
+  module _ (e : marked (decl_in s at).kind ≡ true) where
+    marked_most : get_or s at 0 ≤ 1
+    unfolding marked
+    marked_most = omega (arith, decl_kind, leb-true (decl_in s at).kind 1 e)
 
-  pub width_by_format : measured (get_or s at 0) ≡ true → (2 ≤ length s) × (stores_width (format s) (decl_in s at).kind ≡ has_widths (format s))
+    pub marked_name : NameHere s (at + 1)
+    marked_name = (decl_head.named (omega (arith, marked_most))).0
+
+    pub marks_there : name_end s (at + 1) < length s
+    marks_there = (decl_head.marked marked_most).0
+
+    pub marks_are : marks_of (get_or s (name_end s (at + 1)) 0) ≡ (decl_in s at).marks
+    marks_are = sym (decl_head.marked marked_most).1
+
+  pub marks_none : marked (decl_in s at).kind ≡ false → marks_of 0 ≡ (decl_in s at).marks
+  unfolding marked marks_of
+  marks_none e = sym (decl_head.plain (omega (arith, decl_kind, leb-false (decl_in s at).kind 1 e)))
+
+  -- whether a width is stored, by the kind
+  pub width_never : measured (decl_in s at).kind ≡ false → stores_width (format s) (decl_in s at).kind ≡ false
+  width_never e = stores_not (format s) _ e
+
+  pub width_by_format : measured (decl_in s at).kind ≡ true → (2 ≤ length s) × (stores_width (format s) (decl_in s at).kind ≡ has_widths (format s))
   width_by_format e =
-      let m = measured_most (get_or s at 0) e in
-      ((name_there (omega (arith, decl_kind))).1, stores (format s) _ (ap measured decl_kind ∙ e))
+      let m = measured_most (decl_in s at).kind e in
+      ((name_there (omega arith)).1, stores (format s) _ e)
 
   pub width_named : stores_width (format s) (decl_in s at).kind ≡ true → (decl_in s at).kind < number impl_kind
   width_named e = let m = stored_most (format s) (decl_in s at).kind e in omega arith
@@ -184,10 +203,10 @@ module _ (s : List ℕ) (at : ℕ) (g : DeclHere s at) where
   unfolding width_place
   width_stored = rw decl_kind decl_head.width
 
-  pub width_absent : stores_width (format s) (decl_in s at).kind ≡ false → (decl_in s at).width ≡ none
+  pub width_absent : stores_width (format s) (decl_in s at).kind ≡ false → (decl_in s at).width ≡ None
   width_absent e = width_stored.is ∙ rw e
 
-  pub width_at_lem : stores_width (format s) (decl_in s at).kind ≡ true → (width_place s at < length s) × ((decl_in s at).width ≡ some (get_or s (width_place s at) 0))
+  pub width_at_lem : stores_width (format s) (decl_in s at).kind ≡ true → (width_place s at < length s) × ((decl_in s at).width ≡ Some (get_or s (width_place s at) 0))
   width_at_lem e = (width_stored.there e, width_stored.is ∙ rw e)
 
   module _ (k : ℕ) (e : (decl_in s at).kind ≡ k) where
@@ -201,3 +220,12 @@ module _ (s : List ℕ) (at : ℕ) (g : DeclHere s at) where
     pub kind_value : decl_in s at ≡ value_or no_decl (decl_at (format s) (kind_of k) s (at + 1))
     unfolding decl_in
     kind_value = ap (value_or no_decl) of_kind_lem
+
+-- what the code needs
+pub ruleset heads = (decl_started, kind_there, name_there)
+
+pub ruleset marks = (heads, marked_name, marks_there, marks_are, marks_none)
+
+pub ruleset widths = (width_never, width_by_format, width_named, width_absent, width_at_lem)
+
+pub ruleset width_places = (heads, marks_there, place_by)

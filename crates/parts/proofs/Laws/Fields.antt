@@ -1,7 +1,7 @@
 -- Encodings and limits at places of the image. Assumes nothing.
 use mathlib.Core.Path.{◌≡◌, refl, sym, ap, ap₂, ◌∙◌}
 use mathlib.Core.Bool.{Bool, true, false, ◌&&◌, false≢true}
-use mathlib.Core.Option.{none, some}
+use Rattle.std.specs.Prelude.{None, Some}
 use mathlib.Core.List.{List}
 use Prim.Native.Nat.{ℕ, zero, suc, ◌+◌, ◌≤◌, ◌<◌}
 use native.Mathlib.Omega.{arith}
@@ -14,9 +14,8 @@ use Rattle.image.specs.Fields.{plain, delta, encoding_of, encoding_at, limit_at}
 use Rattle.image.specs.WellFormed.{Good, value_or, end_of}
 use Rattle.image.proofs.Laws.Sure.{Sure, sure_ok, sure_no, sure_bind, sure_pick, Byte, Coded, code_sure}
 use Rattle.image.proofs.Laws.Good.{sure_good, good_first}
-use Rattle.parts.specs.Promise.{name_end, ItemHere, field_in, marks_place, encoding_place, encoding_in, limit_place, type_place, coding_of, limit_of}
+use Rattle.parts.specs.Promise.{name_end, ItemHere, field_in, marks_place, encoding_place, encoding_in, limit_place, type_place, coding_of}
 use Rattle.parts.specs.declared.Shape.TheVariants as shape
-use Rattle.parts.specs.declared.Limit.TheVariants.{Most, Unlimited}
 use Rattle.parts.proofs.Laws.Steps.{then_is, code_is, number_is}
 use Rattle.parts.proofs.Laws.Items.{field_parts_lem}
 
@@ -89,15 +88,15 @@ module _ (s : List ℕ) (at : ℕ) (g : Good (limit_at s at)) where
   limit_there : at < length s
   limit_there = first.1
 
-  limit_none : get_or s at 0 ≡ 0 → limit_at s at ≡ ok none (at + 1)
+  limit_none : get_or s at 0 ≡ 0 → limit_at s at ≡ ok None (at + 1)
   unfolding limit_at pick
   limit_none e = then_is _ first.0 ∙ rw e
 
-  limit_some : (get_or s at 0 ≡ 0 → ⊥) → limit_at s at ≡ bind (number_at 8 s (at + 1)) (λ v m. ok (some v) m)
+  limit_some : (get_or s at 0 ≡ 0 → ⊥) → limit_at s at ≡ bind (number_at 8 s (at + 1)) (λ v m. ok (Some v) m)
   unfolding limit_at pick
   limit_some f = then_is _ first.0 ∙ rw (ne_eqb (get_or s at 0) 0 f)
 
-  limit_number : (get_or s at 0 ≡ 0 → ⊥) → (limit_at s at ≡ ok (some (little_endian 8 (drop (at + 1) s))) (at + 1 + 8)) × (at + 1 + 8 ≤ length s)
+  limit_number : (get_or s at 0 ≡ 0 → ⊥) → (limit_at s at ≡ ok (Some (little_endian 8 (drop (at + 1) s))) (at + 1 + 8)) × (at + 1 + 8 ≤ length s)
   limit_number f =
       let e = limit_some f in
       let h = number_is s (at + 1) 8 (good_first 0 (number_at 8 s (at + 1)) _ (rw e at g)) in
@@ -146,7 +145,7 @@ module _ (s : List ℕ) (at : ℕ) (g : ItemHere shape.Field s at) where
           ap (λ (k : ℕ). e + 1 + k + 1) d ∙ sym h ∙ ap (λ (k : ℕ). end_of (encoding_at s (k + 1))) q
 
       pub coded : coding_of (record { deltas = n; base = get_or s (e + 1 + n) 0 }) ≡ (field_in s at).encoding
-      unfolding coding coding_of encoding_in encoding_place marks_place
+      unfolding coding encoding_in encoding_place marks_place
       coded =
           let h = (encoding_stands s (e + 1) encoding_good).base in
           ap₂ coding d (ap (λ (k : ℕ). get_or s (e + 1 + k) 0) d ∙ sym h) ∙ ap (λ (k : ℕ). encoding_in s (k + 1)) q ∙ sym (ap (λ (f : Field). f.encoding) (field_parts_lem s at g).value)
@@ -189,25 +188,34 @@ module _ (s : List ℕ) (at : ℕ) (g : ItemHere shape.Field s at) where
     pub place_there : p < length s
     place_there = limit_there s p good
 
-    value : (field_in s at).limit ≡ value_or none (limit_at s p)
-    value = ap (λ (f : Field). f.limit) (field_parts_lem s at g).value ∙ ap (λ (k : ℕ). value_or none (limit_at s k)) (sym q)
+    value : (field_in s at).limit ≡ value_or None (limit_at s p)
+    value = ap (λ (f : Field). f.limit) (field_parts_lem s at g).value ∙ ap (λ (k : ℕ). value_or None (limit_at s k)) (sym q)
 
     type_at : type_place s at ≡ end_of (limit_at s p)
     unfolding type_place
     type_at = ap (λ (k : ℕ). end_of (limit_at s k)) (sym q)
 
-    pub unlimited : get_or s p 0 ≡ 0 → (limit_of Unlimited ≡ (field_in s at).limit) × (p + 1 ≡ type_place s at)
-    unfolding limit_of value_or end_of
-    unlimited e = let r = limit_none s p good e in (sym (value ∙ ap (value_or none) r), sym (type_at ∙ ap end_of r))
+    pub unlimited : get_or s p 0 ≡ 0 → (None ≡ (field_in s at).limit) × (p + 1 ≡ type_place s at)
+    unfolding value_or end_of
+    unlimited e = let r = limit_none s p good e in (sym (value ∙ ap (value_or None) r), sym (type_at ∙ ap end_of r))
 
     module _ (f : get_or s p 0 ≡ 0 → ⊥) where
       pub number_there : p + 1 + 8 ≤ length s
       number_there = (limit_number s p good f).1
 
-      pub limited : {v : ℕ} → v ≡ little_endian 8 (drop (p + 1) s) → limit_of (Most v) ≡ (field_in s at).limit
-      unfolding limit_of value_or
-      limited e = sym (value ∙ ap (value_or none) (limit_number s p good f).0 ∙ ap some (sym e))
+      pub limited : {v : ℕ} → v ≡ little_endian 8 (drop (p + 1) s) → Some v ≡ (field_in s at).limit
+      unfolding value_or
+      limited e = sym (value ∙ ap (value_or None) (limit_number s p good f).0 ∙ ap Some (sym e))
 
       pub type_after : p + 9 ≡ type_place s at
       unfolding end_of
       type_after = let r = ap end_of (limit_number s p good f).0 in let t = type_at in omega arith
+
+-- what the code needs
+pub ruleset counting = (delta_there, delta_more, delta_done)
+
+pub ruleset encodings = (field_parts_lem, encoding_good, marks_there, base_there, limit_at_lem, coded)
+
+pub ruleset limits = (place_there, unlimited, number_there, limited, type_after)
+
+pub ruleset types = (field_parts_lem, marks_there, plain_there, plain_type, limits)

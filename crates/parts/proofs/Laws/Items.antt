@@ -1,6 +1,6 @@
 -- Items at places of the image: ordinal and name, and what each shape has after them. Assumes nothing.
 use mathlib.Core.Path.{◌≡◌, sym, ap, ap₂, ◌∙◌}
-use mathlib.Core.Option.{none}
+use Rattle.std.specs.Prelude.{None}
 use mathlib.Core.List.{List, []}
 use Prim.Native.Nat.{ℕ, ◌+◌, ◌-◌, ◌≤◌, ◌<◌}
 use native.Mathlib.Omega.{arith}
@@ -59,7 +59,7 @@ pub record FieldParts (s : List ℕ) (at : ℕ) : Type 0 where
     name = name_in s (at + 4);
     marks = marks_of (get_or s (marks_place s at) 0);
     encoding = value_or (plain 0) (encoding_at s (encoding_place s at));
-    limit = value_or none (limit_at s (limit_place s at));
+    limit = value_or None (limit_at s (limit_place s at));
     type = tree_in s (type_place s at);
   }
   pub end : item_end shape.Field s at ≡ type_end s (type_place s at)
@@ -81,10 +81,10 @@ field_parts_lem s at g =
     let g₃ = then_good _ m.0 g₂ in
     let e = good_first (plain 0) (encoding_at s (encoding_place s at)) _ g₃ in
     let g₄ = then_good _ (good_is (plain 0) _ e) g₃ in
-    let l = good_first none (limit_at s (limit_place s at)) _ g₄ in
-    let g₅ = then_good _ (good_is none _ l) g₄ in
+    let l = good_first None (limit_at s (limit_place s at)) _ g₄ in
+    let g₅ = then_good _ (good_is None _ l) g₄ in
     let t = good_first no_type (type_at s (type_place s at)) _ g₅ in
-    let e₆ = k ∙ then_is _ m.0 ∙ then_is _ (good_is (plain 0) _ e) ∙ then_is _ (good_is none _ l) ∙ then_is _ (type_at_is s (type_place s at) t) in
+    let e₆ = k ∙ then_is _ m.0 ∙ then_is _ (good_is (plain 0) _ e) ∙ then_is _ (good_is None _ l) ∙ then_is _ (type_at_is s (type_place s at) t) in
     record {
       inside = key_inside s at (after_name s) g;
       name = key_name s at (after_name s) g;
@@ -221,10 +221,19 @@ module _ (h : Shape) (s : List ℕ) (c at : ℕ) (l : 0 < c) (g : ItemsHere h s 
   unfolding ItemsHere item_end
   items_rest = many_rest (no_item h) (item_at h) c s at l g
 
-  pub items_turn : (n : ℕ) → n ≡ item_end h s at → ItemsHere h s (c - 1) n × (items_end h s (c - 1) n ≡ items_end h s c at)
+  pub items_turn : (d n : ℕ) → d + 1 ≡ c → n ≡ item_end h s at → ItemsHere h s d n × (items_end h s d n ≡ items_end h s c at)
   unfolding ItemsHere item_end items_end
-  items_turn n e = many_turn (no_item h) (item_at h) s c at n l g e
+  items_turn d n q e =
+      let z : d ≡ c - 1 = omega arith in
+      rw z (many_turn (no_item h) (item_at h) s c at n l g e)
 
 pub items_done : (h : Shape) (s : List ℕ) (c at : ℕ) → c ≤ 0 → items_end h s c at ≡ at
 unfolding items_end
 items_done h s c at l = many_done (no_item h) (item_at h) s c at l
+
+-- what the code needs
+pub ruleset bares = (bare_parts, ordinal_is, name_is_bare)
+
+pub ruleset variants = (variant_parts, variant_listed)
+
+pub ruleset runs = (items_first, items_turn, items_done)

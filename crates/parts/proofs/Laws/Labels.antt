@@ -8,6 +8,10 @@ use borrow.Author.Tests.{eqb-true, eqb-false, leb-true}
 use lib.Dec.{eqb, leb}
 use lib.ListN.{length, get_or, drop, length-drop}
 use lib.Seq.{get_or-drop}
+use Rattle.image.specs.Codes.{number, primitive_tag, sub_byte_tag, semantic_tag, named_tag, fixed_array_tag, bits_tag}
+use Rattle.image.specs.Numbers.{tag_number}
+use Rattle.image.specs.declared.tags.Tag.{Tag}
+use Rattle.image.specs.declared.tags.Tag.TheVariants as tag
 use Rattle.image.specs.Schema.{Label, label}
 use Rattle.image.specs.Parse.{Parsed, ok, bind, little_endian, byte_at, code_at, number_at}
 use Rattle.image.specs.Names.{name_at, names_at}
@@ -16,7 +20,7 @@ use Rattle.image.specs.WellFormed.{Good, value_or, end_of}
 use Rattle.image.specs.WellFormed.{label_in as first_label}
 use Rattle.image.proofs.Laws.Good.{good_first}
 use Rattle.image.proofs.Laws.Trees.{label_tag}
-use Rattle.image.proofs.Laws.Types.{follows_nothing}
+use Rattle.image.proofs.Laws.Types.{tag_nothing}
 use Rattle.parts.specs.Promise.{no_label, NamesHere, NamesListed, names_end, name_end, name_in, name_places, LabelHere, label_in, label_end, bits_in, Regular}
 use Rattle.parts.proofs.Laws.Kept.{Kept, kept_good, kept_value, kept_end, part_from, byte_kept, after_kept, kept_bind}
 use Rattle.parts.proofs.Laws.Steps.{good_is, then_is, then_good, byte_is, code_is, number_is}
@@ -277,12 +281,41 @@ module _ (s : List ℕ) (at : ℕ) (g : LabelHere s at) where
       (ends bits q p.0 ∙ ap (λ (n : ℕ). end_of (names_at 8 (get_or s (at + 1) 0) s n)) z, p.1, rw z at p.2)
   by_follows unknown q = label_after s at g unknown q
 
-  pub ended : (t : ℕ) (f : Follows) → get_or s at 0 ≡ t → follows_tag t ≡ f → Ended f s at
-  ended t f e q = by_follows f (ap follows_tag e ∙ q)
+  pub ended : {t : ℕ} (f : Follows) → (label_in s at).tag ≡ t → follows_tag t ≡ f → Ended f s at
+  ended f e q = by_follows f (ap follows_tag (sym (label_tag_is s at g) ∙ e) ∙ q)
 
-  pub ended_bare : (get_or s at 0 ≡ 0 → ⊥) → (get_or s at 0 ≡ 1 → ⊥) → (get_or s at 0 ≡ 2 → ⊥) → (get_or s at 0 ≡ 3 → ⊥) → (get_or s at 0 ≡ 6 → ⊥) → (get_or s at 0 ≡ 16 → ⊥) → Ended nothing s at
-  ended_bare a b c d e f =
-      let m = (label_regular s at g).most in
-      let t = label_tag_is s at g in
-      let z : get_or s at 0 < 16 = omega arith in
-      by_follows nothing (follows_nothing (get_or s at 0) a b c d e f (omega arith))
+  -- by the tag
+  pub end_primitive : (label_in s at).tag ≡ number primitive_tag → Ended (code 13) s at
+  unfolding follows_tag
+  end_primitive e = ended (code 13) e refl
+
+  pub end_sub_byte : (label_in s at).tag ≡ number sub_byte_tag → Ended sub_byte s at
+  unfolding follows_tag
+  end_sub_byte e = ended sub_byte e refl
+
+  pub end_semantic : (label_in s at).tag ≡ number semantic_tag → Ended (code 5) s at
+  unfolding follows_tag
+  end_semantic e = ended (code 5) e refl
+
+  pub end_named : (label_in s at).tag ≡ number named_tag → Ended identity s at
+  unfolding follows_tag
+  end_named e = ended identity e refl
+
+  pub end_fixed : (label_in s at).tag ≡ number fixed_array_tag → Ended size s at
+  unfolding follows_tag
+  end_fixed e = ended size e refl
+
+  pub end_bits : (label_in s at).tag ≡ number bits_tag → Ended bits s at
+  unfolding follows_tag
+  end_bits e = ended bits e refl
+
+  pub end_other : (t : Tag) → tag_number t ≡ (label_in s at).tag → (t ≡ tag.Primitive → ⊥) → (t ≡ tag.SubByte → ⊥) → (t ≡ tag.Semantic → ⊥) → (t ≡ tag.Named → ⊥)
+      → (t ≡ tag.FixedArray → ⊥) → (t ≡ tag.Bits → ⊥) → Ended nothing s at
+  end_other t e a b c d f h = ended nothing (sym e) (tag_nothing t a b c d f h)
+
+-- what the code needs
+pub ruleset labels = (label_there, label_tag_is, label_regular)
+
+pub ruleset label_parts = (code_part, width_part, id_part, size_part, count_part)
+
+pub ruleset label_ends = (end_primitive, end_sub_byte, end_semantic, end_named, end_fixed, end_bits)

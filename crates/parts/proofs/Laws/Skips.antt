@@ -3,7 +3,7 @@ use mathlib.Core.Path.{◌≡◌, refl, sym, ap, ◌∙◌}
 use mathlib.Core.List.{List, [], ◌∷◌}
 use Prim.Native.Nat.{ℕ, zero, suc, ◌+◌, ◌-◌, ◌≤◌, ◌<◌}
 use native.Mathlib.Omega.{arith}
-use lib.ListN.{length, get_or, drop}
+use lib.ListN.{length, drop}
 use Rattle.image.specs.Schema.{Label, Ty, one, two, no_type}
 use Rattle.image.specs.Parse.{Parsed, ok, no, bind, shift, within, many}
 use Rattle.image.specs.Names.{name_at, names_at}
@@ -11,14 +11,13 @@ use Rattle.image.specs.Types.{Follows, code, sub_byte, identity, size, nothing, 
 use Rattle.image.specs.WellFormed.{Good, end_of}
 use Rattle.image.specs.WellFormed.{label_in as first_label}
 use Rattle.image.specs.Reads.{skip}
-use Rattle.image.proofs.Laws.Answers.{apart}
 use Rattle.image.proofs.Laws.Sure.{Sure, sure_ok, sure_no, sure_bind, sure_then, byte_sure, code_sure, number_sure, name_sure}
 use Rattle.image.proofs.Laws.Types.{inner_most}
 use Rattle.image.proofs.Laws.Good.{sure_good, good_first, bind_is, many_first, many_rest, many_end}
 use Rattle.parts.specs.Promise.{no_label, NameHere, name_end, NamesHere, names_end, LabelHere, label_in, label_end, TypeHere, type_end}
 use Rattle.parts.proofs.Laws.Kept.{kept_good, kept_end, part_from, many_kept, within_kept, type_kept}
 use Rattle.parts.proofs.Laws.Places.{many_none, many_make, many_append, many_turn, many_done}
-use Rattle.parts.proofs.Laws.Labels.{label_there, label_tag_is}
+use Rattle.parts.proofs.Laws.Labels.{label_there}
 use Rattle.parts.proofs.Laws.Trees.{type_label}
 use Rattle.parts.proofs.Laws.Items.{type_here, type_at_is}
 
@@ -37,9 +36,11 @@ module _ (s : List ℕ) (c at : ℕ) where
     unfolding NamesHere name_end names_at
     names_rest = many_rest [] (name_at 8) c s at l g
 
-    pub names_turn : (n : ℕ) → n ≡ name_end s at → NamesHere s (c - 1) n × (names_end s (c - 1) n ≡ names_end s c at)
+    pub names_turn : (d n : ℕ) → d + 1 ≡ c → n ≡ name_end s at → NamesHere s d n × (names_end s d n ≡ names_end s c at)
     unfolding NamesHere name_end names_end names_at
-    names_turn n e = many_turn [] (name_at 8) s c at n l g e
+    names_turn d n q e =
+        let z : d ≡ c - 1 = omega arith in
+        rw z (many_turn [] (name_at 8) s c at n l g e)
 
 -- reads go forward
 many_forward : {A : Type 0} (p : List ℕ → ℕ → Parsed A) (s : List ℕ) → ((at : ℕ) → Sure (λ _ n. at ≤ n) (p s at)) → (c at : ℕ) → Sure (λ _ n. at ≤ n) (many p c s at)
@@ -82,7 +83,7 @@ good_within p s at g = go (p (drop at s)) g
 same_end : {A B : Type 0} (p : Parsed A) (q : Parsed B) → skip p ≡ skip q → Good p → Good q × (end_of q ≡ end_of p)
 unfolding skip Good end_of
 same_end (ok a n) (ok b m) e g = (tt, (let d : m ≡ n = cc in d))
-same_end (ok a n) (no k) e g = apart e
+same_end (ok a n) (no k) e g = absurd (let z : ⊥ = cc in z)
 same_end (no k) q e g = absurd g
 
 -- the inner types of a node stand one after the other, and the last one ends it
@@ -156,15 +157,19 @@ module _ (s : List ℕ) (c at : ℕ) (l : 0 < c) (g : Good (many type_at c s at)
   pub types_label : LabelHere s at
   types_label = type_label s at 32 types_first
 
-  pub types_turn : (i n : ℕ) → i ≡ inner_types (get_or s at 0) → n ≡ label_end s at
+  pub types_turn : (i n : ℕ) → i ≡ inner_types (label_in s at).tag → n ≡ label_end s at
       → Good (many type_at (c - 1 + i) s n) × (end_of (many type_at (c - 1 + i) s n) ≡ end_of (many type_at c s at))
   unfolding end_of
   types_turn i n q k =
       let j = inner_types (label_in s at).tag in
-      let y : i ≡ j = q ∙ ap inner_types (sym (label_tag_is s at types_label)) in
       let z : c - 1 + i ≡ j + (c - 1) = omega arith in
       let t = label_there s at types_label in
       let r = node_inner s at types_first (omega arith) in
       let e : end_of (type_at s at) ≡ end_of (many type_at j s (label_end s at)) = ap end_of (type_at_is s at first) ∙ sym r.1 in
       let o = many_append no_type type_at s j (c - 1) (label_end s at) r.0 (rw e at (many_rest no_type type_at c s at l g)) in
       rw (k, z) (o.0, o.1 ∙ ap (λ (m : ℕ). end_of (many type_at (c - 1) s m)) (sym e) ∙ sym (many_end no_type type_at c s at l g))
+
+-- what the code needs
+pub ruleset names = (names_first, names_turn, names_done)
+
+pub ruleset types = (types_done, types_label, label_longer, label_there, inner_most)

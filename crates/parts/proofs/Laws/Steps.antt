@@ -1,7 +1,7 @@
 -- Reads that were good, one after the other: each is good, and its value and its end are known. Assumes nothing.
 use mathlib.Core.Path.{◌≡◌, refl, sym, ap₂, ◌∙◌}
 use mathlib.Core.Bool.{Bool, true, false, cond, false≢true}
-use mathlib.Core.Option.{none, some}
+use Rattle.std.specs.Prelude.{None, Some}
 use mathlib.Core.List.{List, []}
 use Prim.Native.Nat.{ℕ, ◌+◌, ◌-◌, ◌≤◌, ◌<◌}
 use native.Mathlib.Omega.{arith}
@@ -94,12 +94,12 @@ module _ (s : List ℕ) (at : ℕ) where
 
   -- in a format that stores no width nothing is read
   pub width_is : (f : ℕ) (wire : List ℕ → ℕ → Parsed ℕ) → (Good (wire s at) → Byte-read (wire s at)) → Good (width_at f wire s at)
-      → (width_at f wire s at ≡ ok (cond (has_widths f) (some (get_or s at 0)) none) (at + cond (has_widths f) 1 0)) × (has_widths f ≡ true → at < length s)
+      → (width_at f wire s at ≡ ok (cond (has_widths f) (Some (get_or s at 0)) None) (at + cond (has_widths f) 1 0)) × (has_widths f ≡ true → at < length s)
   unfolding width_at pick
   width_is f wire h g = go (has_widths f) g
     where
-      go : (b : Bool) → Good (pick b (bind (wire s at) (λ w n. ok (some w) n)) (ok none at))
-          → (pick b (bind (wire s at) (λ w n. ok (some w) n)) (ok none at) ≡ ok (cond b (some (get_or s at 0)) none) (at + cond b 1 0)) × (b ≡ true → at < length s)
+      go : (b : Bool) → Good (pick b (bind (wire s at) (λ w n. ok (Some w) n)) (ok None at))
+          → (pick b (bind (wire s at) (λ w n. ok (Some w) n)) (ok None at) ≡ ok (cond b (Some (get_or s at 0)) None) (at + cond b 1 0)) × (b ≡ true → at < length s)
       go true g = let r = h (good_first 0 (wire s at) _ g) in (then_is _ r.0, λ _. r.1)
       go false g = let z : at ≡ at + 0 = omega arith in (ap₂ ok refl z, λ e. absurd (false≢true e))
 
@@ -115,3 +115,6 @@ module _ (s : List ℕ) (at : ℕ) where
   pub name_part : NameHere s at → take (at + 1 + get_or s at 0 - (at + 1)) (drop (at + 1) s) ≡ name_in s at
   unfolding part
   name_part g = rw (add-sub_cancel_left (at + 1) (get_or s at 0)) (sym (name_stands g).value)
+
+-- what the code needs of a name
+pub ruleset naming = (name_stands, name_part)

@@ -1,7 +1,7 @@
 -- Which declarations have a width, by format and kind, and where it stands, with the places after it. Assumes nothing.
 use mathlib.Core.Path.{◌≡◌, refl, sym, ap, ◌∙◌}
 use mathlib.Core.Bool.{Bool, true, false, cond, ◌||◌, false≢true}
-use mathlib.Core.Option.{Option, none, some}
+use Rattle.std.specs.Prelude.{Option, None, Some}
 use mathlib.Core.List.{List}
 use Prim.Native.Nat.{ℕ, ◌+◌, ◌≤◌, ◌<◌}
 use native.Mathlib.Omega.{arith}
@@ -16,7 +16,7 @@ use Rattle.image.specs.Widths.{width_at}
 use Rattle.image.specs.Image.{format}
 use Rattle.image.specs.WellFormed.{Good, value_or}
 use Rattle.image.proofs.Laws.Sure.{Sure, sure_then}
-use Rattle.parts.specs.Promise.{name_end, items_at, decl_in, marks_size, width_place, measured, stores_width, width_size, items_in}
+use Rattle.parts.specs.Promise.{name_end, items_at, decl_in, marked, marks_size, width_place, measured, stores_width, width_size, items_in}
 use Rattle.parts.proofs.Laws.Steps.{Byte-read, width_is, itself}
 
 -- which kinds have a width, in a format
@@ -48,19 +48,19 @@ module _ (f : ℕ) where
 -- a width at a place, where one is stored
 pub record Stored (stored : Bool) (s : List ℕ) (at : ℕ) (w : Option ℕ) : Type 0 where
   pub there : stored ≡ true → at < length s
-  pub is : w ≡ cond stored (some (get_or s at 0)) none
+  pub is : w ≡ cond stored (Some (get_or s at 0)) None
 
 pub width_sure_here : (f : ℕ) (wire : List ℕ → ℕ → Parsed ℕ) (s : List ℕ) (at : ℕ) → (Good (wire s at) → Byte-read s at (wire s at))
     → Sure (λ w n. Stored (has_widths f) s at w) (width_at f wire s at)
 unfolding value_or
 width_sure_here f wire s at h =
-    sure_then (itself none (width_at f wire s at)) (λ w n q.
+    sure_then (itself None (width_at f wire s at)) (λ w n q.
     let e = width_is s at f wire h q.0 in
-    record { there = e.1; is = q.1 ∙ ap (value_or none) e.0 })
+    record { there = e.1; is = q.1 ∙ ap (value_or None) e.0 })
 
 module _ (f : ℕ) (s : List ℕ) where
   -- no width, and one where the format stores it
-  pub no_width_lem : (kind n : ℕ) → measured kind ≡ false → Stored (stores_width f kind) s n none
+  pub no_width_lem : (kind n : ℕ) → measured kind ≡ false → Stored (stores_width f kind) s n None
   no_width_lem kind n e = rw (stores_not f kind e) (record { there = λ z. absurd (false≢true z); is = refl })
 
   pub its_width : (kind : ℕ) {n k : ℕ} {w : Option ℕ} → measured kind ≡ true → n ≡ k → Stored (has_widths f) s n w → Stored (stores_width f kind) s k w
@@ -68,15 +68,19 @@ module _ (f : ℕ) (s : List ℕ) where
 
 -- where the width stands is after the marks, if the kind has them
 module _ (s : List ℕ) (at : ℕ) where
-  pub place_marked : (decl_in s at).kind ≤ number enum_kind → width_place s at ≡ name_end s (at + 1) + 1
+  pub place_by : {b : Bool} → marked (decl_in s at).kind ≡ b → width_place s at ≡ name_end s (at + 1) + cond b 1 0
   unfolding width_place marks_size
-  place_marked l = rw (le-leb (decl_in s at).kind 1 l)
+  place_by e = rw e
+
+  pub place_marked : (decl_in s at).kind ≤ number enum_kind → width_place s at ≡ name_end s (at + 1) + 1
+  unfolding marked
+  place_marked l = place_by (le-leb (decl_in s at).kind 1 l)
 
   pub place_plain : (number enum_kind) < (decl_in s at).kind → width_place s at ≡ name_end s (at + 1)
-  unfolding width_place marks_size
+  unfolding marked
   place_plain l =
       let z : name_end s (at + 1) + 0 ≡ name_end s (at + 1) = omega arith in
-      rw (lt-leb (decl_in s at).kind 1 l, z)
+      place_by (lt-leb (decl_in s at).kind 1 l) ∙ z
 
   -- the count stands after it
   pub items_plain : stores_width (format s) (decl_in s at).kind ≡ false → items_in s at ≡ items_at s (width_place s at)

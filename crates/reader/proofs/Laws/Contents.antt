@@ -8,29 +8,30 @@ use native.Mathlib.Nat.{add-sub_cancel_left}
 use borrow.Author.Tests.{eq-eqb, ne_eqb, le-leb, lt-leb, eqb-true, leb-true}
 use lib.ListN.{length, take, drop}
 use lib.Dec.{eqb, leb}
-use Rattle.image.specs.Parse.{ok, no, part, pick}
+use Rattle.image.specs.Parse.{Parsed, ok, no, part, pick}
 use Rattle.image.specs.Names.{names_at}
 use Rattle.image.specs.Bodies.{body_of}
 use Rattle.image.specs.Formats.{known}
 use Rattle.image.specs.Image.{format, entry_count, id_count, segment_count, entry_offset, entry_length, ids_at, segments_at, head_of, tables_of, laid, entry_of, entries_of, read_image}
-use Rattle.image.specs.Reads.{skip}
-use Rattle.image.specs.declared.Read.{Read}
-use Rattle.image.specs.declared.Read.TheVariants.{At, Refused}
-use Rattle.image.proofs.Laws.Answers.{refused, got, next, next_is, stop, skip_ok, pick_true, pick_false}
+use Rattle.std.specs.Prelude.{Ok, Err, ⊤}
+use Rattle.image.specs.Reads.{Read, read_of, skip}
+use Rattle.image.specs.declared.refusals.Refusal.{Refusal}
+use Rattle.image.specs.declared.refusals.Refusal.TheVariants.{Contents, Crowded, Format, Long, ShortHead}
+use Rattle.image.proofs.Laws.Answers.{got, next, next_is, stop, skip_ok, pick_true, pick_false}
 use Rattle.image.proofs.Laws.Sure.{Sure, sure_ok, sure_need, sure_at, names_sure, head_sure}
 
 -- the head: what each test leaves
 module _ (s : List ℕ) where
-  pub head_long : 32768 < length s → Refused 1 ≡ skip (head_of s)
-  unfolding head_of pick skip
+  pub head_long : 32768 < length s → read_of (Err Long) ≡ skip (head_of s)
+  unfolding head_of pick skip read_of
   head_long h = rw (lt-leb (length s) 32768 h)
 
-  pub head_short : length s ≤ 32768 → length s < 8 → Refused 2 ≡ skip (head_of s)
-  unfolding head_of pick skip
+  pub head_short : length s ≤ 32768 → length s < 8 → read_of (Err ShortHead) ≡ skip (head_of s)
+  unfolding head_of pick skip read_of
   head_short a h = rw (le-leb (length s) 32768 a, lt-leb 8 (length s) h)
 
-  pub head_format : length s ≤ 32768 → 8 ≤ length s → known (format s) ≡ false → Refused 3 ≡ skip (head_of s)
-  unfolding head_of pick skip
+  pub head_format : length s ≤ 32768 → 8 ≤ length s → known (format s) ≡ false → read_of (Err Format) ≡ skip (head_of s)
+  unfolding head_of pick skip read_of
   head_format a b h = rw (le-leb (length s) 32768 a, le-leb 8 (length s) b, h)
 
   -- the tests before the counts
@@ -44,28 +45,32 @@ module _ (s : List ℕ) where
     unfolding head_of pick
     counts = rw (le-leb (length s) 32768 f.short, le-leb 8 (length s) f.there, f.known)
 
-    pub crowded_entries : 512 < entry_count s → Refused 4 ≡ skip (head_of s)
-    unfolding pick skip
+    pub crowded_entries : 512 < entry_count s → read_of (Err Crowded) ≡ skip (head_of s)
+    unfolding pick skip read_of
     crowded_entries h = rw (counts, lt-leb (entry_count s) 512 h)
 
-    pub crowded_ids : entry_count s ≤ 512 → 512 < id_count s → Refused 4 ≡ skip (head_of s)
-    unfolding pick skip
+    pub crowded_ids : entry_count s ≤ 512 → 512 < id_count s → read_of (Err Crowded) ≡ skip (head_of s)
+    unfolding pick skip read_of
     crowded_ids d h = rw (counts, le-leb (entry_count s) 512 d, lt-leb (id_count s) 512 h)
 
-    pub crowded_segments : entry_count s ≤ 512 → id_count s ≤ 512 → 16 < segment_count s → Refused 4 ≡ skip (head_of s)
-    unfolding pick skip
+    pub crowded_segments : entry_count s ≤ 512 → id_count s ≤ 512 → 16 < segment_count s → read_of (Err Crowded) ≡ skip (head_of s)
+    unfolding pick skip read_of
     crowded_segments d e h = rw (counts, le-leb (entry_count s) 512 d, le-leb (id_count s) 512 e, lt-leb (segment_count s) 16 h)
 
-    pub head_good : entry_count s ≤ 512 → id_count s ≤ 512 → segment_count s ≤ 16 → At 8 ≡ skip (head_of s)
-    unfolding pick skip
+    pub head_good : entry_count s ≤ 512 → id_count s ≤ 512 → segment_count s ≤ 16 → read_of (Ok 8) ≡ skip (head_of s)
+    unfolding pick skip read_of
     head_good d e h = rw (counts, le-leb (entry_count s) 512 d, le-leb (id_count s) 512 e, le-leb (segment_count s) 16 h)
 
 -- a head that was read
-pub head_there : (s : List ℕ) {x : Read} {n : ℕ} → x ≡ At n → x ≡ skip (head_of s) → 8 ≤ length s
+pub head_there : (s : List ℕ) {x : Read} {n : ℕ} → x ≡ Ok n → read_of x ≡ skip (head_of s) → 8 ≤ length s
 head_there s h e = (sure_at (head_sure s) h e).2.least
 
+-- has a format that is read
+pub head_known : (s : List ℕ) {x : Read} {n : ℕ} → x ≡ Ok n → read_of x ≡ skip (head_of s) → known (format s) ≡ true
+head_known s h e = let k = (sure_at (head_sure s) h e).2 in rw k.format at k.known
+
 -- gives the format
-pub head_is : (s : List ℕ) {x : Read} {n f : ℕ} → x ≡ At n → x ≡ skip (head_of s) → f ≡ format s → head_of s ≡ ok f n
+pub head_is : (s : List ℕ) {x : Read} {n f : ℕ} → x ≡ Ok n → read_of x ≡ skip (head_of s) → f ≡ format s → head_of s ≡ ok f n
 head_is s {n = n} h e q =
     let (a, p, k) = sure_at (head_sure s) h e in
     p ∙ ap (λ v. ok v n) (k.format ∙ sym q)
@@ -76,19 +81,19 @@ unfolding tables_of segments_at ids_at
 tables_sure s = sure_need _ _ (λ a. sure_ok (let h = leb-true (8 + 4 * entry_count s + 4 * id_count s) (length s) a in (omega arith, h)))
 
 module _ (s : List ℕ) {n m : ℕ} (a : n ≡ entry_count s) (b : m ≡ id_count s) where
-  pub tables_short : length s < 8 + 4 * n + 4 * m → Refused 2 ≡ skip (tables_of s)
-  unfolding tables_of segments_at ids_at pick skip
+  pub tables_short : length s < 8 + 4 * n + 4 * m → read_of (Err ShortHead) ≡ skip (tables_of s)
+  unfolding tables_of segments_at ids_at pick skip read_of
   tables_short h = rw (← a, ← b, lt-leb (8 + 4 * n + 4 * m) (length s) h)
 
-  pub tables_there : 8 + 4 * n + 4 * m ≤ length s → At (8 + 4 * n + 4 * m) ≡ skip (tables_of s)
-  unfolding tables_of segments_at ids_at pick skip
+  pub tables_there : 8 + 4 * n + 4 * m ≤ length s → read_of (Ok (8 + 4 * n + 4 * m)) ≡ skip (tables_of s)
+  unfolding tables_of segments_at ids_at pick skip read_of
   tables_there h = rw (← a, ← b, le-leb (8 + 4 * n + 4 * m) (length s) h)
 
-pub tables_within : (s : List ℕ) {x : Read} {n : ℕ} → x ≡ At n → x ≡ skip (tables_of s) → (8 + 4 * entry_count s ≤ length s) × (n ≤ length s)
+pub tables_within : (s : List ℕ) {x : Read} {n : ℕ} → x ≡ Ok n → read_of x ≡ skip (tables_of s) → (8 + 4 * entry_count s ≤ length s) × (n ≤ length s)
 tables_within s h e = (sure_at (tables_sure s) h e).2
 
 -- the names after them end within the image
-pub names_within : (s : List ℕ) (c : ℕ) {x y : Read} {n m : ℕ} → x ≡ At n → x ≡ skip (tables_of s) → y ≡ At m → y ≡ skip (names_at 2 c s n)
+pub names_within : (s : List ℕ) (c : ℕ) {x y : Read} {n m : ℕ} → x ≡ Ok n → read_of x ≡ skip (tables_of s) → y ≡ Ok m → read_of y ≡ skip (names_at 2 c s n)
     → m ≤ length s
 names_within s c {n = n} h e h' e' = (sure_at (names_sure 2 c s n (tables_within s h e).1) h' e').2
 
@@ -177,11 +182,11 @@ entry_part s {o} {l} e f = ap₂ take (add-sub_cancel_left o l ∙ f) (ap (λ (k
 
 -- one entry: empty, or its body's answer
 module _ (f : ℕ) (s : List ℕ) (i : ℕ) {l : ℕ} (e : l ≡ entry_length s i) where
-  pub entry_empty : l ≡ 0 → At 0 ≡ skip (entry_of f s i)
-  unfolding entry_of pick skip
+  pub entry_empty : l ≡ 0 → read_of (Ok 0) ≡ skip (entry_of f s i)
+  unfolding entry_of pick skip read_of
   entry_empty z = rw (← e, z)
 
-  pub entry_body : {o : ℕ} {x : Read} → (l ≡ 0 → ⊥) → o ≡ entry_offset s i → x ≡ skip (body_of f (take (o + l - o) (drop o s)))
+  pub entry_body : {o : ℕ} {x : Parsed ⊤} → (l ≡ 0 → ⊥) → o ≡ entry_offset s i → x ≡ skip (body_of f (take (o + l - o) (drop o s)))
       → x ≡ skip (entry_of f s i)
   unfolding entry_of pick
   entry_body g d q =
@@ -189,19 +194,19 @@ module _ (f : ℕ) (s : List ℕ) (i : ℕ) {l : ℕ} (e : l ≡ entry_length s 
 
 -- the entries from the i-th of n on
 module _ (f n : ℕ) (s : List ℕ) (i : ℕ) where
-  pub entries_done : n ≤ i → At (length s) ≡ skip (entries_of f (n - i) s i)
-  unfolding entries_of skip
+  pub entries_done : n ≤ i → read_of (Ok (length s)) ≡ skip (entries_of f (n - i) s i)
+  unfolding entries_of skip read_of
   entries_done h =
       let z : n - i ≡ 0 = omega arith in
       rw z
 
-  pub entries_stop : {x : Read} {k : ℕ} → i < n → x ≡ Refused k → x ≡ skip (entry_of f s i) → x ≡ skip (entries_of f (n - i) s i)
+  pub entries_stop : {x : Read} {k : Refusal} → i < n → x ≡ Err k → read_of x ≡ skip (entry_of f s i) → read_of x ≡ skip (entries_of f (n - i) s i)
   unfolding entries_of
   entries_stop p h e =
       let z : n - i ≡ suc (n - (i + 1)) = omega arith in
       rw z (stop (entry_of f s i) _ h e)
 
-  pub entries_more : {x : Read} {m : ℕ} → i < n → x ≡ At m → x ≡ skip (entry_of f s i)
+  pub entries_more : {x : Read} {m : ℕ} → i < n → x ≡ Ok m → read_of x ≡ skip (entry_of f s i)
       → skip (entries_of f (n - (i + 1)) s (i + 1)) ≡ skip (entries_of f (n - i) s i)
   unfolding entries_of
   entries_more p h e =
@@ -213,35 +218,40 @@ entries_start f n s =
     let z : n - 0 ≡ n = omega arith in
     rw z
 
+-- bodies that do not lie as the contents say
+gap : (A : Type 0) → read_of (Err Contents) ≡ skip {A = A} (no 5)
+unfolding read_of skip
+gap A = refl
+
 -- a whole image: the first part refused, or the one after those that were read, or the entries' answer
 module _ (s : List ℕ) where
-  pub image_head : {x : Read} {k : ℕ} → x ≡ Refused k → x ≡ skip (head_of s) → x ≡ skip (read_image s)
+  pub image_head : {x : Read} {k : Refusal} → x ≡ Err k → read_of x ≡ skip (head_of s) → read_of x ≡ skip (read_image s)
   unfolding read_image
   image_head h e = stop _ _ h e
 
-  module _ {x₁ : Read} {n₁ : ℕ} (h₁ : x₁ ≡ At n₁) (e₁ : x₁ ≡ skip (head_of s)) where
-    pub image_tables : {x : Read} {k : ℕ} → x ≡ Refused k → x ≡ skip (tables_of s) → x ≡ skip (read_image s)
+  module _ {x₁ : Read} {n₁ : ℕ} (h₁ : x₁ ≡ Ok n₁) (e₁ : read_of x₁ ≡ skip (head_of s)) where
+    pub image_tables : {x : Read} {k : Refusal} → x ≡ Err k → read_of x ≡ skip (tables_of s) → read_of x ≡ skip (read_image s)
     unfolding read_image
     image_tables h e = next _ (got h₁ e₁) (λ _. stop _ _ h e)
 
-    module _ {x₂ : Read} {n₂ : ℕ} (h₂ : x₂ ≡ At n₂) (e₂ : x₂ ≡ skip (tables_of s)) {c : ℕ} (ec : c ≡ segment_count s) where
-      names_as : {x : Read} → x ≡ skip (names_at 2 c s n₂) → x ≡ skip (names_at 2 (segment_count s) s n₂)
+    module _ {x₂ : Read} {n₂ : ℕ} (h₂ : x₂ ≡ Ok n₂) (e₂ : read_of x₂ ≡ skip (tables_of s)) {c : ℕ} (ec : c ≡ segment_count s) where
+      names_as : {x : Parsed ⊤} → x ≡ skip (names_at 2 c s n₂) → x ≡ skip (names_at 2 (segment_count s) s n₂)
       names_as e = rw ec at e
 
-      pub image_names : {x : Read} {k : ℕ} → x ≡ Refused k → x ≡ skip (names_at 2 c s n₂) → x ≡ skip (read_image s)
+      pub image_names : {x : Read} {k : Refusal} → x ≡ Err k → read_of x ≡ skip (names_at 2 c s n₂) → read_of x ≡ skip (read_image s)
       unfolding read_image
       image_names h e = next _ (got h₁ e₁) (λ _. next _ (got h₂ e₂) (λ _. stop _ _ h (names_as e)))
 
-      module _ {x₃ : Read} {n₃ : ℕ} (h₃ : x₃ ≡ At n₃) (e₃ : x₃ ≡ skip (names_at 2 c s n₂)) {m : ℕ} (em : m ≡ entry_count s) where
-        pub image_gap : laid m s 0 n₃ ≡ false → Refused 5 ≡ skip (read_image s)
+      module _ {x₃ : Read} {n₃ : ℕ} (h₃ : x₃ ≡ Ok n₃) (e₃ : read_of x₃ ≡ skip (names_at 2 c s n₂)) {m : ℕ} (em : m ≡ entry_count s) where
+        pub image_gap : laid m s 0 n₃ ≡ false → read_of (Err Contents) ≡ skip (read_image s)
         unfolding read_image
         image_gap l =
             next _ (got h₁ e₁) (λ _.
             next _ (got h₂ e₂) (λ _.
             next _ (got h₃ (names_as e₃)) (λ _.
-            pick_false _ _ _ (rw em at l) (refused _ 5))))
+            pick_false _ _ _ (rw em at l) (gap _))))
 
-        pub image_entries : {r : Read} {f : ℕ} → f ≡ format s → laid m s 0 n₃ ≡ true → r ≡ skip (entries_of f m s 0) → r ≡ skip (read_image s)
+        pub image_entries : {r : Parsed ⊤} {f : ℕ} → f ≡ format s → laid m s 0 n₃ ≡ true → r ≡ skip (entries_of f m s 0) → r ≡ skip (read_image s)
         unfolding read_image
         image_entries ef l q =
             next_is _ (head_is s h₁ e₁ ef) (

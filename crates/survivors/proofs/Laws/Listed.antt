@@ -1,7 +1,7 @@
 -- The searches over the entries that may stand: a turn, the ways out. Assumes nothing.
 use mathlib.Core.Path.{◌≡◌, refl, sym, ap, ◌∙◌}
 use mathlib.Core.Bool.{Bool, true, false, cond, ◌&&◌}
-use mathlib.Core.Option.{Option, none, some}
+use Rattle.std.specs.Prelude.{Option, None, Some}
 use mathlib.Core.List.{List, [], ◌∷◌, ◌++◌, flat_map}
 use Prim.Native.Nat.{ℕ, suc, ◌+◌, ◌-◌, ◌≤◌, ◌<◌}
 use native.Mathlib.Numerals.{add-one}
@@ -10,19 +10,19 @@ use lib.Seq.{drop-cons}
 use Rattle.maps.specs.Lists.{every}
 use Rattle.maps.specs.Orders.{same, before}
 use Rattle.maps.specs.Keyed.{lookup}
-use Rattle.maps.specs.Walk.{is_some, latest, following, better, least, covers}
+use Rattle.std.specs.Option.{is_some}
+use Rattle.maps.specs.Walk.{latest, following, better, least, covers}
 use Rattle.maps.proofs.Names.{by_name}
 use Rattle.maps.proofs.Searches.{latest_start, latest_nothing, latest_skips, latest_other, latest_found, lookup_latest, least_cons, least_nil}
 use Rattle.maps.proofs.Walking.{following_least}
 use Rattle.image.specs.Schema.{Name, Decl}
 use Rattle.parts.specs.Promise.{schema_of, decl_in, entry_decl, EntryHere}
-use Rattle.parts.specs.declared.Entry.{Entry}
-use Rattle.parts.specs.declared.Entry.TheVariants.{Body, Unresolvable}
 use Rattle.rules.specs.Survivors.{resolved, name_of}
 use Rattle.rules.specs.Reached.{IdSet}
 use Rattle.rules.specs.Imports.{standing_with}
 use Rattle.survivors.specs.Answers.{Survives, nearer_decl, namesake_in, names_covered}
 use Rattle.survivors.specs.Candidates.{candidates, Candidate, present}
+use Rattle.survivors.proofs.Laws.Better.{some_map}
 use Rattle.survivors.proofs.Laws.Candidates.{present_candidates}
 use Rattle.survivors.proofs.Laws.Nearest.{decl_none, decl_body, entry_here}
 
@@ -36,8 +36,8 @@ present_flat [] = refl
 present_flat (o ∷ l) = go o (present_flat l)
   where
     go : (o : Option Decl) → present l ≡ flat_map shown l → resolved o (present l) ≡ resolved o [] ++ flat_map shown l
-    go none e = e
-    go (some d) e = rw e
+    go None e = e
+    go (Some d) e = rw e
 
 -- ---- from the end
 
@@ -57,29 +57,29 @@ module _ (s : List ℕ) (m : IdSet) (name : Name) where
       ∙ ap (latest name_of before name) (sym (present_flat (candidates s m)) ∙ present_candidates s m)
       ∙ sym (lookup_latest name_of by_name name _)
 
-  pub back_end : (i : ℕ) → i ≡ 0 → back i ≡ stands → Survives (standing_with m (schema_of s)) s name Unresolvable
-  unfolding back entry_decl EntryHere
+  pub back_end : (i : ℕ) → i ≡ 0 → back i ≡ stands → Survives (standing_with m (schema_of s)) s name None
+  unfolding back
   back_end i e p = record { value = sym (latest_nothing name_of before name shown (candidates s m) i e) ∙ p; here = tt }
 
   -- a turn, at the entry before the position
-  module _ (i : ℕ) (h : 0 < i) (b : i ≤ length (candidates s m)) {r : Entry} (v : Candidate s m (i - 1) r) where
-    pub back_skips : r ≡ Unresolvable → back (i - 1) ≡ back i
-    unfolding back shown resolved entry_decl
-    back_skips u = sym (latest_skips name_of before name shown (candidates s m) none i h b (rw (← v.value, u)))
+  module _ (i : ℕ) (h : 0 < i) (b : i ≤ length (candidates s m)) {r : Option ℕ} (v : Candidate s m (i - 1) r) where
+    pub back_skips : r ≡ None → back (i - 1) ≡ back i
+    unfolding back shown resolved
+    back_skips u = sym (latest_skips name_of before name shown (candidates s m) None i h b (rw (← v.value, u)))
 
-    module _ {at : ℕ} (u : r ≡ Body at) {own : Name} (w : own ≡ (decl_in s at).name) where
-      one : shown (get_or (candidates s m) (i - 1) none) ≡ decl_in s at ∷ []
-      unfolding shown resolved entry_decl
+    module _ {at : ℕ} (u : r ≡ Some at) {own : Name} (w : own ≡ (decl_in s at).name) where
+      one : shown (get_or (candidates s m) (i - 1) None) ≡ decl_in s at ∷ []
+      unfolding shown resolved
       one = rw (← v.value, u)
 
       pub back_other : same before name own ≡ false → back (i - 1) ≡ back i
       unfolding back
-      back_other n = sym (latest_other name_of before name shown (candidates s m) none i h b (decl_in s at) one (rw w at n))
+      back_other n = sym (latest_other name_of before name shown (candidates s m) None i h b (decl_in s at) one (rw w at n))
 
-      pub back_found : same before name own ≡ true → back i ≡ stands → Survives (standing_with m (schema_of s)) s name (Body at)
-      unfolding back entry_decl EntryHere
+      pub back_found : same before name own ≡ true → back i ≡ stands → Survives (standing_with m (schema_of s)) s name (Some at)
+      unfolding back
       back_found n p = record {
-        value = sym (latest_found name_of before name shown (candidates s m) none i h b (decl_in s at) one (rw w at n)) ∙ p;
+        value = sym (latest_found name_of before name shown (candidates s m) None i h b (decl_in s at) one (rw w at n)) ∙ p;
         here = entry_here s u v.here;
       }
 
@@ -90,9 +90,9 @@ module _ (s : List ℕ) (m : IdSet) (b : Option Name) where
   unfoldable pub ahead : Option Decl → ℕ → Option Decl
   ahead best i = least name_of before b best (present (drop i (candidates s m)))
 
-  pub ahead_start : ahead none 0 ≡ following name_of before b (standing_with m (schema_of s))
+  pub ahead_start : ahead None 0 ≡ following name_of before b (standing_with m (schema_of s))
   unfolding ahead standing_with
-  ahead_start = ap (least name_of before b none) (present_candidates s m) ∙ sym (following_least name_of by_name b _)
+  ahead_start = ap (least name_of before b None) (present_candidates s m) ∙ sym (following_least name_of by_name b _)
 
   pub ahead_end : (best : Option Decl) (i : ℕ) {o : Option Decl} → length (candidates s m) ≤ i → ahead best i ≡ o → best ≡ o
   unfolding ahead present
@@ -105,22 +105,22 @@ module _ (s : List ℕ) (m : IdSet) (b : Option Name) where
   least_resolved : (best o : Option Decl) (ds : List Decl)
       → least name_of before b best (resolved o ds) ≡ least name_of before b (after best o) ds
   unfolding resolved nearer_decl better
-  least_resolved best none ds = refl
-  least_resolved best (some d) ds = least_cons name_of before b best d ds
+  least_resolved best None ds = refl
+  least_resolved best (Some d) ds = least_cons name_of before b best d ds
 
   -- a turn, at the entry r of the position; t: it takes the place of the best
-  module _ (best : Entry) (i : ℕ) {o : Option Decl} (h : i < length (candidates s m))
-      {r : Entry} (v : Candidate s m i r) {t : Bool} (q : t ≡ nearer_decl b (entry_decl s best) (entry_decl s r)) (p : ahead (entry_decl s best) i ≡ o) where
+  module _ (best : Option ℕ) (i : ℕ) {o : Option Decl} (h : i < length (candidates s m))
+      {r : Option ℕ} (v : Candidate s m i r) {t : Bool} (q : t ≡ nearer_decl b (entry_decl s best) (entry_decl s r)) (p : ahead (entry_decl s best) i ≡ o) where
     turn : ahead (cond t (entry_decl s r) (entry_decl s best)) (i + 1) ≡ o
     unfolding ahead present
     turn =
         rw (add-one, q)
-        (sym (rw (drop-cons (candidates s m) i none h, ← v.value) (least_resolved (entry_decl s best) (entry_decl s r) (present (drop (suc i) (candidates s m))))) ∙ p)
+        (sym (rw (drop-cons (candidates s m) i None h, ← v.value) (least_resolved (entry_decl s best) (entry_decl s r) (present (drop (suc i) (candidates s m))))) ∙ p)
 
-    pub ahead_taken : t ≡ true → {best' : Entry} → best' ≡ r → EntryHere s best' × (ahead (entry_decl s best') (i + 1) ≡ o)
+    pub ahead_taken : t ≡ true → {best' : Option ℕ} → best' ≡ r → EntryHere s best' × (ahead (entry_decl s best') (i + 1) ≡ o)
     ahead_taken w f = rw f (v.here, rw w at turn)
 
-    pub ahead_left : t ≡ false → EntryHere s best → {best' : Entry} → best' ≡ best → EntryHere s best' × (ahead (entry_decl s best') (i + 1) ≡ o)
+    pub ahead_left : t ≡ false → EntryHere s best → {best' : Option ℕ} → best' ≡ best → EntryHere s best' × (ahead (entry_decl s best') (i + 1) ≡ o)
     ahead_left w g f = rw f (g, rw w at turn)
 
 -- ---- whether n has each name, from the front
@@ -139,16 +139,16 @@ module _ (n : List Decl) (s : List ℕ) (m : IdSet) where
 
   covers_resolved : (o : Option Decl) (ds : List Decl) → covers name_of before n (resolved o ds) ≡ (namesake_in n o && covers name_of before n ds)
   unfolding covers every resolved namesake_in
-  covers_resolved none ds = refl
-  covers_resolved (some d) ds = refl
+  covers_resolved None ds = refl
+  covers_resolved (Some d) ds = refl
 
-  module _ (i : ℕ) {x : Bool} (p : named_from i ≡ x) (h : i < length (candidates s m)) {r : Entry} (v : Candidate s m i r)
+  module _ (i : ℕ) {x : Bool} (p : named_from i ≡ x) (h : i < length (candidates s m)) {r : Option ℕ} (v : Candidate s m i r)
       {t : Bool} (q : t ≡ namesake_in n (entry_decl s r)) where
     step : (t && named_from (i + 1)) ≡ x
     unfolding named_from present
     step =
         rw (add-one, q)
-        (sym (rw (drop-cons (candidates s m) i none h, ← v.value) (covers_resolved (entry_decl s r) (present (drop (suc i) (candidates s m))))) ∙ p)
+        (sym (rw (drop-cons (candidates s m) i None h, ← v.value) (covers_resolved (entry_decl s r) (present (drop (suc i) (candidates s m))))) ∙ p)
 
     pub named_not : t ≡ false → false ≡ x
     named_not w = rw w at step
@@ -157,19 +157,12 @@ module _ (n : List Decl) (s : List ℕ) (m : IdSet) where
     named_turn w = rw w at step
 
 -- of one entry, by what stands under its name
-module _ (n : List Decl) (s : List ℕ) {at : Entry} where
-  pub namesake_skips : at ≡ Unresolvable → true ≡ namesake_in n (entry_decl s at)
+module _ (n : List Decl) (s : List ℕ) {at : Option ℕ} where
+  pub namesake_skips : at ≡ None → true ≡ namesake_in n (entry_decl s at)
   unfolding namesake_in
   namesake_skips e = rw (decl_none s e)
 
-  module _ {body : ℕ} (e : at ≡ Body body) {own : Name} (w : own ≡ (decl_in s body).name) (o : List ℕ) {r : Entry} (h : Survives n o own r) where
-    namesake : lookup name_of before (decl_in s body).name n ≡ entry_decl o r
-    namesake = rw (← w) (sym h.value)
-
-    pub namesake_found : {j : ℕ} → r ≡ Body j → true ≡ namesake_in n (entry_decl s at)
-    unfolding namesake_in is_some
-    namesake_found f = rw (decl_body s e, namesake, decl_body o f)
-
-    pub namesake_none : r ≡ Unresolvable → false ≡ namesake_in n (entry_decl s at)
-    unfolding namesake_in is_some
-    namesake_none f = rw (decl_body s e, namesake, decl_none o f)
+  module _ {body : ℕ} (e : at ≡ Some body) {own : Name} (w : own ≡ (decl_in s body).name) (o : List ℕ) {r : Option ℕ} (h : Survives n o own r) where
+    pub namesake_found : is_some r ≡ namesake_in n (entry_decl s at)
+    unfolding namesake_in
+    namesake_found = rw (e, ← w, ← h.value) (some_map (decl_in o) r)

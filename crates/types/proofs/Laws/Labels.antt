@@ -1,17 +1,20 @@
 -- Two labels, each with the names of its own registry: equal if what their tag has is equal. Assumes nothing.
 use mathlib.Core.Path.{◌≡◌, refl, sym, ap, ◌∙◌}
 use mathlib.Core.Bool.{Bool, true, false, ◌&&◌, and-true}
-use mathlib.Core.Logic.{◌⊎◌, inl, inr}
 use mathlib.Core.List.{List, [], ◌∷◌}
-use Prim.Native.Nat.{ℕ, ◌≤◌, ◌<◌}
+use Prim.Native.Nat.{ℕ, ◌<◌}
 use native.Mathlib.Omega.{arith}
 use borrow.Author.Tests.{eqb-true, eq-eqb, ne_eqb}
 use lib.Dec.{eqb}
+use lib.Pointwise.{pointwise}
+use Rattle.std.specs.Prelude.{Option, None, Some}
 use Rattle.image.specs.Schema.{Name, Label, label}
+use Rattle.image.specs.declared.tags.Tag.{Tag}
+use Rattle.image.specs.declared.tags.Tag.TheVariants as tag
 use Rattle.maps.proofs.Tests.{both}
 use Rattle.parts.specs.Promise.{LabelHere, label_in, Regular, bits_in, decl_in, Resolved}
 use Rattle.parts.proofs.Promise.{label_regular, bits_listed, resolved_body, resolved_none}
-use Rattle.parts.specs.declared.Entry.{Entry}
+use Rattle.parts.specs.Numbers.{tag_number}
 use Rattle.parts.specs.declared.Run.{Run}
 use Rattle.rules.specs.Equal.{same_list, same_name, same_names}
 use Rattle.rules.specs.Survivors.{Registry, stands_for}
@@ -19,6 +22,8 @@ use Rattle.rules.specs.Types.{name_or_none, resolve_label, same_label}
 use Rattle.rules.proofs.Types.{tag_resolved}
 use Rattle.types.specs.Names.{NamesIn, names_in}
 use Rattle.types.specs.Resolved.{named_by, node_in}
+use Rattle.types.proofs.Laws.Names.{bytes}
+use Rattle.types.proofs.Laws.Tags.{same_tag, past_codes}
 
 -- ---- with the name in the place of the id
 
@@ -31,31 +36,37 @@ unfolding resolve_label
 named R l e = rw (eq-eqb l.tag 3 e)
 
 -- what an id stands for, by the answer of `entry`
-module _ (s : List ℕ) (id : ℕ) {r : Entry} (h : Resolved s id r) where
-  pub id_unresolvable : r ≡ Entry.Unresolvable → named_by s id ≡ []
+module _ (s : List ℕ) (id : ℕ) {r : Option ℕ} (h : Resolved s id r) where
+  pub unresolvable : r ≡ None → named_by s id ≡ []
   unfolding stands_for name_or_none
-  id_unresolvable e = ap name_or_none (resolved_none s id h e)
+  unresolvable e = ap name_or_none (resolved_none s id h e)
 
-  pub id_name : {at : ℕ} → r ≡ Entry.Body at → {x : Name} → x ≡ (decl_in s at).name → named_by s id ≡ x ∷ []
+  pub resolvable : {at : ℕ} → r ≡ Some at → named_by s id ≡ (decl_in s at).name ∷ []
   unfolding stands_for name_or_none
-  id_name e n = ap name_or_none (resolved_body s id h e) ∙ rw n
+  resolvable e = ap name_or_none (resolved_body s id h e)
 
--- one name and none
-pub one_name : {a b : List Name} {x y : Name} → a ≡ x ∷ [] → b ≡ y ∷ [] → same_name x y ≡ same_names a b
-unfolding same_names same_list
-one_name {x = x} {y = y} e f = rw (e, f) (sym (and-true (same_name x y)))
+-- and two ids, each in its own registry
+module _ (s : List ℕ) (old : ℕ) {x : Option ℕ} (g : Resolved s old x) (t : List ℕ) (new : ℕ) {y : Option ℕ} (h : Resolved t new y) where
+  pub both_names : {i j : ℕ} → x ≡ Some i → y ≡ Some j → {n m : Name} → n ≡ (decl_in s i).name → m ≡ (decl_in t j).name
+      → pointwise eqb n m ≡ same_names (named_by s old) (named_by t new)
+  unfolding same_names same_list
+  both_names {i} {j} e f {n} {m} p q =
+      rw (resolvable s old g e, resolvable t new h f, and-true (same_name (decl_in s i).name (decl_in t j).name), ← p, ← q) (bytes n m)
 
-pub no_names : {a b : List Name} → a ≡ [] → b ≡ [] → true ≡ same_names a b
-unfolding same_names same_list
-no_names e f = rw (e, f)
+  pub no_names : x ≡ None → y ≡ None → true ≡ same_names (named_by s old) (named_by t new)
+  unfolding same_names same_list
+  no_names e f = rw (unresolvable s old g e, unresolvable t new h f)
 
-pub new_name : {a b : List Name} {y : Name} → a ≡ [] → b ≡ y ∷ [] → false ≡ same_names a b
-unfolding same_names same_list
-new_name e f = rw (e, f)
+  pub old_name : {i : ℕ} → x ≡ Some i → y ≡ None → false ≡ same_names (named_by s old) (named_by t new)
+  unfolding same_names same_list
+  old_name e f = rw (resolvable s old g e, unresolvable t new h f)
 
-pub old_name : {a b : List Name} {x : Name} → a ≡ x ∷ [] → b ≡ [] → false ≡ same_names a b
-unfolding same_names same_list
-old_name e f = rw (e, f)
+  pub new_name : {j : ℕ} → x ≡ None → y ≡ Some j → false ≡ same_names (named_by s old) (named_by t new)
+  unfolding same_names same_list
+  new_name e f = rw (unresolvable s old g e, resolvable t new h f)
+
+-- what the code needs of them
+pub ruleset ids = (both_names, no_names, old_name, new_name)
 
 -- ---- two labels
 
@@ -112,55 +123,72 @@ module _ (l m : Label) (D : Regular l) (E : Regular m) (t : l.tag ≡ m.tag) whe
         E.names (λ e. k (t ∙ e)),
       )
 
--- the tags that have a code, and those after them
-pub code_tag : {x : ℕ} → (x ≡ 0) ⊎ (x ≡ 2) → (x ≤ 2) × (x ≡ 1 → ⊥)
-code_tag (inl e) = (omega arith, λ z. absurd (omega arith))
-code_tag (inr e) = (omega arith, λ z. absurd (omega arith))
-
-pub past_codes : {x : ℕ} → ((x ≡ 0) ⊎ (x ≡ 2) → ⊥) → (x ≡ 1 → ⊥) → (x ≡ 3 → ⊥) → 3 < x
-past_codes {x} c a b =
-    let u : x ≡ 0 → ⊥ = λ e. c (inl e) in
-    let v : x ≡ 2 → ⊥ = λ e. c (inr e) in
-    omega arith
-
 -- ---- two nodes at their places: x and y are their tags
 
-module _ (s : List ℕ) (i : ℕ) (t : List ℕ) (j : ℕ) {x y : ℕ} (p : x ≡ (label_in s i).tag) (q : y ≡ (label_in t j).tag) where
+module _ (s : List ℕ) (i : ℕ) (t : List ℕ) (j : ℕ) (x y : Tag) (p : tag_number x ≡ (label_in s i).tag) (q : tag_number y ≡ (label_in t j).tag) where
   pub tags_differ : (x ≡ y → ⊥) → false ≡ same_label (node_in s i) (node_in t j)
-  tags_differ d = sym (unequal (node_in s i) (node_in t j) (λ e. d (p ∙ sym (tag_resolved _ (label_in s i)) ∙ e ∙ tag_resolved _ (label_in t j) ∙ sym q)))
+  tags_differ d =
+      sym (unequal (node_in s i) (node_in t j) (λ e. d (same_tag x y (p ∙ sym (tag_resolved _ (label_in s i)) ∙ e ∙ tag_resolved _ (label_in t j) ∙ sym q))))
 
   module _ (e : x ≡ y) where
     tags : (label_in s i).tag ≡ (label_in t j).tag
-    tags = sym p ∙ e ∙ q
+    tags = sym p ∙ ap tag_number e ∙ q
 
-    pub by_name : x ≡ 3 → {u v : ℕ} → u ≡ (label_in s i).first → v ≡ (label_in t j).first → {r : Bool} → r ≡ same_names (named_by s u) (named_by t v) → r ≡ same_label (node_in s i) (node_in t j)
+    -- both have the tag z
+    first_is : {z : Tag} → x ≡ z → (label_in s i).tag ≡ tag_number z
+    first_is k = sym p ∙ ap tag_number k
+
+    pub by_name : x ≡ tag.Named → {u v : ℕ} → u ≡ (label_in s i).first → v ≡ (label_in t j).first → {r : Bool} → r ≡ same_names (named_by s u) (named_by t v)
+        → r ≡ same_label (node_in s i) (node_in t j)
     by_name h k m c =
-        rw (named _ (label_in s i) (sym p ∙ h), named _ (label_in t j) (sym q ∙ sym e ∙ h))
+        rw (named _ (label_in s i) (first_is h), named _ (label_in t j) (sym tags ∙ first_is h))
         (c ∙ rw (k, m) (sym (parts (label 3 0 0 (named_by s (label_in s i).first)) (label 3 0 0 (named_by t (label_in t j).first)) refl)))
 
     module _ (g : LabelHere s i) (h : LabelHere t j) where
       -- neither has an id
-      module _ (n : x ≡ 3 → ⊥) where
-        as_they_are : same_label (node_in s i) (node_in t j) ≡ same_label (label_in s i) (label_in t j)
-        as_they_are = rw (not_named _ (label_in s i) (λ z. n (p ∙ z)), not_named _ (label_in t j) (λ z. n (e ∙ q ∙ z)))
+      as_they_are : ((label_in s i).tag ≡ 3 → ⊥) → same_label (node_in s i) (node_in t j) ≡ same_label (label_in s i) (label_in t j)
+      as_they_are n = rw (not_named _ (label_in s i) n, not_named _ (label_in t j) (λ z. n (tags ∙ z)))
 
-        pub by_first : x < 10 → (x ≡ 1 → ⊥) → {u v : ℕ} → u ≡ (label_in s i).first → v ≡ (label_in t j).first → eqb u v ≡ same_label (node_in s i) (node_in t j)
-        by_first l m k f = rw (k, f) (sym (as_they_are ∙ first_only _ _ (label_regular s i g) (label_regular t j h) tags (omega arith) (λ z. m (p ∙ z))))
+      -- what only the first number tells apart
+      by_first : (label_in s i).tag < 10 → ((label_in s i).tag ≡ 1 → ⊥) → ((label_in s i).tag ≡ 3 → ⊥) → {u v : ℕ} → u ≡ (label_in s i).first → v ≡ (label_in t j).first
+          → eqb u v ≡ same_label (node_in s i) (node_in t j)
+      by_first l m n k f = rw (k, f) (sym (as_they_are n ∙ first_only _ _ (label_regular s i g) (label_regular t j h) tags l m))
 
-        pub by_numbers : x ≡ 1 → {r : Bool} → r ≡ (eqb (label_in s i).first (label_in t j).first && eqb (label_in s i).second (label_in t j).second) → r ≡ same_label (node_in s i) (node_in t j)
-        by_numbers l c = c ∙ sym (as_they_are ∙ both_numbers _ _ (label_regular s i g) (label_regular t j h) tags (sym p ∙ l))
+      pub by_primitive : x ≡ tag.Primitive → {u v : ℕ} → u ≡ (label_in s i).first → v ≡ (label_in t j).first → eqb u v ≡ same_label (node_in s i) (node_in t j)
+      by_primitive k = let w = first_is k in by_first (omega arith) (λ z. absurd (omega arith)) (λ z. absurd (omega arith))
 
-        pub by_names : x ≡ 16 → {a b : Run} → a ≡ bits_in s i → b ≡ bits_in t j → {r : Bool} → r ≡ same_names (names_in s a) (names_in t b) → r ≡ same_label (node_in s i) (node_in t j)
-        unfolding names_in
-        by_names l k m c =
-            c
-            ∙ rw (k, m, ← (bits_listed s i g (sym p ∙ l)).are, ← (bits_listed t j h (sym q ∙ sym e ∙ l)).are)
-            (sym (as_they_are ∙ names_only _ _ (label_regular s i g) (label_regular t j h) tags (sym p ∙ l)))
+      pub by_semantic : x ≡ tag.Semantic → {u v : ℕ} → u ≡ (label_in s i).first → v ≡ (label_in t j).first → eqb u v ≡ same_label (node_in s i) (node_in t j)
+      by_semantic k = let w = first_is k in by_first (omega arith) (λ z. absurd (omega arith)) (λ z. absurd (omega arith))
 
-        pub by_tag : 3 < x → (x ≡ 6 → ⊥) → (x ≡ 16 → ⊥) → true ≡ same_label (node_in s i) (node_in t j)
-        by_tag l m k = sym (as_they_are ∙ nothing_more _ _ (label_regular s i g) (label_regular t j h) tags (omega arith) (λ z. m (p ∙ z)) (λ z. k (p ∙ z)))
+      pub by_size : x ≡ tag.FixedArray → {u v : ℕ} → u ≡ (label_in s i).first → v ≡ (label_in t j).first → eqb u v ≡ same_label (node_in s i) (node_in t j)
+      by_size k = let w = first_is k in by_first (omega arith) (λ z. absurd (omega arith)) (λ z. absurd (omega arith))
+
+      pub by_numbers : x ≡ tag.SubByte → {r : Bool} → r ≡ (eqb (label_in s i).first (label_in t j).first && eqb (label_in s i).second (label_in t j).second)
+          → r ≡ same_label (node_in s i) (node_in t j)
+      by_numbers k c =
+          let w = first_is k in
+          c ∙ sym (as_they_are (λ z. absurd (omega arith)) ∙ both_numbers _ _ (label_regular s i g) (label_regular t j h) tags w)
+
+      pub by_names : x ≡ tag.Bits → {a b : Run} → a ≡ bits_in s i → b ≡ bits_in t j → {r : Bool} → r ≡ same_names (names_in s a) (names_in t b)
+          → r ≡ same_label (node_in s i) (node_in t j)
+      unfolding names_in
+      by_names k f m c =
+          let w = first_is k in
+          c
+          ∙ rw (f, m, ← (bits_listed s i g w).are, ← (bits_listed t j h (sym tags ∙ w)).are)
+          (sym (as_they_are (λ z. absurd (omega arith)) ∙ names_only _ _ (label_regular s i g) (label_regular t j h) tags w))
+
+      pub by_tag : (x ≡ tag.Primitive → ⊥) → (x ≡ tag.SubByte → ⊥) → (x ≡ tag.Semantic → ⊥) → (x ≡ tag.Named → ⊥) → (x ≡ tag.FixedArray → ⊥) → (x ≡ tag.Bits → ⊥)
+          → true ≡ same_label (node_in s i) (node_in t j)
+      by_tag a b c d f k =
+          let l = past_codes x a b c d in
+          sym (as_they_are (λ z. absurd (omega arith))
+          ∙ nothing_more _ _ (label_regular s i g) (label_regular t j h) tags (omega arith) (λ z. f (same_tag x tag.FixedArray (p ∙ z))) (λ z. k (same_tag x tag.Bits (p ∙ z))))
 
 -- the names of bits stand in their run
 pub bits_in_lem : (s : List ℕ) (at : ℕ) → LabelHere s at → (label_in s at).tag ≡ 16 → {r : Run} → r ≡ bits_in s at → NamesIn s r
 unfolding NamesIn
 bits_in_lem s at g t e = rw e (λ _. (bits_listed s at g t).here)
+
+-- what the code needs
+pub ruleset labels = (by_name, by_primitive, by_semantic, by_size, by_numbers, by_names, by_tag, bits_in_lem)

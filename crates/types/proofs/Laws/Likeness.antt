@@ -1,10 +1,12 @@
 -- The three answers: of parts together, and of two trees by their labels and their inner types. Assumes nothing.
-use mathlib.Core.Path.{◌≡◌, refl, sym, ap, ◌∙◌}
-use mathlib.Core.Bool.{Bool, true, false, ◌&&◌, ◌||◌, false≢true}
+use mathlib.Core.Path.{◌≡◌, refl, ap, ◌∙◌}
+use mathlib.Core.Bool.{Bool, true, false, ◌&&◌, ◌||◌}
 use Rattle.image.specs.Schema.{Label, Ty, leaf, one, two}
 use Rattle.rules.specs.Types.{vector, same_label, same_tree, holds_vector}
-use Rattle.rules.specs.Mended.{Likeness, equal, alike, different, equal_trees, likeness_by, likeness, read_as}
-use Rattle.types.specs.Likeness.{joint}
+use Rattle.rules.specs.Mended.{Likeness, equal, alike, different, equal_trees, likeness_by, likeness}
+use Rattle.types.specs.Likeness.{likeness_of, joint}
+use Rattle.types.specs.declared.likeness.Likeness.{Likeness as Answer}
+use Rattle.types.specs.declared.likeness.Likeness.TheVariants.{Equal, Alike, Different}
 
 -- ---- parts together
 
@@ -14,16 +16,16 @@ joint_different equal = refl
 joint_different alike = refl
 joint_different different = refl
 
--- what goes on is not different
-pub goes_on : {a : Likeness} → read_as true a ≡ true → a ≡ different → ⊥
-unfolding read_as
-goes_on r e = false≢true (sym (ap (read_as true) e) ∙ r)
+-- the code's word for it
+pub is_different : {l : Answer} → l ≡ Different → likeness_of l ≡ different
+unfolding likeness_of
+is_different e = rw e
 
-pub ends_there : (a : Likeness) → read_as true a ≡ false → a ≡ different
-unfolding read_as
-ends_there equal r = absurd (false≢true (sym r))
-ends_there alike r = absurd (false≢true (sym r))
-ends_there different r = refl
+pub goes_on : (l : Answer) → (l ≡ Different → ⊥) → likeness_of l ≡ different → ⊥
+unfolding likeness_of
+goes_on Equal n e = let z : ⊥ = cc in z
+goes_on Alike n e = let z : ⊥ = cc in z
+goes_on Different n e = n refl
 
 joint_assoc : (a b c : Likeness) → joint a (joint b c) ≡ joint (joint a b) c
 unfolding joint

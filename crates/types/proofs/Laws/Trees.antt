@@ -9,7 +9,7 @@ use Rattle.parts.specs.Promise.{schema_of, label_in, label_end, TypeHere, tree_i
 use Rattle.parts.proofs.Promise.{node_leaf, node_one, node_two}
 use Rattle.rules.specs.Survivors.{Registry}
 use Rattle.rules.specs.Types.{resolve_label, resolve, vector, same_label, same_tree}
-use Rattle.rules.specs.Mended.{different, equal_trees, likeness_by, likeness, read_as}
+use Rattle.rules.specs.Mended.{different, equal_trees, likeness_by, likeness}
 use Rattle.rules.proofs.Types.{tag_resolved}
 use Rattle.types.specs.Nodes.{Leaf, One, Two, Node, Inner}
 use Rattle.types.specs.Resolved.{node_in, type_in}
@@ -18,7 +18,7 @@ use Rattle.types.specs.declared.equal.Compared.{Compared}
 use Rattle.types.specs.declared.likeness.Likeness.{Likeness}
 use Rattle.types.specs.declared.likeness.Likeness.TheVariants.{Different}
 use Rattle.types.proofs.Laws.Labels.{same_tags}
-use Rattle.types.proofs.Laws.Likeness.{label_likeness, joint_different, goes_on, ends_there, leaf_likeness, one_likeness, two_likeness}
+use Rattle.types.proofs.Laws.Likeness.{label_likeness, joint_different, is_different, goes_on, leaf_likeness, one_likeness, two_likeness}
 
 -- the node of a type whose tag is known
 pub node : {tag inner : ℕ} → Inner tag inner → {left : ℕ} {s : List ℕ} {at : ℕ} → TypeHere left s at → (label_in s at).tag ≡ tag → Node left s at inner
@@ -99,28 +99,27 @@ module _ (s : List ℕ) (i : ℕ) (t : List ℕ) (j : ℕ) {r : Bool} (e : r ≡
           ends = λ d. ((first_ends d).0 ∙ sym a.end, (first_ends d).1 ∙ sym b.end);
         }
 
-        -- u is whether it goes on
-        module _ {u : Bool} (h : u ≡ read_as true (likeness_of o'.likeness)) where
-          pub first_differs : Two s i → Two t j → u ≡ false → ComparedAt s i t j o'
-          unfolding resolve joint
-          first_differs a b z =
-              let d : likeness_of o'.likeness ≡ different = ends_there _ (sym h ∙ z) in
-              record { answer = rw (a.tree, b.tree) (d ∙ sym (two_likeness _ _ _ _ _ _ ∙ rw (← first_likeness, d))); ends = λ v. absurd (v d) }
+        pub first_differs : Two s i → Two t j → o'.likeness ≡ Different → ComparedAt s i t j o'
+        unfolding resolve joint
+        first_differs a b z =
+            let d = is_different z in
+            record { answer = rw (a.tree, b.tree) (d ∙ sym (two_likeness _ _ _ _ _ _ ∙ rw (← first_likeness, d))); ends = λ v. absurd (v d) }
 
-          module _ (z : u ≡ true) where
-            pub second_places : (o'.old_end ≡ type_end s (label_end s i)) × (o'.new_end ≡ type_end t (label_end t j))
-            second_places = first_ends (goes_on (sym h ∙ z))
+        -- it goes on
+        module _ (z : o'.likeness ≡ Different → ⊥) where
+          pub second_places : (o'.old_end ≡ type_end s (label_end s i)) × (o'.new_end ≡ type_end t (label_end t j))
+          second_places = first_ends (goes_on _ z)
 
-            -- and the second ones
-            pub twos : Two s i → Two t j → {o₂ r₂ : Compared} → ComparedAt s o'.old_end t o'.new_end o₂
-                → After (likeness_of o'.likeness) o₂ r₂ → ComparedAt s i t j r₂
-            unfolding resolve
-            twos a b {o₂} {r₂} c₂ w₂ =
-                let v = second_places in
-                let c₃ = (rw (v.0, v.1) at c₂) in
-                record {
-                  answer = rw (a.tree, b.tree) (w₂.likeness ∙ (rw (first_likeness, c₃.answer) (sym (two_likeness _ _ _ _ _ _))));
-                  ends = λ d.
-                      let x₂ = c₃.ends (λ y₂. d (w₂.likeness ∙ ap (joint (likeness_of o'.likeness)) y₂ ∙ joint_different (likeness_of o'.likeness))) in
-                      (w₂.old_end ∙ x₂.0 ∙ sym a.end, w₂.new_end ∙ x₂.1 ∙ sym b.end);
-                }
+          -- and the second ones
+          pub twos : Two s i → Two t j → {o₂ r₂ : Compared} → ComparedAt s o'.old_end t o'.new_end o₂
+              → After (likeness_of o'.likeness) o₂ r₂ → ComparedAt s i t j r₂
+          unfolding resolve
+          twos a b {o₂} {r₂} c₂ w₂ =
+              let v = second_places in
+              let c₃ = (rw (v.0, v.1) at c₂) in
+              record {
+                answer = rw (a.tree, b.tree) (w₂.likeness ∙ (rw (first_likeness, c₃.answer) (sym (two_likeness _ _ _ _ _ _))));
+                ends = λ d.
+                    let x₂ = c₃.ends (λ y₂. d (w₂.likeness ∙ ap (joint (likeness_of o'.likeness)) y₂ ∙ joint_different (likeness_of o'.likeness))) in
+                    (w₂.old_end ∙ x₂.0 ∙ sym a.end, w₂.new_end ∙ x₂.1 ∙ sym b.end);
+              }

@@ -7,13 +7,14 @@ pub returns-in_default : goal.returns-in_default
 returns-in_default c = entry_none _ _ _ _ c.in_default.is
 
 pub decl_kind-requires : goal.decl_kind-requires
-decl_kind-requires c = entry_here _ c.in-Body.is c.requires.1
-
-pub returns-then-decl_kind-ne-ALIAS : goal.returns-then-decl_kind-ne-ALIAS
-returns-then-decl_kind-ne-ALIAS c = entry_other _ _ _ _ c.in-Body.is c.decl_kind.ensures c.if-decl_kind-ne-ALIAS.true
+decl_kind-requires c = entry_here _ c.in-Some.is c.requires.1
 
 pub aliases_at-requires : goal.aliases_at-requires
-aliases_at-requires c = (c.requires.0, entry_here _ c.in-Body.is c.requires.1)
+aliases_at-requires c = (c.requires.0, entry_here _ c.in-Some.is c.requires.1)
 
-pub returns : goal.returns
-returns c = entry_alias _ _ _ _ c.in-Body.is c.decl_kind.ensures c.if-decl_kind-ne-ALIAS.false c.aliases_at.ensures
+pub returns-else-is_alias_kind : goal.returns-else-is_alias_kind
+returns-else-is_alias_kind c = entry_other _ _ _ _ c.in-Some.is c.decl_kind.ensures c.is_alias_kind.ensures c.if-is_alias_kind.false
+
+pub returns-then-is_alias_kind : goal.returns-then-is_alias_kind
+returns-then-is_alias_kind c =
+    entry_alias _ _ _ _ c.in-Some.is c.decl_kind.ensures c.is_alias_kind.ensures c.if-is_alias_kind.true c.aliases_at.ensures

@@ -1,4 +1,5 @@
 -- `checking::aliases::is_alias` meets its contract. Assumes nothing.
+use Rattle.std.proofs.Common.{◌∙◌}
 use Rattle.survivors.proofs.Laws.Nearest.{entry_here}
 use Rattle.checking.proofs.Pairs.{no_alias, alias_kind_lem}
 use Rattle.checking.proofs.aliases.is_alias.Goals as goal
@@ -7,7 +8,7 @@ pub returns-in_default : goal.returns-in_default
 returns-in_default c = no_alias _ c.in_default.is
 
 pub decl_kind-requires : goal.decl_kind-requires
-decl_kind-requires c = entry_here _ c.in-Body.is c.requires
+decl_kind-requires c = entry_here _ c.in-Some.is c.requires
 
 pub returns : goal.returns
-returns c = alias_kind_lem _ c.in-Body.is c.decl_kind.ensures
+returns c = c.is_alias_kind.ensures ∙ alias_kind_lem _ c.in-Some.is c.decl_kind.ensures

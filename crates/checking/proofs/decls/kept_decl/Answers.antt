@@ -7,7 +7,7 @@ pub returns-in_default : goal.returns-in_default
 returns-in_default c = ran_none (new_none _ c.requires.0 c.namesake_off.ensures c.in_default.is) c.requires.1
 
 pub compare_decls-requires : goal.compare_decls-requires
-compare_decls-requires c = both_asks _ c.requires.0 c.namesake_off.ensures c.in-Body.is c.requires.1
+compare_decls-requires c = both_asks _ c.requires.0 c.namesake_off.ensures c.in-Some.is c.requires.1
 
 pub returns : goal.returns
-returns c = both_ran _ c.requires.0 c.namesake_off.ensures c.in-Body.is c.compare_decls.ensures
+returns c = both_ran _ c.requires.0 c.namesake_off.ensures c.in-Some.is c.compare_decls.ensures

@@ -19,20 +19,20 @@ loop-at-init c = walk_start c.requires.1
 pub next_on-requires : goal.next_on-requires
 next_on-requires c = (c.requires.0, c.loop-at.invariant.here)
 
-pub returns-in_default : goal.returns-in_default
+pub returns : goal.returns
 unfolding unmatched_decls
-returns-in_default c = walk_done c.loop-at.invariant c.next_on.ensures c.in_default.is
+returns c = walk_done c.loop-at.invariant c.next_on.ensures c.in_default.is
 
 pub unmatched_decl-tally-requires : goal.unmatched_decl-tally-requires
 unfolding unmatched_in
 unmatched_decl-tally-requires c = (
-  record { searchable = c.requires.0; here = follows_here _ _ c.next_on.ensures c.in-Body.is },
-  walk_room c.loop-at.invariant c.next_on.ensures (standing_rises _ _) c.in-Body.is,
+  record { searchable = c.requires.0; here = follows_here _ _ c.next_on.ensures c.in-Some.is },
+  walk_room c.loop-at.invariant c.next_on.ensures (standing_rises _ _) c.in-Some.is,
 )
 
 pub loop-at-smaller : goal.loop-at-smaller
-loop-at-smaller c = decls_less _ (standing_rises _ _) _ _ c.next_on.ensures c.in-Body.is
+loop-at-smaller c = decls_less _ (standing_rises _ _) _ _ c.next_on.ensures c.in-Some.is
 
 pub loop-at-preserved : goal.loop-at-preserved
 unfolding unmatched_in
-loop-at-preserved c = walk_turn c.loop-at.invariant c.next_on.ensures (standing_rises _ _) c.in-Body.is c.unmatched_decl-tally.ensures
+loop-at-preserved c = walk_turn c.loop-at.invariant c.next_on.ensures (standing_rises _ _) c.in-Some.is c.unmatched_decl-tally.ensures

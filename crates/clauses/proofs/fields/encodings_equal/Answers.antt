@@ -1,14 +1,12 @@
 -- `clauses::fields::encodings_equal` meets its contract. Assumes nothing.
-use Rattle.clauses.proofs.Tests.{other_deltas, other_base, same_base}
+use Rattle.std.proofs.Common.{◌∙◌}
+use Rattle.clauses.proofs.Tests.{same_options}
 use Rattle.clauses.proofs.fields.encodings_equal.Goals as goal
 
-pub returns-then-a-b : goal.returns-then-a-b
-returns-then-a-b c = other_deltas _ _ c.field_encoding-a.ensures c.field_encoding-b.ensures c.if-a-b.true _
+pub returns-then-encoding_equal : goal.returns-then-encoding_equal
+returns-then-encoding_equal c =
+    rw (← c.field_encoding.ensures, ← c.field_encoding-2.ensures, ← c.encoding_equal.ensures, c.if-encoding_equal.true, ← c.field_limit.ensures, ← c.field_limit-then-encoding_equal.ensures)
+    (c.eq.ensures ∙ same_options _ _)
 
-pub returns-then-a-b-2 : goal.returns-then-a-b-2
-returns-then-a-b-2 c = other_base _ _ c.field_encoding-a.ensures c.field_encoding-b.ensures c.if-a-b.false c.if-a-b-2.true _
-
-pub returns : goal.returns
-returns c =
-    same_base _ _ c.field_encoding-a.ensures c.field_encoding-b.ensures c.if-a-b.false c.if-a-b-2.false
-    c.field_limit.ensures c.field_limit-2.ensures c.limits_equal.ensures
+pub returns-else-encoding_equal : goal.returns-else-encoding_equal
+returns-else-encoding_equal c = rw (← c.field_encoding.ensures, ← c.field_encoding-2.ensures, ← c.encoding_equal.ensures, c.if-encoding_equal.false)

@@ -9,9 +9,9 @@ returns-in_default c = ran_none (kept_none c.requires.0.items _ _ _ c.found_off.
 
 pub compare_fields-requires : goal.compare_fields-requires
 compare_fields-requires c =
-    let k = both_stand {reading = c.args.walk.reading} c.requires.0 c.found_off.ensures c.in-At.is in
+    let k = both_stand {reading = c.args.walk.reading} c.requires.0 c.found_off.ensures c.in-Some.is in
     (field_pair k, rw (field_kept k) at c.requires.1)
 
 pub returns : goal.returns
 returns c =
-    rw (field_kept (both_stand {reading = c.args.walk.reading} c.requires.0 c.found_off.ensures c.in-At.is)) c.compare_fields.ensures
+    rw (field_kept (both_stand {reading = c.args.walk.reading} c.requires.0 c.found_off.ensures c.in-Some.is)) c.compare_fields.ensures

@@ -6,18 +6,18 @@ use Rattle.clauses.proofs.unions.kept_variants.Goals as goal
 pub loop-ordinal-init : goal.loop-ordinal-init
 loop-ordinal-init c = kept_start c.requires.0 _ c.requires.1
 
-pub returns-in_default : goal.returns-in_default
-returns-in_default c = kept_done c.requires.0 _ _ c.loop-ordinal.invariant c.next_on.ensures c.in_default.is
+pub returns : goal.returns
+returns c = kept_done c.requires.0 _ _ c.loop-ordinal.invariant c.next_on.ensures c.in_default.is
 
 pub kept_variant-tally-requires : goal.kept_variant-tally-requires
 kept_variant-tally-requires c = (
-  kept_met c.requires.0 _ c.next_on.ensures c.in-Is.is,
-  owed_room (kept_turn c.requires.0 _ _ c.loop-ordinal.invariant c.next_on.ensures c.in-Is.is),
+  kept_met c.requires.0 _ c.next_on.ensures c.in-Some.is,
+  owed_room (kept_turn c.requires.0 _ _ c.loop-ordinal.invariant c.next_on.ensures c.in-Some.is),
 )
 
 pub loop-ordinal-smaller : goal.loop-ordinal-smaller
-loop-ordinal-smaller c = kept_less c.requires.0 _ c.next_on.ensures c.in-Is.is
+loop-ordinal-smaller c = kept_less c.requires.0 _ c.next_on.ensures c.in-Some.is
 
 pub loop-ordinal-preserved : goal.loop-ordinal-preserved
 loop-ordinal-preserved c =
-    owed_next (kept_turn c.requires.0 _ _ c.loop-ordinal.invariant c.next_on.ensures c.in-Is.is) c.kept_variant-tally.ensures
+    owed_next (kept_turn c.requires.0 _ _ c.loop-ordinal.invariant c.next_on.ensures c.in-Some.is) c.kept_variant-tally.ensures

@@ -7,4 +7,4 @@ use Rattle.compat.proofs.policies.walk_of.Goals as goal
 
 pub returns : goal.returns
 unfolding walk_of
-returns c = ap {A = Reading} {B = Walk} (λ r. record { mode = c.args.mode; reading = r }) c.reading_of-reading.ensures
+returns c = ap {A = Reading} {B = Walk} (λ r. record { mode = c.args.mode; reading = r }) c.reading_of.ensures

@@ -1,16 +1,10 @@
--- What is owed are the names that are left, with the text between each two. The measure is how many are left. Assumes nothing.
-use Rattle.std.proofs.Common.{[], ◌∷◌}
+-- What is written, with the names that are left, is the whole. Assumes nothing.
+use Rattle.std.proofs.Common.{◌+◌, ◌-◌}
 use Rattle.rules.specs.Text.{joined}
-use Rattle.text.proofs.Pieces.{Owes}
-use Rattle.types.specs.Names.{run, NamesIn, names_in}
+use Rattle.text.specs.Writers.{after}
+use Rattle.types.specs.Names.{names_in}
+use Rattle.display.proofs.Laws.Names.{Naming}
 use Rattle.display.proofs.names.names_display.Given as goal
 
-abbrev pub invariant-loop-left : goal.invariant-loop-left
-invariant-loop-left l = record {
-  here : NamesIn l.image (run l.next l.left);
-  owed : Owes l.mode l.initial.out l.at (joined l.between (names_in l.image (run l.initial.next l.initial.left))) l.done l.out
-      (joined l.between (names_in l.image (run l.next l.left)) ∷ []);
-}
-
-abbrev pub decreases-loop-left : goal.decreases-loop-left
-decreases-loop-left l = l.left
+abbrev pub invariant-loop : goal.invariant-loop
+invariant-loop l = Naming l.image l.between (after l.initial.w (joined l.between (names_in l.image l.run))) l.w l.next (l.run.count + 1 - l.counter)

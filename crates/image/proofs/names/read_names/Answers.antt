@@ -1,21 +1,17 @@
-use Rattle.std.proofs.Common.{arith, refl, ◌∙◌}
+use Rattle.std.proofs.Common.{refl}
 use Rattle.image.specs.Names.{name_at, names_at}
-use Rattle.image.proofs.Laws.Repeats.{many_more, many_stop, many_none}
+use Rattle.image.proofs.Laws.Repeats.{rest_start, rest_more, rest_stop, rest_none}
 use Rattle.image.proofs.names.read_names.Goals as goal
 
-pub loop-left-init : goal.loop-left-init
-loop-left-init c = refl
+pub loop-init : goal.loop-init
+unfolding names_at
+loop-init c = rest_start (name_at _) _ _ _ refl
 
 pub returns-in_default : goal.returns-in_default
-unfolding names_at
-returns-in_default c =
-    many_stop (name_at _) _ _ _ c.loop-left-test.true c.in_default.is c.read_name-step.ensures ∙ c.loop-left.invariant
+returns-in_default c = rest_stop c.loop.invariant c.loop-test.true c.in_default.is c.read_name-step.ensures
 
-pub loop-left-preserved : goal.loop-left-preserved
-unfolding names_at
-loop-left-preserved c =
-    many_more (name_at _) _ _ _ c.loop-left-test.true c.in-At.is c.read_name-step.ensures ∙ c.loop-left.invariant
+pub loop-preserved : goal.loop-preserved
+loop-preserved c = rest_more c.loop.invariant c.loop-test.true c.in-Ok.is c.read_name-step.ensures
 
 pub returns : goal.returns
-unfolding names_at
-returns c = many_none (name_at _) _ _ _ (omega arith) ∙ c.loop-left.invariant
+returns c = rest_none c.loop.invariant c.loop-test.false

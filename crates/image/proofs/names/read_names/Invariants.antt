@@ -1,11 +1,9 @@
--- The answer for all the names is the answer for those that are left, from the next position on. The measure: how many are left.
-use Rattle.std.proofs.Common.{◌≡◌}
-use Rattle.image.specs.Names.{names_at}
+use Rattle.image.specs.Numbers.{refusal_number}
+use Rattle.image.specs.Names.{name_at, names_at}
 use Rattle.image.specs.Reads.{skip}
+use Rattle.image.proofs.Laws.Repeats.{Rest}
 use Rattle.image.proofs.names.read_names.Given as goal
 
-abbrev pub invariant-loop-left : goal.invariant-loop-left
-invariant-loop-left l = skip (names_at l.short l.left l.s l.next) ≡ skip (names_at l.short l.count l.s l.at)
-
-abbrev pub decreases-loop-left : goal.decreases-loop-left
-decreases-loop-left l = l.left
+abbrev pub invariant-loop : goal.invariant-loop
+invariant-loop l =
+    Rest (name_at (refusal_number l.fn.short)) l.s l.next l.count l.counter (skip (names_at (refusal_number l.fn.short) l.count l.s l.fn.at))

@@ -9,7 +9,7 @@ unfolding after_tag
 returns-in_default c = stop _ _ c.in_default.is c.read_byte-step.ensures
 
 pub bounds-s-at : goal.bounds-s-at
-bounds-s-at c = (byte_there 8 _ _ c.in-At.is c.read_byte-step.ensures).inside
+bounds-s-at c = (byte_there 8 _ _ c.in-Ok.is c.read_byte-step.ensures).inside
 
 pub returns : goal.returns
-returns c = bits_as _ _ (byte_there 8 _ _ c.in-At.is c.read_byte-step.ensures) c.read_names.ensures
+returns c = bits_as _ _ (byte_there 8 _ _ c.in-Ok.is c.read_byte-step.ensures) c.read_names.ensures

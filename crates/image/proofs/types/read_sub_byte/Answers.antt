@@ -9,4 +9,4 @@ returns-in_default c = stop _ _ c.in_default.is c.read_code-step.ensures
 
 pub returns : goal.returns
 unfolding after_tag
-returns c = next _ (got c.in-At.is c.read_code-step.ensures) (λ _. c.read_code.ensures ∙ sym (skip_ok _ _))
+returns c = next _ (got c.in-Ok.is c.read_code-step.ensures) (λ _. c.read_code.ensures ∙ sym (skip_ok _ _))

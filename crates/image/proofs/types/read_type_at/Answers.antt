@@ -11,9 +11,9 @@ returns-in_default c =
 
 pub overflow_add-result : goal.overflow_add-result
 overflow_add-result c =
-    let h = inner_within 32 _ _ c.requires c.in-At.is (from_start (type_of 32) c.args.s.now c.args.at c.read_type-step.ensures) in
+    let h = inner_within 32 _ _ c.requires c.in-Ok.is (from_start (type_of 32) c.args.s.now c.args.at c.read_type-step.ensures) in
     omega arith
 
 pub returns : goal.returns
 unfolding type_at
-returns c = within_at (type_of 32) _ _ c.in-At.is (from_start (type_of 32) c.args.s.now c.args.at c.read_type-step.ensures)
+returns c = within_at (type_of 32) _ _ c.in-Ok.is (from_start (type_of 32) c.args.s.now c.args.at c.read_type-step.ensures)

@@ -13,15 +13,15 @@ returns-in_default c =
     (bytes_stop _ _ c.in_default.is c.read_byte-step.ensures)
 
 pub bounds-s-at : goal.bounds-s-at
-bounds-s-at c = (byte_there 8 _ _ c.in-At.is c.read_byte-step.ensures).inside
+bounds-s-at c = (byte_there 8 _ _ c.in-Ok.is c.read_byte-step.ensures).inside
 
 pub returns-then-not-is_wire_bytes : goal.returns-then-not-is_wire_bytes
 returns-then-not-is_wire_bytes c =
     width_read _ wire_bytes_at _ _ (sym c.if-not-has_widths.false ∙ c.has_widths.ensures)
-    (bytes_other _ _ (byte_there 8 _ _ c.in-At.is c.read_byte-step.ensures)
+    (bytes_other _ _ (byte_there 8 _ _ c.in-Ok.is c.read_byte-step.ensures)
     (sym c.if-not-is_wire_bytes.true ∙ c.is_wire_bytes.ensures))
 
 pub returns : goal.returns
 returns c =
     width_read _ wire_bytes_at _ _ (sym c.if-not-has_widths.false ∙ c.has_widths.ensures)
-    (bytes_one _ _ (byte_there 8 _ _ c.in-At.is c.read_byte-step.ensures) (sym c.if-not-is_wire_bytes.false ∙ c.is_wire_bytes.ensures) c.in-At.is)
+    (bytes_one _ _ (byte_there 8 _ _ c.in-Ok.is c.read_byte-step.ensures) (sym c.if-not-is_wire_bytes.false ∙ c.is_wire_bytes.ensures) c.in-Ok.is)

@@ -6,18 +6,19 @@ use Rattle.lines.specs.Sites.{change_of}
 use Rattle.lines.proofs.Lines.{level_bump}
 use Rattle.lines.proofs.reporting.emit.Goals as goal
 
-pub slice_bounds-put_line-count : goal.slice_bounds-put_line-count
-slice_bounds-put_line-count c = (one_lent c.requires.1 c.start_in-done.ensures).within
+pub slice_bounds-line_into-count : goal.slice_bounds-line_into-count
+slice_bounds-line_into-count c = (one_lent c.requires.1 c.start_in-done.ensures).within
 
-pub slice_bounds-put_line-start : goal.slice_bounds-put_line-start
-slice_bounds-put_line-start c = (one_lent c.requires.1 c.start_in-done.ensures).within
-
-pub put_line-n-requires : goal.put_line-n-requires
-put_line-n-requires c = (c.requires.0, (one_lent c.requires.1 c.start_in-done.ensures).space)
+pub slice_bounds-line_into-start : goal.slice_bounds-line_into-start
+slice_bounds-line_into-start c = (one_lent c.requires.1 c.start_in-done.ensures).within
 
 pub with_change-requires : goal.with_change-requires
-with_change-requires c = one_countable c.requires.1 c.start_in-done.ensures c.put_line-n.ensures c.requires.0.known
+with_change-requires c =
+    let e = c.start_in-done.ensures in
+    one_countable c.requires.1 e ((one_lent c.requires.1 e).puts c.line_into-n.ensures)
 
 pub returns : goal.returns
 unfolding change_of
-returns c = ran_one c.requires.1 c.start_in-done.ensures c.put_line-n.ensures c.with_change.ensures refl (sym (level_bump c.args.site.bump.level c.requires.0.weighed))
+returns c =
+    let e = c.start_in-done.ensures in
+    ran_one c.requires.1 e ((one_lent c.requires.1 e).puts c.line_into-n.ensures) c.with_change.ensures refl (sym (level_bump c.args.site.bump.level c.requires.0.weighed))

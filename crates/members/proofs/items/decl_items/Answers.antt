@@ -2,9 +2,6 @@ use Rattle.std.proofs.Common.{arith, sym, ◌∙◌}
 use Rattle.parts.proofs.Laws.Counted.{items_after, items_after_width}
 use Rattle.members.proofs.items.decl_items.Goals as goal
 
-pub width_place-place-requires : goal.width_place-place-requires
-width_place-place-requires c = (c.requires.0, omega (arith, c.requires.1))
-
 pub overflow_add-place : goal.overflow_add-place
 overflow_add-place c =
     let t = (items_after_width _ _ c.requires.0 c.requires.1 c.width_place-place.ensures (sym c.stores_width.ensures ∙ c.if-stores_width.true)).0 in
@@ -13,15 +10,5 @@ overflow_add-place c =
 pub items_at-requires : goal.items_at-requires
 items_at-requires c = (items_after_width _ _ c.requires.0 c.requires.1 c.width_place-place.ensures (sym c.stores_width.ensures ∙ c.if-stores_width.true)).0
 
-pub returns-then-stores_width : goal.returns-then-stores_width
-returns-then-stores_width c =
-    c.items_at.ensures
-    ∙ (items_after_width _ _ c.requires.0 c.requires.1 c.width_place-place.ensures (sym c.stores_width.ensures ∙ c.if-stores_width.true)).1
-
 pub items_at-requires-2 : goal.items_at-requires-2
 items_at-requires-2 c = (items_after _ _ c.requires.0 c.requires.1 c.width_place-place.ensures (sym c.stores_width.ensures ∙ c.if-stores_width.false)).0
-
-pub returns : goal.returns
-returns c =
-    c.items_at-2.ensures
-    ∙ (items_after _ _ c.requires.0 c.requires.1 c.width_place-place.ensures (sym c.stores_width.ensures ∙ c.if-stores_width.false)).1

@@ -1,25 +1,17 @@
 -- In each arm the kind is known.
-use Rattle.std.proofs.Common.{rules}
-use Rattle.reached.proofs.Declared.{message_fields, message_marked, union_variants, union_marked, newtype_inner, newtype_marked, other_marked}
+use Rattle.reached.proofs.Declared.{message_marked, union_marked, newtype_marked, other_marked}
 use Rattle.reached.proofs.decls.mark_decl.Goals as goal
 
-pub mark_fields-requires : goal.mark_fields-requires
-mark_fields-requires c = (c.requires.0, message_fields _ _ c.requires.1 c.decl_kind-kind.ensures c.in-0.is c.decl_items.ensures)
+pub returns-in-Message : goal.returns-in-Message
+returns-in-Message c = message_marked _ _ c.requires.1 _ c.decl_kind.ensures c.in-Message.is c.decl_items.ensures c.mark_fields.ensures
 
-pub mark_variants-requires : goal.mark_variants-requires
-mark_variants-requires c = (c.requires.0, union_variants _ _ c.requires.1 c.decl_kind-kind.ensures c.in-3.is c.decl_items-in-3.ensures)
+pub returns-in-Union : goal.returns-in-Union
+returns-in-Union c = union_marked _ _ c.requires.1 _ c.decl_kind.ensures c.in-Union.is c.decl_items-in-Union.ensures c.mark_variants.ensures
 
-pub mark_type-requires : goal.mark_type-requires
-mark_type-requires c = (c.requires.0, newtype_inner _ _ c.requires.1 c.decl_kind-kind.ensures c.in-4.is c.inner_type.ensures)
-
-pub returns-in-0 : goal.returns-in-0
-returns-in-0 c = message_marked _ _ c.requires.1 c.decl_kind-kind.ensures c.in-0.is c.decl_items.ensures c.mark_fields.ensures
-
-pub returns-in-3 : goal.returns-in-3
-returns-in-3 c = union_marked _ _ c.requires.1 c.decl_kind-kind.ensures c.in-3.is c.decl_items-in-3.ensures c.mark_variants.ensures
-
-pub returns-in-4 : goal.returns-in-4
-returns-in-4 c = newtype_marked _ _ c.requires.1 c.decl_kind-kind.ensures c.in-4.is c.inner_type.ensures c.mark_type.ensures
+pub returns-in-Newtype : goal.returns-in-Newtype
+returns-in-Newtype c = newtype_marked _ _ c.requires.1 _ c.decl_kind.ensures c.in-Newtype.is c.inner_type.ensures c.mark_type.ensures
 
 pub returns-in_default : goal.returns-in_default
-returns-in_default c = other_marked _ _ c.requires.1 c.decl_kind-kind.ensures (search rules) (search rules) (search rules)
+returns-in_default c =
+    let d = c.in_default in
+    other_marked _ _ c.requires.1 _ c.decl_kind.ensures d.not-Message d.not-Union d.not-Newtype

@@ -3,8 +3,8 @@
 use Rattle.reached.proofs.Followed.{unfollowed, Following}
 use Rattle.reached.proofs.follow.reached.Given as goal
 
-abbrev pub invariant-loop-followed : goal.invariant-loop-followed
-invariant-loop-followed l = Following l.image l.marks l.followed
+abbrev pub invariant-loop-id : goal.invariant-loop-id
+invariant-loop-id l = Following l.image l.marks l.followed
 
-abbrev pub decreases-loop-followed : goal.decreases-loop-followed
-decreases-loop-followed l = unfollowed l.followed
+abbrev pub decreases-loop-id : goal.decreases-loop-id
+decreases-loop-id l = unfollowed l.followed

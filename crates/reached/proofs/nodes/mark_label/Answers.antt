@@ -1,9 +1,12 @@
 -- By the tag.
+use Rattle.std.proofs.Common.{sym, ◌∙◌}
+use denote.Enum.Bare.{same_true, same_false}
+use Rattle.image.specs.contracts.tags.Tag.{the_type}
 use Rattle.reached.proofs.Marking.{label_named, label_other}
 use Rattle.reached.proofs.nodes.mark_label.Goals as goal
 
-pub returns-then-type_tag-eq-NAMED : goal.returns-then-type_tag-eq-NAMED
-returns-then-type_tag-eq-NAMED c = label_named _ _ c.type_tag.ensures c.if-type_tag-eq-NAMED.true c.type_id.ensures c.mark_id.ensures
+pub returns-then-eq : goal.returns-then-eq
+returns-then-eq c = label_named _ _ _ c.type_tag.ensures (same_true the_type tt _ _ (sym c.eq.ensures ∙ c.if-eq.true)) c.type_id.ensures c.mark_id.ensures
 
-pub returns-else-type_tag-eq-NAMED : goal.returns-else-type_tag-eq-NAMED
-returns-else-type_tag-eq-NAMED c = label_other _ _ c.type_tag.ensures c.if-type_tag-eq-NAMED.false
+pub returns-else-eq : goal.returns-else-eq
+returns-else-eq c = label_other _ _ _ c.type_tag.ensures (same_false the_type _ _ (sym c.eq.ensures ∙ c.if-eq.false))

@@ -1,37 +1,34 @@
--- `reader::bodies::read_decl` meets its contract: in each arm the kind is known. Assumes nothing.
-use Rattle.std.proofs.Common.{arith, ◌∙◌}
+-- `reader::bodies::read_decl` meets its contract. Assumes nothing.
+use Rattle.std.proofs.Common.{◌∙◌}
 use Rattle.image.specs.Kinds.{kind_of}
 use Rattle.image.specs.Bodies.{impl_at, decl_at}
-use Rattle.image.specs.Reads.{skip}
-use Rattle.reader.proofs.Laws.Bodies.{decl_other, decl_unknown}
+use Rattle.image.specs.Reads.{read_of, skip}
+use Rattle.reader.proofs.Laws.Bodies.{decl_named}
 use Rattle.reader.proofs.bodies.read_decl.Goals as goal
 
-pub returns-in-0 : goal.returns-in-0
+pub returns-in-Message : goal.returns-in-Message
 unfolding kind_of decl_at
-returns-in-0 c = rw c.in-0.is c.read_message.ensures
+returns-in-Message c = rw c.in-Message.is c.read_message.ensures
 
-pub returns-in-1 : goal.returns-in-1
+pub returns-in-Enum : goal.returns-in-Enum
 unfolding kind_of decl_at
-returns-in-1 c = rw c.in-1.is c.read_enum.ensures
+returns-in-Enum c = rw c.in-Enum.is c.read_enum.ensures
 
-pub returns-in-2 : goal.returns-in-2
+pub returns-in-Flags : goal.returns-in-Flags
 unfolding kind_of decl_at
-returns-in-2 c = rw c.in-2.is c.read_flags.ensures
+returns-in-Flags c = rw c.in-Flags.is c.read_flags.ensures
 
-pub returns-in-3 : goal.returns-in-3
+pub returns-in-Union : goal.returns-in-Union
 unfolding kind_of decl_at
-returns-in-3 c = rw c.in-3.is c.read_union.ensures
+returns-in-Union c = rw c.in-Union.is c.read_union.ensures
 
-pub returns-in-4 : goal.returns-in-4
+pub returns-in-Newtype : goal.returns-in-Newtype
 unfolding kind_of decl_at
-returns-in-4 c = rw c.in-4.is c.read_newtype.ensures
+returns-in-Newtype c = rw c.in-Newtype.is c.read_newtype.ensures
 
-pub returns-in-8 : goal.returns-in-8
-unfolding kind_of decl_at impl_at skip
-returns-in-8 c = rw c.in-8.is
+pub returns-in-Config : goal.returns-in-Config
+returns-in-Config c = c.read_name.ensures ∙ decl_named _ _ _ c.in-Config.is
 
-pub returns-in-5 : goal.returns-in-5
-returns-in-5 c = c.read_name.ensures ∙ decl_other _ _ _ _ (omega arith) (omega arith)
-
-pub returns-in_default : goal.returns-in_default
-returns-in_default c = decl_unknown _ _ _ _ (omega arith)
+pub returns-in-Impl : goal.returns-in-Impl
+unfolding kind_of decl_at impl_at read_of skip
+returns-in-Impl c = rw c.in-Impl.is

@@ -13,11 +13,11 @@ returns-in_default c = stop _ _ c.in_default.is c.read_name-name.ensures
 pub returns-in_default-width : goal.returns-in_default-width
 unfolding flags_at
 returns-in_default-width c =
-    next _ (got c.in-At.is c.read_name-name.ensures) (λ _.
+    next _ (got c.in-Ok.is c.read_name-name.ensures) (λ _.
     sized_stop (counted bare_at) _ _ _ c.in_default-width.is c.read_wire_bytes-width.ensures)
 
 pub returns : goal.returns
 unfolding flags_at
 returns c =
-    next _ (got c.in-At.is c.read_name-name.ensures) (λ _.
-    sized_rest (counted bare_at) _ _ _ c.in-At-width.is c.read_wire_bytes-width.ensures c.read_bares.ensures)
+    next _ (got c.in-Ok.is c.read_name-name.ensures) (λ _.
+    sized_rest (counted bare_at) _ _ _ c.in-Ok-width.is c.read_wire_bytes-width.ensures c.read_bares.ensures)

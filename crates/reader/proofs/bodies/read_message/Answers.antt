@@ -12,9 +12,9 @@ returns-in_default c = marked_stop (counted field_at) _ _ _ c.in_default.is c.re
 pub returns-in_default-marks : goal.returns-in_default-marks
 unfolding message_at
 returns-in_default-marks c =
-    marked_marks (counted field_at) _ _ _ c.in-At.is c.read_name-name.ensures c.in_default-marks.is c.read_marks-marks.ensures
+    marked_marks (counted field_at) _ _ _ c.in-Ok.is c.read_name-name.ensures c.in_default-marks.is c.read_marks-marks.ensures
 
 pub returns : goal.returns
 unfolding message_at
 returns c =
-    marked_rest (counted field_at) _ _ _ c.in-At.is c.read_name-name.ensures c.in-At-marks.is c.read_marks-marks.ensures c.read_fields.ensures
+    marked_rest (counted field_at) _ _ _ c.in-Ok.is c.read_name-name.ensures c.in-Ok-marks.is c.read_marks-marks.ensures c.read_fields.ensures

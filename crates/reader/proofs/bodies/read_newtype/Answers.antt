@@ -10,8 +10,8 @@ unfolding newtype_at
 returns-in_default c = named_stop type_at _ _ _ c.in_default.is c.read_name-name.ensures
 
 pub read_type_at-requires : goal.read_type_at-requires
-read_type_at-requires c = (sure_at (name_sure _ _ _) c.in-At.is c.read_name-name.ensures).2.inside
+read_type_at-requires c = (sure_at (name_sure _ _ _) c.in-Ok.is c.read_name-name.ensures).2.inside
 
 pub returns : goal.returns
 unfolding newtype_at
-returns c = named_rest type_at _ _ _ c.in-At.is c.read_name-name.ensures c.read_type_at.ensures
+returns c = named_rest type_at _ _ _ c.in-Ok.is c.read_name-name.ensures c.read_type_at.ensures

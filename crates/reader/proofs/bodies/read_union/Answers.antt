@@ -11,4 +11,4 @@ returns-in_default c = named_stop (counted variant_at) _ _ _ c.in_default.is c.r
 
 pub returns : goal.returns
 unfolding union_at
-returns c = named_rest (counted variant_at) _ _ _ c.in-At.is c.read_name-name.ensures c.read_variants.ensures
+returns c = named_rest (counted variant_at) _ _ _ c.in-Ok.is c.read_name-name.ensures c.read_variants.ensures

@@ -5,6 +5,3 @@ use Rattle.reader.proofs.contents.is_laid.Given as goal
 
 abbrev pub invariant-loop-i : goal.invariant-loop-i
 invariant-loop-i l = (l.i ≤ l.n) × (l.at ≤ length l.s) × (laid l.n l.s 0 l.from ≡ laid (l.n - l.i) l.s l.i l.at)
-
-abbrev pub decreases-loop-i : goal.decreases-loop-i
-decreases-loop-i l = l.n - l.i

@@ -1,47 +1,50 @@
 -- `reader::contents::read_whole` meets its contract: one read after the other. Assumes nothing.
 use Rattle.std.proofs.Common.{arith, sym, ◌∙◌}
-use Rattle.reader.proofs.Laws.Contents.{head_there, tables_within, names_within, image_head, image_tables, image_names, image_gap, image_entries}
+use Rattle.reader.proofs.Laws.Contents.{head_there, head_known, tables_within, names_within, image_head, image_tables, image_names, image_gap, image_entries}
 use Rattle.reader.proofs.contents.read_whole.Goals as goal
 
 pub returns-in_default : goal.returns-in_default
 returns-in_default c = image_head _ c.in_default.is c.read_head-head.ensures
 
 pub read_tables-tables-requires : goal.read_tables-tables-requires
-read_tables-tables-requires c = head_there _ c.in-At.is c.read_head-head.ensures
+read_tables-tables-requires c = head_there _ c.in-Ok.is c.read_head-head.ensures
 
 pub returns-in_default-tables : goal.returns-in_default-tables
-returns-in_default-tables c = image_tables _ c.in-At.is c.read_head-head.ensures c.in_default-tables.is c.read_tables-tables.ensures
+returns-in_default-tables c = image_tables _ c.in-Ok.is c.read_head-head.ensures c.in_default-tables.is c.read_tables-tables.ensures
 
 pub segment_count-requires : goal.segment_count-requires
-segment_count-requires c = head_there _ c.in-At.is c.read_head-head.ensures
+segment_count-requires c = head_there _ c.in-Ok.is c.read_head-head.ensures
 
 pub returns-in_default-names : goal.returns-in_default-names
 returns-in_default-names c =
-    image_names _ c.in-At.is c.read_head-head.ensures c.in-At-tables.is c.read_tables-tables.ensures c.segment_count.ensures.0 c.in_default-names.is c.read_names-names.ensures
+    image_names _ c.in-Ok.is c.read_head-head.ensures c.in-Ok-tables.is c.read_tables-tables.ensures c.segment_count.ensures.0 c.in_default-names.is c.read_names-names.ensures
 
 pub entry_count-n-requires : goal.entry_count-n-requires
-entry_count-n-requires c = head_there _ c.in-At.is c.read_head-head.ensures
+entry_count-n-requires c = head_there _ c.in-Ok.is c.read_head-head.ensures
 
 pub is_laid-requires : goal.is_laid-requires
 is_laid-requires c =
-    let i = (tables_within _ c.in-At-tables.is c.read_tables-tables.ensures).0 in
+    let i = (tables_within _ c.in-Ok-tables.is c.read_tables-tables.ensures).0 in
     let e = c.entry_count-n.ensures.0 in
-    (omega arith, names_within _ _ c.in-At-tables.is c.read_tables-tables.ensures c.in-At-names.is c.read_names-names.ensures)
+    (omega arith, names_within _ _ c.in-Ok-tables.is c.read_tables-tables.ensures c.in-Ok-names.is c.read_names-names.ensures)
 
 pub returns-then-not-is_laid : goal.returns-then-not-is_laid
 returns-then-not-is_laid c =
-    image_gap _ c.in-At.is c.read_head-head.ensures c.in-At-tables.is c.read_tables-tables.ensures c.segment_count.ensures.0 c.in-At-names.is c.read_names-names.ensures c.entry_count-n.ensures.0 (sym c.is_laid.ensures ∙ c.if-not-is_laid.true)
+    image_gap _ c.in-Ok.is c.read_head-head.ensures c.in-Ok-tables.is c.read_tables-tables.ensures c.segment_count.ensures.0 c.in-Ok-names.is c.read_names-names.ensures c.entry_count-n.ensures.0 (sym c.is_laid.ensures ∙ c.if-not-is_laid.true)
 
 pub read_entries-requires : goal.read_entries-requires
 read_entries-requires c =
-    let i = (tables_within _ c.in-At-tables.is c.read_tables-tables.ensures).0 in
+    let i = (tables_within _ c.in-Ok-tables.is c.read_tables-tables.ensures).0 in
     let e = c.entry_count-n.ensures.0 in
     (omega arith, sym c.is_laid.ensures ∙ c.if-not-is_laid.false)
 
 pub format-requires : goal.format-requires
-format-requires c = head_there _ c.in-At.is c.read_head-head.ensures
+format-requires c = head_there _ c.in-Ok.is c.read_head-head.ensures
+
+pub of-requires : goal.of-requires
+of-requires c = rw c.format.ensures.0 (head_known _ c.in-Ok.is c.read_head-head.ensures)
 
 pub returns : goal.returns
 returns c =
-    image_entries _ c.in-At.is c.read_head-head.ensures c.in-At-tables.is c.read_tables-tables.ensures c.segment_count.ensures.0 c.in-At-names.is c.read_names-names.ensures c.entry_count-n.ensures.0
-    c.format.ensures.0 (sym c.is_laid.ensures ∙ c.if-not-is_laid.false) c.read_entries.ensures
+    image_entries _ c.in-Ok.is c.read_head-head.ensures c.in-Ok-tables.is c.read_tables-tables.ensures c.segment_count.ensures.0 c.in-Ok-names.is c.read_names-names.ensures c.entry_count-n.ensures.0
+    (c.of.ensures ∙ c.format.ensures.0) (sym c.is_laid.ensures ∙ c.if-not-is_laid.false) c.read_entries.ensures

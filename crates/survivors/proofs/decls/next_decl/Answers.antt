@@ -6,7 +6,6 @@ use Rattle.survivors.proofs.decls.next_decl.Goals as goal
 use Rattle.survivors.proofs.decls.next_decl.Goals.{then-is_nearer, else-is_nearer}
 
 pub loop-i-init : goal.loop-i-init
-unfolding named entry_decl EntryHere
 loop-i-init c = (tt, ahead_start _ _ _)
 
 pub is_nearer-requires : goal.is_nearer-requires

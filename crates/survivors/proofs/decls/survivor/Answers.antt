@@ -19,7 +19,7 @@ search-preserved-in_default c =
     )
 
 pub decl_name-own-requires : goal.decl_name-own-requires
-decl_name-own-requires c = entry_here _ c.in-Body.is c.candidate.ensures.here
+decl_name-own-requires c = entry_here _ c.in-Some.is c.candidate.ensures.here
 
 pub loop-j-init : goal.loop-j-init
 loop-j-init c = (omega arith, refl)
@@ -30,7 +30,7 @@ search-preserved-then-name-j c =
     let v = c.search.invariant in
     let a = c.loop-j.invariant in (
       omega (arith, v.0),
-      back_other _ _ _ _ (omega (arith, c.if-i-eq0.false)) v.0 c.candidate.ensures c.in-Body.is c.decl_name-own.ensures
+      back_other _ _ _ _ (omega (arith, c.if-i-eq0.false)) v.0 c.candidate.ensures c.in-Some.is c.decl_name-own.ensures
           (finds_other _ _ _ a.1 (omega arith) (omega arith) c.if-name-j.true)
           ∙ v.1,
     )
@@ -42,7 +42,7 @@ pub search-preserved : goal.search-preserved
 search-preserved c =
     let v = c.search.invariant in (
       omega (arith, v.0),
-      back_other _ _ _ _ (omega (arith, c.if-i-eq0.false)) v.0 c.candidate.ensures c.in-Body.is c.decl_name-own.ensures
+      back_other _ _ _ _ (omega (arith, c.if-i-eq0.false)) v.0 c.candidate.ensures c.in-Some.is c.decl_name-own.ensures
           (other_length _ _ c.if-name-own.false)
           ∙ v.1,
     )
@@ -53,7 +53,7 @@ returns-then-i-eq0 c = back_end _ _ _ _ c.if-i-eq0.true c.search.invariant.1
 pub returns-then-j-name : goal.returns-then-j-name
 returns-then-j-name c =
     let v = c.search.invariant in
-    back_found _ _ _ _ (omega (arith, c.if-i-eq0.false)) v.0 c.candidate.ensures c.in-Body.is c.decl_name-own.ensures
+    back_found _ _ _ _ (omega (arith, c.if-i-eq0.false)) v.0 c.candidate.ensures c.in-Some.is c.decl_name-own.ensures
     (same_told _ _
     (sym (ends_same c.args.name.now c.decl_name-own.result.now c.loop-j.j c.loop-j.invariant.1 (omega arith) (omega arith))))
     v.1

@@ -4,4 +4,4 @@ use Rattle.tally.proofs.Tally.with_change.Goals as goal
 
 pub returns : goal.returns
 unfolding with_change
-returns c = rw (← c.larger-largest.ensures)
+returns c = rw (← c.larger-largest.ensures, ← c.place.ensures.is)

@@ -1,5 +1,7 @@
 use Rattle.std.proofs.Common.{sym, arith}
 use mathlib.Core.Path.{◌∙◌}
+use denote.Enum.Bare.{same_true, same_false}
+use Rattle.types.specs.contracts.likeness.Likeness.{the_type}
 use Rattle.parts.proofs.Promise.{type_some, type_label}
 use Rattle.types.proofs.Laws.Trees.{node, labels_differ, tags_same, leaves, ones, first_differs, second_places, twos}
 use Rattle.types.proofs.equal.+compare_nodes.Goals as goal
@@ -58,14 +60,14 @@ returns-then-inner-eq1 t c =
     _ c.of_tag-node.ensures c.label_end-p.ensures c.label_end-q.ensures c.compare_nodes.ensures c.after-first.ensures
     (a.single c.if-inner-eq1.true) (b.single c.if-inner-eq1.true)
 
-pub returns-then-not-read_as : goal.returns-then-not-read_as
-returns-then-not-read_as t c =
+pub returns-then-eq : goal.returns-then-eq
+returns-then-eq t c =
     let a = node c.inner_types-inner.ensures c.requires.2 (sym c.type_tag-tag.ensures) in
     let b = node c.inner_types-inner.ensures c.requires.3
     (tags_same _ _ _ _ c.labels_equal.ensures c.if-not-labels_equal.false ∙ sym c.type_tag-tag.ensures) in
     first_differs _ _ _ _ c.labels_equal.ensures c.if-not-labels_equal.false c.type_tag-tag.ensures
-    _ c.of_tag-node.ensures c.label_end-p.ensures c.label_end-q.ensures c.compare_nodes.ensures c.after-first.ensures c.read_as.ensures
-    (a.pair c.if-inner-eq0.false c.if-inner-eq1.false) (b.pair c.if-inner-eq0.false c.if-inner-eq1.false) c.if-not-read_as.true
+    _ c.of_tag-node.ensures c.label_end-p.ensures c.label_end-q.ensures c.compare_nodes.ensures c.after-first.ensures
+    (a.pair c.if-inner-eq0.false c.if-inner-eq1.false) (b.pair c.if-inner-eq0.false c.if-inner-eq1.false) (same_true the_type tt _ _ (sym c.eq.ensures ∙ c.if-eq.true))
 
 pub overflow_sub-left-2 : goal.overflow_sub-left-2
 overflow_sub-left-2 t c = type_some _ _ _ c.requires.2
@@ -76,7 +78,7 @@ compare_nodes-requires-2 t c =
     let b = node c.inner_types-inner.ensures c.requires.3
     (tags_same _ _ _ _ c.labels_equal.ensures c.if-not-labels_equal.false ∙ sym c.type_tag-tag.ensures) in
     let s = second_places _ _ _ _ c.labels_equal.ensures c.if-not-labels_equal.false c.type_tag-tag.ensures
-    _ c.of_tag-node.ensures c.label_end-p.ensures c.label_end-q.ensures c.compare_nodes.ensures c.after-first.ensures c.read_as.ensures c.if-not-read_as.false in
+    _ c.of_tag-node.ensures c.label_end-p.ensures c.label_end-q.ensures c.compare_nodes.ensures c.after-first.ensures (same_false the_type _ _ (sym c.eq.ensures ∙ c.if-eq.false)) in
     let some = type_some _ _ _ c.requires.2 in (
       omega (arith, c.decreases),
       (
@@ -93,6 +95,6 @@ returns t c =
     let b = node c.inner_types-inner.ensures c.requires.3
     (tags_same _ _ _ _ c.labels_equal.ensures c.if-not-labels_equal.false ∙ sym c.type_tag-tag.ensures) in
     twos _ _ _ _ c.labels_equal.ensures c.if-not-labels_equal.false c.type_tag-tag.ensures
-    _ c.of_tag-node.ensures c.label_end-p.ensures c.label_end-q.ensures c.compare_nodes.ensures c.after-first.ensures c.read_as.ensures c.if-not-read_as.false
+    _ c.of_tag-node.ensures c.label_end-p.ensures c.label_end-q.ensures c.compare_nodes.ensures c.after-first.ensures (same_false the_type _ _ (sym c.eq.ensures ∙ c.if-eq.false))
     (a.pair c.if-inner-eq0.false c.if-inner-eq1.false) (b.pair c.if-inner-eq0.false c.if-inner-eq1.false)
     c.compare_nodes-2.ensures c.after.ensures

@@ -4,4 +4,4 @@ use Rattle.verdicts.proofs.Verdict.of_tally.Goals as goal
 
 pub returns : goal.returns
 unfolding of_tally
-returns c = rw c.result-result.ensures
+returns c = rw c.result.ensures

@@ -1,9 +1,0 @@
--- `parts::decls::deprecated` meets its contract. Assumes nothing.
-use Rattle.std.proofs.Common.{ap}
-use Rattle.image.specs.Fields.{marks_of}
-use Rattle.image.specs.Schema.{Marks}
-use Rattle.parts.proofs.decls.deprecated.Goals as goal
-
-pub returns : goal.returns
-unfolding marks_of
-returns c = ap (λ (m : Marks). m.deprecated) c.marks.ensures

@@ -1,7 +1,0 @@
--- `reader::contents::entry_count` meets its contract. Assumes nothing.
-use Rattle.image.specs.Image.{u16_at, entry_count}
-use Rattle.reader.proofs.contents.entry_count.Goals as goal
-
-pub returns : goal.returns
-unfolding u16_at entry_count
-returns c = c.u16_at.ensures

@@ -1,7 +1,0 @@
--- `reader::contents::segment_count` meets its contract. Assumes nothing.
-use Rattle.image.specs.Image.{u16_at, segment_count}
-use Rattle.reader.proofs.contents.segment_count.Goals as goal
-
-pub returns : goal.returns
-unfolding u16_at segment_count
-returns c = c.u16_at.ensures

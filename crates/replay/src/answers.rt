@@ -1,0 +1,37 @@
+// A recorded answer beside what is answered by a verdict.
+use crate::calls::{Pair, Verdict};
+use crate::counting::Tally;
+use crate::file::Broken;
+use crate::texts::{Text, replay_refused};
+use crate::values::Values;
+use std::io::Read;
+
+#[derive(Clone, Copy)]
+pub struct Answer {
+    values: Values,
+    // None of a refusal.
+    report: Option<Text>,
+}
+
+impl Answer {
+    // Number, side, bump, result, length, counts and report.
+    pub fn read(file: &mut impl Read, counts: usize) -> Result<Answer, Broken> {
+        let values = Values::read(file, counts)?;
+        let report = match values.number() {
+            0 => Some(Text::read(file, values.length())?),
+            _ => None,
+        };
+        Ok(Answer { values, report })
+    }
+
+    // All selectors, the values and the report.
+    pub fn replay<V: Verdict>(&self, pair: Pair<'_>, tally: &mut Tally) {
+        self.values.replay_selectors::<V>(pair, tally);
+        self.values.replay::<V>(pair, tally);
+        let write = |out: &mut [u8]| V::report(pair, out);
+        match &self.report {
+            Some(report) => report.replay(&write, tally),
+            None => replay_refused(&write, tally),
+        }
+    }
+}

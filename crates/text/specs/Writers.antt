@@ -1,0 +1,22 @@
+-- A writer after text. Assumes nothing.
+use Rattle.std.specs.Prelude.{◌≡◌, List, [], ◌∷◌, ℕ, ◌+◌, ◌-◌, ◌^◌, min, length, take, slice_set}
+use Rattle.text.specs.Text.{put}
+use Rattle.text.specs.declared.Writer.{Writer}
+
+-- after one byte: it stands in its place if the buffer reaches there, and is counted
+abbrev pub after_byte : Writer → ℕ → Writer
+after_byte w b = record w { at = min (w.at + 1) (2 ^ 64 - 1); out = record w.out { now = slice_set w.out.now w.at b } }
+
+-- after a text, byte after byte
+unfoldable pub after : Writer → List ℕ → Writer
+after w [] = w
+after w (b ∷ bs) = after (after_byte w b) bs
+
+-- what a writer of xs is then
+pub record Adds (w : Writer) (xs : List ℕ) (v : Writer) : Type 0 where
+  pub is : v ≡ after w xs
+
+-- what a writer of xs from the start of a buffer d leaves: how long xs is, and the buffer
+pub record Fills (d xs : List ℕ) (r : ℕ) (d' : List ℕ) : Type 0 where
+  pub long : r ≡ min (length xs) (2 ^ 64 - 1)
+  pub bytes : d' ≡ put d 0 (take (length d) xs)
