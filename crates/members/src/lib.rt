@@ -3,4 +3,6 @@
 #![tactic(auto)]
 
 pub mod fields;
+pub mod handles;
 pub mod items;
+pub mod kinds;

@@ -1,8 +1,8 @@
 -- What the crates above may rest on: everything of an accepted image is well formed at its place, and is this part of its schema.
 -- From `read_image` to `Accepted`; from `entry` to a declaration; from a declaration to its items or its inner type; from an item to its
 -- name, its type, its fields; from a type to its inner types. Assumes nothing.
-use mathlib.Core.Path.{◌≡◌, refl, sym, ◌∙◌}
-use Rattle.std.specs.Prelude.{Option, None, Some, Ok, Err}
+use mathlib.Core.Path.{◌≡◌, refl, sym, ap, ◌∙◌}
+use Rattle.std.specs.Prelude.{Option, None, Some, Result, Ok, Err, ⊤}
 use mathlib.Core.List.{List, [], ◌∷◌}
 use Prim.Native.Nat.{ℕ, ◌-◌, ◌≤◌, ◌<◌}
 use native.Mathlib.Omega.{arith}
@@ -13,8 +13,10 @@ use Rattle.image.specs.Image.{read_image}
 use Rattle.image.specs.WellFormed.{Good, value_or}
 use Rattle.image.specs.Numbers.{refusal_number}
 use Rattle.image.specs.declared.refusals.Refusal.{Refusal}
-use Rattle.reader.specs.Answer.{Acceptance, Answers}
+use Rattle.reader.specs.Answer.{Acceptance, Answers, refused_by, refusal_in}
 use Rattle.reader.proofs.Laws.Answers.{accepted_good, rejected_no}
+use Rattle.parts.specs.Handles.{Reads}
+use Rattle.parts.specs.declared.handles.Image.{Image}
 use Rattle.parts.specs.Promise.{Accepted, schema_of, name_end, name_places, item_end, places_from, DeclHere, decl_in, Resolved}
 use Rattle.parts.specs.declared.Shape.{Shape}
 use Rattle.parts.proofs.Laws.Places.{places_none as by_none, places_more as by_more}
@@ -42,6 +44,28 @@ pub use Rattle.parts.proofs.Laws.Labels.{label_regular, bits_listed}
 pub accepted : (s : List ℕ) {r : Acceptance} → Answers (read_image s) r → r ≡ Ok tt → Accepted s
 unfolding Accepted
 accepted s a e = accepted_good (read_image s) e a
+
+-- what it answered, as the refusal that reading gives
+pub read_ok : (s : List ℕ) {r : Acceptance} {u : ⊤} → Answers (read_image s) r → r ≡ Ok u → None ≡ refusal_in (read_image s)
+unfolding refused_by
+read_ok s a e = sym (ap refused_by e) ∙ a.is
+
+pub read_err : (s : List ℕ) {r : Acceptance} {k : Refusal} → Answers (read_image s) r → r ≡ Err k → Some (refusal_number k) ≡ refusal_in (read_image s)
+unfolding refused_by
+read_err s a e = sym (ap refused_by e) ∙ a.is
+
+-- what `Image::read` answers: an image of these bytes, or their first refusal
+module _ {s : List ℕ} {r : Result Image Refusal} (h : Reads s r) where
+  pub read_bytes : {i : Image} → r ≡ Ok i → i.bytes.now ≡ s
+  read_bytes e = rw e at h.bytes
+
+  pub read_no : {k : Refusal} → r ≡ Err k → read_image s ≡ no (refusal_number k)
+  unfolding refusal_in
+  read_no {k} e = go (read_image s) (rw e at h.refusal)
+    where
+      go : (p : Parsed Schema) → Some (refusal_number k) ≡ refusal_in p → p ≡ no (refusal_number k)
+      go (ok x n) q = absurd (let z : ⊥ = cc in z)
+      go (no j) q = ap no (let d : j ≡ refusal_number k = cc in d)
 
 -- what it answered, as a parse: an accepted image holds its schema, and a rejected one has the answer's number
 module _ (s : List ℕ) where

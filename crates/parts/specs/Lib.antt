@@ -4,3 +4,5 @@ pub mod Promise
 pub mod Kinds
 pub mod Codes
 pub mod Numbers
+pub mod Props
+pub mod Handles

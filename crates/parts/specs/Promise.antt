@@ -61,6 +61,13 @@ NamesHere s count at = Good (names_at (number body_refusal) count s at)
 unfoldable pub name_places : List ℕ → ℕ → ℕ → List ℕ
 name_places s count at = places_by (name_end s) count at
 
+-- the names of a run are well formed, if there are any; and these are they
+unfoldable pub NamesIn : List ℕ → Run → Type 0
+NamesIn s n = 0 < n.count → NamesHere s n.count n.start
+
+unfoldable pub names_in : List ℕ → Run → List Name
+names_in s n = map (name_in s) (name_places s n.count n.start)
+
 -- the place after so many names
 unfoldable pub names_end : List ℕ → ℕ → ℕ → ℕ
 names_end s count at = end_of (names_at (number body_refusal) count s at)

@@ -5,6 +5,7 @@
 
 pub mod decls;
 pub mod entries;
+pub mod handles;
 pub mod names;
 pub mod starts;
 pub mod types;
@@ -28,7 +29,7 @@ pub struct Run {
 }
 
 // Deltas around a code: 0 default, 1 varint, 2 zigzag.
-#[derive(Clone, Copy)]
+#[derive(Clone, Copy, Debug, PartialEq, Eq)]
 pub struct Encoding {
     pub deltas: usize,
     pub base: u8,

@@ -1,0 +1,2 @@
+-- Runs: what the runs of items rest on.
+pub mod Runs

@@ -1,0 +1,23 @@
+-- What the handles of items stand for. Assumes nothing.
+use Rattle.std.specs.Prelude.{◌≡◌}
+use Rattle.image.specs.Schema.{Field as FieldValue, Variant as VariantValue}
+use Rattle.parts.specs.Promise.{field_in, variant_in}
+use Rattle.parts.specs.declared.Shape.{Shape}
+use Rattle.parts.specs.declared.Run.{Run}
+use Rattle.parts.specs.declared.handles.Image.{Image}
+use Rattle.members.specs.declared.handles.Items.{Items}
+use Rattle.members.specs.declared.handles.Field.{Field}
+use Rattle.members.specs.declared.handles.Variant.{Variant}
+
+-- the items of a shape that stand in an image, in a run of places
+pub record ItemsAt (i : Image) (h : Shape) (n : Run) (r : Items) : Type 0 where
+  pub image : r.image ≡ i
+  pub shape : r.shape ≡ h
+  pub run : r.run ≡ n
+
+-- the field that a handle stands for, and the union's variant
+abbrev pub field_of : Field → FieldValue
+field_of f = field_in f.item.image.bytes.now f.item.at
+
+abbrev pub variant_of : Variant → VariantValue
+variant_of v = variant_in v.item.image.bytes.now v.item.at

@@ -1,0 +1,148 @@
+// The items of declarations, as values that know what they are: a run of items, an item; and a declaration of a kind, with what it holds.
+ghost use Rattle.std.specs.Prelude.{◌≡◌, ◌+◌};
+ghost use Rattle.image.specs.Codes.{number};
+ghost use Rattle.parts.specs.declared.Shape.{Shape};
+ghost use Rattle.parts.specs.Promise.{ItemsHere, ItemHere, items_in, variant_items, ordinal_in, item_name, item_end, field_in, coding_of};
+ghost use Rattle.parts.specs.Handles.{tree_of};
+ghost use Rattle.members.specs.Props.{items_prop, item_prop};
+
+use crate::{fields, items};
+use parts::handles::{Decl, Image, TypeRef};
+use parts::kinds::Kind;
+use parts::{Encoding, Run, Shape};
+
+// So many items of a shape in an image, one after the other.
+#[derive(Clone, Copy)]
+pub struct Items<'a> {
+    pub image: Image<'a>,
+    pub shape: Shape,
+    pub run: Run,
+    pub ghost here: { ItemsHere shape image.bytes.now run.count run.start } by { items_prop shape image.bytes.now run.count run.start },
+}
+
+// An item of a shape in an image.
+#[derive(Clone, Copy)]
+pub struct Item<'a> {
+    pub image: Image<'a>,
+    pub shape: Shape,
+    pub at: usize,
+    pub ghost here: { ItemHere shape image.bytes.now at } by { item_prop shape image.bytes.now at },
+}
+
+impl<'a> Item<'a> {
+    // Of flags it is the bit.
+    #[tactic(auto, using(parts::proofs::Promise::item_bare))]
+    pub fn ordinal(self) -> u32
+        ensures { result ≡ ordinal_in self.entry.image.bytes.now self.entry.at }
+    {
+        items::ordinal_at(self.image.bytes, self.at)
+    }
+
+    #[tactic(auto, using(parts::proofs::Promise::item_bare))]
+    pub fn name(self) -> &'a [u8]
+        ensures { result.now ≡ item_name self.entry.image.bytes.now self.entry.at }
+    {
+        items::item_name(self.image.bytes, self.at)
+    }
+
+    // The place after it, where the next one starts.
+    pub fn end(self) -> usize
+        ensures { result ≡ item_end self.entry.shape self.entry.image.bytes.now self.entry.at }
+    {
+        items::item_end(self.image.bytes, self.shape, self.at)
+    }
+}
+
+// A field: of a message, or of a union's variant.
+#[derive(Clone, Copy)]
+pub struct Field<'a> {
+    pub item: Item<'a>,
+    pub ghost is: { item.shape ≡ Shape.Field },
+}
+
+// A variant of a union.
+#[derive(Clone, Copy)]
+pub struct Variant<'a> {
+    pub item: Item<'a>,
+    pub ghost is: { item.shape ≡ Shape.Variant },
+}
+
+impl<'a> Field<'a> {
+    ghost use Rattle.members.specs.Handles.{field_of};
+
+    #[tactic(auto, using(parts::proofs::Promise::field_ordinal))]
+    pub fn ordinal(self) -> u32
+        ensures { result ≡ (field_of self.entry).ordinal }
+    {
+        let item = self.item;
+        item.ordinal()
+    }
+
+    #[tactic(auto, using(parts::proofs::Promise::field_name))]
+    pub fn name(self) -> &'a [u8]
+        ensures { result.now ≡ (field_of self.entry).name }
+    {
+        let item = self.item;
+        item.name()
+    }
+
+    // Whether it is marked as deprecated.
+    pub fn deprecated(self) -> bool
+        ensures { result ≡ (field_of self.entry).marks.deprecated }
+    {
+        fields::field_deprecated(self.item.image.bytes, self.item.at)
+    }
+
+    pub fn encoding(self) -> Encoding
+        ensures { coding_of result ≡ (field_of self.entry).encoding }
+    {
+        fields::field_encoding(self.item.image.bytes, self.item.at)
+    }
+
+    // The limit, if it has one.
+    pub fn limit(self) -> Option<u64>
+        ensures { result ≡ (field_of self.entry).limit }
+    {
+        fields::field_limit(self.item.image.bytes, self.item.at)
+    }
+
+    // The type.
+    #[tactic(auto, using(parts::proofs::Promise::field_type_here, parts::proofs::Promise::field_type))]
+    pub fn ty(self) -> TypeRef<'a>
+        ensures image { result.image ≡ self.entry.item.image }
+        ensures left { result.left ≡ 32 }
+        ensures tree { tree_of result ≡ (field_of self.entry).type }
+    {
+        let item = self.item;
+        TypeRef {
+            image: item.image,
+            at: fields::field_type(item.image.bytes, item.at),
+            left: 32,
+        }
+    }
+}
+
+impl<'a> Variant<'a> {
+    ghost use Rattle.members.specs.Handles.{ItemsAt, variant_of};
+
+    #[tactic(auto, using(parts::proofs::Promise::variant_name_lem))]
+    pub fn name(self) -> &'a [u8]
+        ensures { result.now ≡ (variant_of self.entry).name }
+    {
+        let variant = self.item;
+        variant.name()
+    }
+
+    // Its fields.
+    #[tactic(auto, using(crate::proofs::Runs::variant_fields))]
+    pub fn fields(self) -> Items<'a>
+        ensures { ItemsAt self.entry.item.image Shape.Field (variant_items self.entry.item.image.bytes.now self.entry.item.at) result }
+    {
+        let item = self.item;
+        Items {
+            image: item.image,
+            shape: Shape::Field,
+            run: items::variant_items(item.image.bytes, item.at),
+        }
+    }
+}
