@@ -1,3 +1,3 @@
--- Words: words by their number. Display: texts at places of an image.
+-- Words: words by their number. Display: how namespaces are shown, and a text so many times.
 pub mod Words
 pub mod Display

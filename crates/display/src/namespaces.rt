@@ -1,16 +1,16 @@
 // How the namespace of an image is shown.
-ghost use Rattle.parts.specs.Promise.{Accepted, schema_of};
+ghost use Rattle.parts.specs.Handles.{schema_in};
 ghost use Rattle.text.specs.Writers.{Adds};
 ghost use Rattle.display.specs.Display.{dotted};
 
 use crate::names::names_display;
-use parts::entries::segments;
+use parts::handles::Image;
 use text::Writer;
 
 // The segments with a `.` between each two.
-pub fn namespace_display(w: &mut Writer<'_>, image: &[u8])
-    requires { Accepted image.now }
-    ensures { Adds w.old (dotted (schema_of image.now).namespace) w.new }
+#[tactic(auto, unfolding(image::specs::Words::bytes))]
+pub fn namespace_display(w: &mut Writer<'_>, image: Image<'_>)
+    ensures { Adds w.old (dotted (schema_in image.entry).namespace) w.new }
 {
-    names_display(w, image, segments(image), b".");
+    names_display(w, image.namespace(), b".");
 }

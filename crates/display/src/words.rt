@@ -1,14 +1,73 @@
-// Words by their number.
+// Words by their number or tag, from one text, in which a space stands after each word. A table of references to words would be memory that
+// is written to when the library is loaded.
+ghost use Rattle.std.specs.Prelude.{[], ◌∷◌, ◌≡◌};
+ghost use Rattle.parts.specs.Numbers.{tag_number};
+ghost use Rattle.rules.specs.Text.{word, primitive_word, semantic_word, opening};
 ghost use Rattle.text.specs.Writers.{Adds};
 ghost use Rattle.display.specs.Words.{word_in};
 
+use parts::tags::Tag;
 use text::Writer;
 
 // The word with a number. What is past the last word is empty.
-pub fn put_word(w: &mut Writer<'_>, words: &[&[u8]], number: usize)
+#[tactic(auto, using(text::proofs::Writers::after_after, crate::proofs::Laws::Words::scanning))]
+pub fn put_word(w: &mut Writer<'_>, words: &[u8], number: usize)
     ensures { Adds w.old (word_in words.now number) w.new }
 {
-    if number < words.len() {
-        w.text(words[number]);
+    let mut left = number;
+    for byte in words {
+        if *byte == b' ' {
+            if left == 0 {
+                return;
+            }
+            left -= 1;
+        } else if left == 0 {
+            w.byte(*byte);
+        }
     }
+}
+
+// A primitive type, by its code.
+pub(crate) fn put_primitive(w: &mut Writer<'_>, code: u8)
+    ensures { Adds w.old (primitive_word code) w.new }
+{
+    let words = b"bool u8 u16 u32 u64 i8 i16 i32 i64 f32 f64 fixed32 fixed64 void ";
+    put_word(w, words, code as usize);
+}
+
+// A semantic type, by its code.
+pub(crate) fn put_semantic(w: &mut Writer<'_>, code: u8)
+    ensures { Adds w.old (semantic_word code) w.new }
+{
+    put_word(w, b"string bytes rgb uuid timestamp hash ", code as usize);
+}
+
+// The letter of a sub-byte, by its sign.
+pub(crate) fn put_sign(w: &mut Writer<'_>, sign: u8)
+    ensures { Adds w.old (word ("u" ∷ "i" ∷ []) sign) w.new }
+{
+    put_word(w, b"u i ", sign as usize);
+}
+
+// A coding without its deltas, by its code.
+pub(crate) fn put_coding(w: &mut Writer<'_>, base: u8)
+    ensures { Adds w.old (word ("default" ∷ "varint" ∷ "zigzag" ∷ []) base) w.new }
+{
+    put_word(w, b"default varint zigzag ", base as usize);
+}
+
+// A tag's number.
+fn number_of(tag: Tag) -> usize
+    ensures { result ≡ tag_number tag }
+{
+    tag as usize
+}
+
+// What stands before inner types. The four tags before Optional have no opening: empty words.
+pub(crate) fn put_opening(w: &mut Writer<'_>, tag: Tag)
+    ensures { Adds w.old (opening (tag_number tag)) w.new }
+{
+    let words =
+        b"    optional< array< array< set< map< result< vec2< vec3< vec4< quat< mat3< mat4< ";
+    put_word(w, words, number_of(tag));
 }

@@ -11,7 +11,10 @@ use native.Mathlib.Nat.{zero-add}
 use lib.ListN.{length}
 use lib.Seq.{take_all}
 use Rattle.parts.specs.Promise.{Accepted, schema_of}
-use Rattle.parts.proofs.Promise.{accepted_read, read_accepted}
+use Rattle.image.specs.declared.refusals.Refusal.{Refusal}
+use Rattle.parts.specs.Handles.{Reads}
+use Rattle.parts.specs.declared.handles.Image.{Image}
+use Rattle.parts.proofs.Promise.{accepted_read, read_accepted, read_no}
 use Rattle.text.specs.Text.{put}
 use Rattle.text.specs.Writers.{Fills}
 use Rattle.rules.specs.Outcome.{Outcome, refused, answered, text_only, fit, text_length, written}
@@ -21,8 +24,12 @@ use Rattle.rules.specs.Refusals.{OneToTen, Decided, old_refused, old_alone, new_
 use Rattle.rules.proofs.Answer.{decided}
 use Rattle.tally.specs.Tallies.{no_change}
 use Rattle.tally.specs.declared.Tally.{Tally}
-use Rattle.verdicts.specs.Verdicts.{refused_by, of_tally, verdict_is}
+use Rattle.verdicts.specs.Verdicts.{refused_by, answer_values, of_tally, outcome_values}
+use Rattle.verdicts.specs.declared.Fault.{Fault}
 use Rattle.verdicts.specs.declared.Verdict.{Verdict}
+use Rattle.verdicts.specs.declared.Values.{Values}
+use Rattle.verdicts.proofs.Selectors.{refusal_some}
+use Rattle.std.specs.Prelude.{Result, Ok, Err}
 use Rattle.listing.specs.Listing.{listing, accept, outcome, Wrote}
 use Rattle.listing.specs.Refusals.{RefusedBy}
 use Rattle.listing.proofs.Bounds.{listing_small}
@@ -49,13 +56,13 @@ module _ (s : List ℕ) (g : Accepted s) where
   measured_is q = omega (arith, q, listing_small s g)
 
   module _ (room : ℕ) {n : ℕ} (p : n ≡ length (text s)) where
-    pub measured_full : room < n → refused_by 12 (number old_side) ≡ verdict_is (outcome s room)
-    unfolding verdict_is
-    measured_full h = sym (ap verdict_is (full_is room (omega arith)))
+    pub measured_full : room < n → refused_by 12 (number old_side) ≡ outcome_values (outcome s room)
+    unfolding outcome_values
+    measured_full h = sym (ap outcome_values (full_is room (omega arith)))
 
-    pub measured_fits : n ≤ room → {t : Tally} → t ≡ no_change → of_tally t n ≡ verdict_is (outcome s room)
-    unfolding verdict_is of_tally no_change
-    measured_fits h q = rw (q, p) (sym (ap verdict_is (fits_is room (omega arith))))
+    pub measured_fits : n ≤ room → {t : Tally} → t ≡ no_change → of_tally t n ≡ outcome_values (outcome s room)
+    unfolding outcome_values of_tally no_change
+    measured_fits h q = rw (q, p) (sym (ap outcome_values (fits_is room (omega arith))))
 
 -- ---- the three cases of an image and a buffer
 
@@ -87,30 +94,24 @@ module _ (s : List ℕ) (room : ℕ) where
 
 -- ---- the listing call, by what is said first
 
-module _ (s d : List ℕ) {v : Verdict} (e : v ≡ verdict_is (outcome s (length d))) where
-  number_is : v.number ≡ (verdict_is (outcome s (length d))).number
-  number_is = ap (λ (u : Verdict). u.number) e
-
-  pub call_refused : (v.number ≡ 0 → ⊥) → Wrote s d 0 d
-  unfolding verdict_is text_length written
-  call_refused n = go (outcome s (length d)) refl
+module _ (s d : List ℕ) {w : Result Verdict Fault} where
+  pub call_refused : {f : Fault} → w ≡ Err f → answer_values w ≡ outcome_values (outcome s (length d)) → Wrote s d 0 d
+  unfolding answer_values outcome_values refused_by text_length written
+  call_refused {f} p e = go (outcome s (length d)) refl
     where
       go : (o : Outcome) → outcome s (length d) ≡ o → Wrote s d 0 d
       go (refused k side) q = (rw q, rw q)
-      go (answered a) q = absurd (n (number_is ∙ rw q))
+      go (answered a) q = absurd (refusal_some f.refusal (sym (ap (λ (r : Result Verdict Fault). (answer_values r).number) p) ∙ ap (λ (u : Values). u.number) e ∙ rw q))
 
-  module _ (z : v.number ≡ 0) where
+  module _ {v : Verdict} (p : w ≡ Ok v) (e : answer_values w ≡ outcome_values (outcome s (length d))) where
     ready : Accepted s × (length (text s) ≤ length d)
-    unfolding verdict_is refused_by
-    ready = go (case s (length d)) (sym number_is ∙ z)
+    unfolding answer_values outcome_values refused_by
+    ready = go (case s (length d)) (sym (ap (λ (u : Values). u.number) e) ∙ ap (λ (r : Result Verdict Fault). (answer_values r).number) p)
       where
-        go : {o : Outcome} → Case s (length d) o → (verdict_is o).number ≡ 0 → Accepted s × (length (text s) ≤ length d)
+        go : {o : Outcome} → Case s (length d) o → (outcome_values o).number ≡ 0 → Accepted s × (length (text s) ≤ length d)
         go (turned l p) q = absurd (omega arith)
         go (full g l) q = absurd (omega arith)
         go (fits g l) q = (g, l)
-
-    pub call_accepted : Accepted s
-    call_accepted = ready.0
 
     pub call_done : {r : ℕ} {d' : List ℕ} → Fills d (text s) r d' → Wrote s d r d'
     unfolding text_length written put
@@ -118,3 +119,8 @@ module _ (s d : List ℕ) {v : Verdict} (e : v ≡ verdict_is (outcome s (length
         let q = fits_is s ready.0 (length d) ready.1 in
         let all = take_all (length d) (text s) ready.1 in
         (rw q (measured_is s ready.0 f.long), rw q (f.bytes ∙ rw (all, zero-add (length (text s)))))
+
+-- an image that is refused
+pub refused_read : {s d : List ℕ} {r : Result Image Refusal} → Reads s r → {k : Refusal} → r ≡ Err k → Wrote s d 0 d
+unfolding outcome accept fit text_length written
+refused_read h e = (rw (read_no h e), rw (read_no h e))

@@ -1,24 +1,33 @@
 -- Declarations marked: one by its kind, the entry of an id, the survivors by rising name. Assumes nothing.
 use mathlib.Core.Path.{◌≡◌, refl, sym, ap, ◌∙◌}
-use mathlib.Core.Bool.{Bool, true, false≢true}
+use mathlib.Core.Bool.{Bool, true, false, false≢true}
 use mathlib.Core.List.{List, [], flat_map, append-nil}
-use Prim.Native.Nat.{ℕ, ◌<◌}
+use Prim.Native.Nat.{ℕ, zero, suc, ◌<◌}
+use native.Mathlib.Omega.{arith}
 use borrow.Author.Tests.{eqb-true}
 use lib.Dec.{eqb}
 use Rattle.std.specs.Prelude.{Option, None, Some}
-use Rattle.std.specs.Option.{option_eq}
+use Rattle.std.specs.Option.{option_map}
 use Rattle.maps.specs.Keyed.{lookup}
 use Rattle.maps.specs.Orders.{before}
 use Rattle.maps.specs.Compare.{between}
-use Rattle.image.specs.Schema.{Name, Decl}
-use Rattle.image.specs.declared.kinds.Kind.{Kind}
-use Rattle.image.specs.declared.kinds.Kind.TheVariants as kind
-use Rattle.parts.specs.Numbers.{kind_number}
+use Rattle.image.specs.Schema.{Name, Decl as Declaration}
 use Rattle.parts.specs.Kinds.{kind_of}
-use Rattle.parts.specs.Promise.{schema_of, TypeHere, tree_in, DeclHere, decl_in, items_in, inner_place, ItemsHere, EntryHere, Resolved}
-use Rattle.parts.specs.declared.Run.{Run}
+use Rattle.parts.specs.Promise.{decl_in, items_in}
+use Rattle.parts.specs.Handles.{schema_in, decl_of, tree_of, Resolves}
 use Rattle.parts.specs.declared.Shape.{Shape}
-use Rattle.parts.proofs.Promise.{message_listed, union_listed, inner_here, inner_tree, resolved_here, resolved_body, resolved_none}
+use Rattle.parts.specs.declared.handles.Image.{Image}
+use Rattle.parts.specs.declared.handles.Decl.{Decl}
+use Rattle.parts.specs.declared.handles.TypeRef.{TypeRef}
+use Rattle.parts.proofs.Promise.{message_listed, union_listed}
+use Rattle.members.specs.Handles.{ItemsAt}
+use Rattle.members.specs.Kinds.{Sorted}
+use Rattle.members.specs.declared.handles.Items.{Items}
+use Rattle.members.specs.declared.kinds.Message.{Message}
+use Rattle.members.specs.declared.kinds.Union.{Union}
+use Rattle.members.specs.declared.kinds.Newtype.{Newtype}
+use Rattle.members.specs.declared.kinds.ByKind.{ByKind}
+use Rattle.members.specs.declared.kinds.ByKind.TheVariants as by
 use Rattle.rules.specs.Survivors.{stands_for, name_of, declarations, view_of}
 use Rattle.rules.specs.Clauses.{types_of}
 use Rattle.rules.specs.Reached.{named_in, named_of, named_by, named_from, IdSet}
@@ -27,136 +36,157 @@ use Rattle.rules.proofs.ReachedSets.{mark_all_kept}
 use Rattle.rules.proofs.Reached.{named_from_lem, survivor_named}
 use Rattle.rules.proofs.Standing.{standing_none, view_rises}
 use Rattle.survivors.specs.Answers.{Survives, Follows}
-use Rattle.survivors.proofs.Declarations.{survives_body, follows_here}
+use Rattle.survivors.proofs.Declarations.{survives_body, survives_image, follows_image}
+use Rattle.survivors.proofs.Runs.{listed_hold}
 use Rattle.survivors.proofs.Walks.{rest_decls, decls_left, decls_start, decls_done, decls_turn, decls_less}
 use Rattle.reached.specs.Marks.{Started, Marked, StandsAt}
 use Rattle.reached.specs.Named.{named_items}
-use Rattle.reached.proofs.Marking.{marked_none, marked_as, Owing, owing_start, owing_ready, owing_turn, owing_done}
-use Rattle.reached.proofs.Walks.{fields_named, variants_named, each, listed_here, listed_marked}
+use Rattle.reached.proofs.Marking.{ready_in, marked_in, marked_none, marked_as, Owing, owing_start, owing_ready, owing_turn, owing_done}
+use Rattle.reached.proofs.Walks.{fields_named, variants_named, each, listed_marked}
 
 -- ---- a declaration by its kind
 
-no_types : (k : Kind) (d : Decl) → (k ≡ kind.Message → ⊥) → (k ≡ kind.Union → ⊥) → (k ≡ kind.Newtype → ⊥) → types_of (kind_of (kind_number k)) d ≡ []
+no_types : (n : ℕ) (d : Declaration) → (n ≡ 0 → ⊥) → (n ≡ 3 → ⊥) → (n ≡ 4 → ⊥) → types_of (kind_of n) d ≡ []
 unfolding types_of kind_of
-no_types kind.Message d a b c = absurd (a refl)
-no_types kind.Enum d a b c = refl
-no_types kind.Flags d a b c = refl
-no_types kind.Union d a b c = absurd (b refl)
-no_types kind.Newtype d a b c = absurd (c refl)
-no_types kind.Config d a b c = refl
-no_types kind.Alias d a b c = refl
-no_types kind.Trait d a b c = refl
-no_types kind.Impl d a b c = refl
+no_types zero d a b c = absurd (a refl)
+no_types (suc zero) d a b c = refl
+no_types (suc (suc zero)) d a b c = refl
+no_types (suc (suc (suc zero))) d a b c = absurd (b refl)
+no_types (suc (suc (suc (suc zero)))) d a b c = absurd (c refl)
+no_types (suc (suc (suc (suc (suc zero))))) d a b c = refl
+no_types (suc (suc (suc (suc (suc (suc zero)))))) d a b c = refl
+no_types (suc (suc (suc (suc (suc (suc (suc zero))))))) d a b c = refl
+no_types (suc (suc (suc (suc (suc (suc (suc (suc zero)))))))) d a b c = refl
+no_types (suc (suc (suc (suc (suc (suc (suc (suc (suc n))))))))) d a b c = refl
 
--- k is the kind
-module _ (s : List ℕ) (at : ℕ) (g : DeclHere s at) (k : Kind) (e : kind_number k ≡ (decl_in s at).kind) where
-  -- a kind that is known
-  kind_is : {c : Kind} → k ≡ c → (decl_in s at).kind ≡ kind_number c
-  kind_is z = sym e ∙ ap kind_number z
+-- a kind that is known
+named_kind : (d : Declaration) {c : ℕ} → d.kind ≡ c → flat_map named_in (types_of (kind_of c) d) ≡ named_of d
+unfolding named_of
+named_kind d z = ap (λ c. flat_map named_in (types_of (kind_of c) d)) (sym z)
 
-  named_kind : {c : Kind} → k ≡ c → flat_map named_in (types_of (kind_of (kind_number c)) (decl_in s at)) ≡ named_of (decl_in s at)
-  unfolding named_of
-  named_kind z = ap (λ c. flat_map named_in (types_of (kind_of c) (decl_in s at))) (sym (kind_is z))
+-- a declaration of a kind, by what it holds
+module _ {d : Decl} where
+  pub message_marked : (a : Message) → a.decl ≡ d → {x : Items} → ItemsAt a.decl.image Shape.Field (items_in a.decl.image.bytes.now a.decl.at) x → {m n : IdSet}
+      → Marked x.image m (named_items Shape.Field x) n → Marked d.image m (named_of (decl_of d)) n
+  unfolding types_of kind_of
+  message_marked a e f k =
+      let l = message_listed a.decl.image.bytes.now a.decl.at a.decl.here a.is in
+      rw e at (marked_in f.image (marked_as (listed_marked (listed_hold f l) k) (sym (fields_named (decl_of a.decl).fields) ∙ named_kind (decl_of a.decl) a.is)))
 
-  module _ (z : k ≡ kind.Message) {r : Run} (f : r ≡ items_in s at) where
-    pub message_fields : ItemsHere Shape.Field s r.count r.start
-    message_fields = listed_here Shape.Field s (message_listed s at g (kind_is z)) f
+  pub union_marked : (a : Union) → a.decl ≡ d → {x : Items} → ItemsAt a.decl.image Shape.Variant (items_in a.decl.image.bytes.now a.decl.at) x → {m n : IdSet}
+      → Marked x.image m (named_items Shape.Variant x) n → Marked d.image m (named_of (decl_of d)) n
+  unfolding types_of kind_of
+  union_marked a e f k =
+      let l = union_listed a.decl.image.bytes.now a.decl.at a.decl.here a.is in
+      rw e at (marked_in f.image (marked_as (listed_marked (listed_hold f l) k) (sym (variants_named (decl_of a.decl).variants) ∙ named_kind (decl_of a.decl) a.is)))
 
-    pub message_marked : {m n : IdSet} → Marked s m (named_items Shape.Field s r) n → Marked s m (named_of (decl_in s at)) n
-    unfolding types_of kind_of
-    message_marked d =
-        marked_as (listed_marked Shape.Field s (message_listed s at g (kind_is z)) f d) (sym (fields_named (decl_in s at).fields) ∙ named_kind z)
+  pub newtype_marked : (a : Newtype) → a.decl ≡ d → (t : TypeRef) → t.image ≡ a.decl.image → tree_of t ≡ (decl_of a.decl).inner → {m n : IdSet}
+      → Marked t.image m (named_in (tree_of t)) n → Marked d.image m (named_of (decl_of d)) n
+  unfolding types_of kind_of flat_map
+  newtype_marked a e t f g k =
+      rw e at (marked_as (marked_in f k)
+      (ap named_in g ∙ (sym (append-nil (named_in (decl_of a.decl).inner)) ∙ named_kind (decl_of a.decl) a.is)))
 
-  module _ (z : k ≡ kind.Union) {r : Run} (f : r ≡ items_in s at) where
-    pub union_variants : ItemsHere Shape.Variant s r.count r.start
-    union_variants = listed_here Shape.Variant s (union_listed s at g (kind_is z)) f
+other_names : (d : Decl) → ((decl_of d).kind ≡ 0 → ⊥) → ((decl_of d).kind ≡ 3 → ⊥) → ((decl_of d).kind ≡ 4 → ⊥) → {m : IdSet}
+    → Marked d.image m (named_of (decl_of d)) m
+unfolding flat_map
+other_names d a b c = marked_as marked_none (ap (flat_map named_in) (sym (no_types (decl_of d).kind (decl_of d) a b c)) ∙ named_kind (decl_of d) refl)
 
-    pub union_marked : {m n : IdSet} → Marked s m (named_items Shape.Variant s r) n → Marked s m (named_of (decl_in s at)) n
-    unfolding types_of kind_of
-    union_marked d =
-        marked_as (listed_marked Shape.Variant s (union_listed s at g (kind_is z)) f d) (sym (variants_named (decl_in s at).variants) ∙ named_kind z)
-
-  module _ (z : k ≡ kind.Newtype) {p : ℕ} (f : p ≡ inner_place s at) where
-    pub newtype_inner : TypeHere 32 s p
-    newtype_inner = rw f (inner_here s at g (kind_is z))
-
-    pub newtype_marked : {m n : IdSet} → Marked s m (named_in (tree_in s p)) n → Marked s m (named_of (decl_in s at)) n
-    unfolding types_of kind_of flat_map
-    newtype_marked d =
-        marked_as d (
-        ap (λ i. named_in (tree_in s i)) f
-        ∙ (ap named_in (sym (inner_tree s at g (kind_is z))) ∙ (sym (append-nil (named_in (decl_in s at).inner)) ∙ named_kind z))
-        )
-
-  pub other_marked : (k ≡ kind.Message → ⊥) → (k ≡ kind.Union → ⊥) → (k ≡ kind.Newtype → ⊥) → {m : IdSet} → Marked s m (named_of (decl_in s at)) m
-  unfolding flat_map
-  other_marked a b c = marked_as marked_none (ap (flat_map named_in) (sym (no_types k (decl_in s at) a b c)) ∙ named_kind refl)
+-- one that has no compared types
+pub other_marked : (d : Decl) (r : ByKind) → Sorted d r → ((a : Message) → r ≡ by.Message a → ⊥) → ((a : Union) → r ≡ by.Union a → ⊥)
+    → ((a : Newtype) → r ≡ by.Newtype a → ⊥) → {m : IdSet} → Marked d.image m (named_of (decl_of d)) m
+other_marked d (by.Message a) o x y z = absurd (x a refl)
+other_marked d (by.Enum a) o x y z =
+    let k : (decl_of d).kind ≡ 1 = ap (λ e. (decl_of e).kind) (sym o) ∙ a.is in
+    other_names d (λ e. absurd (omega arith)) (λ e. absurd (omega arith)) (λ e. absurd (omega arith))
+other_marked d (by.Flags a) o x y z =
+    let k : (decl_of d).kind ≡ 2 = ap (λ e. (decl_of e).kind) (sym o) ∙ a.is in
+    other_names d (λ e. absurd (omega arith)) (λ e. absurd (omega arith)) (λ e. absurd (omega arith))
+other_marked d (by.Union a) o x y z = absurd (y a refl)
+other_marked d (by.Newtype a) o x y z = absurd (z a refl)
+other_marked d by.Silent o x y z =
+    let k : 4 < (decl_of d).kind = o in
+    other_names d (λ e. absurd (omega arith)) (λ e. absurd (omega arith)) (λ e. absurd (omega arith))
 
 -- ---- the entry of an id
 
-module _ (s : List ℕ) (id : ℕ) {r : Option ℕ} (h : Resolved s id r) where
-  pub entry_none : r ≡ None → {m : IdSet} → Marked s m (named_by (stands_for (schema_of s).registry id)) m
+module _ {i : Image} {id : ℕ} {r : Option Decl} (h : Resolves i id r) where
+  pub entry_none : r ≡ None → {m : IdSet} → Marked i m (named_by (stands_for (schema_in i).registry id)) m
   unfolding named_by stands_for
-  entry_none e = marked_as marked_none (sym (ap named_by (resolved_none s id h e)))
+  entry_none e = marked_as marked_none (ap named_by (sym (ap (option_map decl_of) e) ∙ h.value))
 
-  module _ {at : ℕ} (e : r ≡ Some at) where
-    pub entry_marked : {m n : IdSet} → Marked s m (named_of (decl_in s at)) n → Marked s m (named_by (stands_for (schema_of s).registry id)) n
+  module _ {d : Decl} (e : r ≡ Some d) where
+    pub entry_image : d.image ≡ i
+    entry_image = rw e at h.image
+
+    pub entry_marked : {m n : IdSet} → Marked d.image m (named_of (decl_of d)) n → Marked i m (named_by (stands_for (schema_in i).registry id)) n
     unfolding named_by stands_for
-    entry_marked d = marked_as d (sym (ap named_by (resolved_body s id h e)))
+    entry_marked k = marked_as (marked_in entry_image k) (ap named_by (sym (ap (option_map decl_of) e) ∙ h.value))
 
     -- what a survivor names is marked already
-    pub entry_kept : {m : IdSet} → Started s m → {b : Bool} → StandsAt s at b → b ≡ true → Marked s m (named_by (stands_for (schema_of s).registry id)) m
-    entry_kept {m} w a t =
-        entry_marked (record {
-          is =
-              sym (mark_all_kept (schema_of s).registry m (named_of (decl_in s at))
-              (λ i n. w.first i (survivor_named (schema_of s) (decl_in s at).name (decl_in s at) (a.stands t) i n)));
-        })
+    pub entry_kept : {m : IdSet} → Started i m → {b : Bool} → StandsAt d b → b ≡ true → Marked i m (named_by (stands_for (schema_in i).registry id)) m
+    entry_kept {m} w a t = entry_marked kept
+      where
+        kept : Marked d.image m (named_of (decl_of d)) m
+        kept =
+            let w' = rw (← entry_image) at w in
+            record {
+              is =
+                  sym (mark_all_kept (schema_in d.image).registry m (named_of (decl_of d))
+                  (λ j n. w'.first j (survivor_named (schema_in d.image) (decl_of d).name (decl_of d) (a.stands t) j n)));
+            }
 
 -- ---- the survivors
 
 -- what comes next over the listed ids alone
-pub next_listed : (s : List ℕ) {after r : Option ℕ} → Follows (standing_with [] (schema_of s)) s after r → Follows (declarations (schema_of s)) s after r
-next_listed s h = rw (← standing_none (schema_of s)) h
+pub next_listed : {i : Image} {after r : Option Decl} → Follows (standing_with [] (schema_in i)) i after r → Follows (declarations (schema_in i)) i after r
+next_listed {i} h = rw (← standing_none (schema_in i)) h
 
--- found over them under the name of the declaration at a place
-pub stands_there : (s : List ℕ) (at : ℕ) {x : Name} → x ≡ (decl_in s at).name → {r : Option ℕ} → Survives (standing_with [] (schema_of s)) s x r
-    → {b : Bool} → b ≡ option_eq eqb r (Some at) → StandsAt s at b
-stands_there s at {x} q {r} h {b} e = record { stands = λ t. go r refl (sym e ∙ t) }
-  where
-    go : (o : Option ℕ) → r ≡ o → option_eq eqb o (Some at) ≡ true → lookup name_of before (decl_in s at).name (declarations (schema_of s)) ≡ Some (decl_in s at)
-    go None z t = absurd (false≢true t)
-    go (Some p) z t = rw (← q, ← standing_none (schema_of s)) (survives_body s x h z) ∙ ap (λ i. Some (decl_in s i)) (eqb-true p at t)
+-- what was found over them under the name of a declaration
+module _ {d : Decl} {name : Name} (q : name ≡ (decl_of d).name) {r : Option Decl} (h : Survives (standing_with [] (schema_in d.image)) d.image name r) where
+  pub stands_not : StandsAt d false
+  stands_not = record { stands = λ t. absurd (false≢true t) }
 
-unfoldable pub to_mark_decls : List ℕ → Option ℕ → List ℕ
-to_mark_decls s after = rest_decls (each named_of) (declarations (schema_of s)) s [] after
+  pub stands_there : {f : Decl} → r ≡ Some f → {b : Bool} → b ≡ eqb f.at d.at → StandsAt d b
+  stands_there {f} e {b} u = record { stands = told }
+    where
+      told : b ≡ true → lookup name_of before (decl_of d).name (declarations (schema_in d.image)) ≡ Some (decl_of d)
+      told t =
+          let here : f.at ≡ d.at = eqb-true _ _ (sym u ∙ t) in
+          rw (← q, ← standing_none (schema_in d.image)) (survives_body h e)
+          ∙ ap Some (ap (λ i. decl_in i.bytes.now f.at) (survives_image h e) ∙ ap (decl_in d.image.bytes.now) here)
 
-unfoldable pub left_decls : List ℕ → Option ℕ → ℕ
-left_decls s after = decls_left (declarations (schema_of s)) s after
+unfoldable pub to_mark_decls : Image → Option Decl → List ℕ
+to_mark_decls i after = rest_decls (each named_of) (declarations (schema_in i)) [] after
 
-pub decls_first : (s : List ℕ) {m : IdSet} → Owing s m (named_from (view_of (schema_of s))) m (to_mark_decls s None) × EntryHere s None
+unfoldable pub left_decls : Image → Option Decl → ℕ
+left_decls i after = decls_left (declarations (schema_in i)) after
+
+pub decls_first : {i : Image} {m : IdSet} → Owing i m (named_from (view_of (schema_in i))) m (to_mark_decls i None)
 unfolding view_of to_mark_decls between each
-decls_first s = (owing_start (named_from_lem (view_of (schema_of s)) ∙ sym (decls_start (each named_of) (declarations (schema_of s)) s [])), tt)
+decls_first {i} = owing_start (named_from_lem (view_of (schema_in i)) ∙ sym (decls_start (each named_of) (declarations (schema_in i)) []))
 
-module _ (s : List ℕ) (after : Option ℕ) {r : Option ℕ} (f : Follows (declarations (schema_of s)) s after r) where
-  pub decls_last : r ≡ None → {m₀ m : IdSet} {whole : List ℕ} → Owing s m₀ whole m (to_mark_decls s after) → Marked s m₀ whole m
+module _ {i : Image} {after r : Option Decl} (f : Follows (declarations (schema_in i)) i after r) where
+  pub decls_last : r ≡ None → {m₀ m : IdSet} {whole : List ℕ} → Owing i m₀ whole m (to_mark_decls i after) → Marked i m₀ whole m
   unfolding to_mark_decls
-  decls_last e w = owing_done w (decls_done (each named_of) (declarations (schema_of s)) s [] after f e)
+  decls_last e w = owing_done w (decls_done (each named_of) (declarations (schema_in i)) [] f e)
 
-  module _ {at : ℕ} (e : r ≡ Some at) where
-    pub decls_go : {m₀ m n : IdSet} {whole : List ℕ} → Owing s m₀ whole m (to_mark_decls s after) → Marked s m (named_of (decl_in s at)) n
-        → Owing s m₀ whole n (to_mark_decls s (Some at)) × EntryHere s (Some at)
+  module _ {d : Decl} (e : r ≡ Some d) where
+    pub decls_go : {m₀ m n : IdSet} {whole : List ℕ} → Owing i m₀ whole m (to_mark_decls i after) → Marked d.image m (named_of (decl_of d)) n
+        → Owing i m₀ whole n (to_mark_decls i (Some d))
     unfolding to_mark_decls each view_of
-    decls_go w d =
-        (owing_turn w (decls_turn (each named_of) (declarations (schema_of s)) s [] after f (view_rises (schema_of s)) e) d, follows_here s after f e)
+    decls_go w k =
+        owing_turn w (decls_turn (each named_of) (declarations (schema_in i)) [] f (view_rises (schema_in i)) e) (marked_in (follows_image f e) k)
 
-    pub decls_fewer : left_decls s (Some at) < left_decls s after
+    pub decls_fewer : left_decls i (Some d) < left_decls i after
     unfolding left_decls view_of
-    decls_fewer = decls_less (declarations (schema_of s)) (view_rises (schema_of s)) s after f e
+    decls_fewer = decls_less (view_rises (schema_in i)) f e
 
 -- what the code needs
-pub ruleset kinds = (message_fields, union_variants, newtype_inner)
+pub ruleset kinds = (message_marked, union_marked, newtype_marked, other_marked, ready_in)
 
-pub ruleset entries = (resolved_here, entry_none, entry_kept)
+pub ruleset entries = (entry_none, entry_image, entry_marked, entry_kept, ready_in)
 
-pub ruleset survivors = (decls_first, decls_last, decls_go, decls_fewer, owing_ready, follows_here)
+pub ruleset stands = (stands_not, stands_there)
+
+pub ruleset survivors = (decls_first, decls_last, decls_go, decls_fewer, owing_ready, follows_image, ready_in)

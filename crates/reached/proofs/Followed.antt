@@ -2,7 +2,7 @@
 -- are the least set and so the computed one. Assumes nothing.
 use mathlib.Core.Path.{◌≡◌, refl, sym, ◌∙◌, subst}
 use mathlib.Core.Bool.{Bool, true, false, not, ◌&&◌}
-use mathlib.Core.List.{List, [], ◌∷◌}
+use mathlib.Core.List.{[], ◌∷◌}
 use Prim.Native.Nat.{ℕ, zero, suc, ◌+◌, ◌≤◌, ◌<◌}
 use native.Mathlib.Omega.{arith}
 use borrow.Author.Tests.{eqb-true, eqb-false, not-true}
@@ -12,7 +12,8 @@ use lib.Seq.{length-take-le, get_or-set_other, get_or-take, ext_get_or}
 use Rattle.std.specs.Prelude.{Option, None, Some}
 use Rattle.maps.specs.Lists.{total, count}
 use Rattle.maps.proofs.Tests.{no_both, both}
-use Rattle.parts.specs.Promise.{Accepted, schema_of}
+use Rattle.parts.specs.Handles.{schema_in}
+use Rattle.parts.specs.declared.handles.Image.{Image}
 use Rattle.parts.proofs.Promise.{accepted_read}
 use Rattle.rules.specs.Survivors.{stands_for, view_of}
 use Rattle.rules.specs.Reached.{named_by, named_from, member, resolvable, IdSet, has, reached_set}
@@ -76,17 +77,17 @@ has_other f i id q h = rw (get_or-set_other f i id true false (eqb-false id i q)
 
 -- ---- while entries are followed: m are the marks, f those that are followed
 
-pub record Following (s : List ℕ) (m f : IdSet) : Type 0 where
-  pub started : Started s m
+pub record Following (x : Image) (m f : IdSet) : Type 0 where
+  pub started : Started x m
   pub marks : length m ≡ 512
   pub follows : length f ≡ 512
   -- all marks are of reached ids
-  pub within : Within (schema_of s) m
+  pub within : Within (schema_in x) m
   -- what is named by a followed entry is marked
-  pub closed : (via id : ℕ) → has f via ≡ true → member id (named_by (stands_for (schema_of s).registry via)) ≡ true
-      → resolvable (schema_of s).registry id ≡ true → has m id ≡ true
+  pub closed : (via id : ℕ) → has f via ≡ true → member id (named_by (stands_for (schema_in x).registry via)) ≡ true
+      → resolvable (schema_in x).registry id ≡ true → has m id ≡ true
 
-module _ {s : List ℕ} {m f : IdSet} (w : Following s m f) {n : ℕ} (e : n ≡ length (schema_of s).registry) where
+module _ {x : Image} {m f : IdSet} (w : Following x m f) {n : ℕ} (e : n ≡ length (schema_in x).registry) where
   pub following_count : (n ≤ length m) × (n ≤ length f)
   following_count = (omega (arith, w.started.ready.room), omega (arith, w.started.ready.room, w.marks, w.follows))
 
@@ -102,51 +103,51 @@ module _ {s : List ℕ} {m f : IdSet} (w : Following s m f) {n : ℕ} (e : n ≡
       pub turn_less : unfollowed (set f i true) < unfollowed f
       turn_less = fewer f i open_is.2 (omega (arith, open_inside, w.follows))
 
-      pub turn_following : {m' : IdSet} → Marked s m (named_by (stands_for (schema_of s).registry i)) m' → Following s m' (set f i true)
+      pub turn_following : {m' : IdSet} → Marked x m (named_by (stands_for (schema_in x).registry i)) m' → Following x m' (set f i true)
       turn_following {m'} d = record {
         started = record { ready = ready_after d w.started.ready; first = λ id h r. kept id (w.started.first id h r) };
         marks = marked_length d ∙ w.marks;
         follows = length-set f i true ∙ w.follows;
-        within = λ id h. within_marks (schema_of s) m i w.within (w.within i open_is.1) id (subst (λ x. has x id ≡ true) d.is h);
+        within = λ id h. within_marks (schema_in x) m i w.within (w.within i open_is.1) id (subst (λ y. has y id ≡ true) d.is h);
         closed = λ via id h k r. closing via id (eqb via i) refl h k r;
       }
         where
           kept : (id : ℕ) → has m id ≡ true → has m' id ≡ true
           kept id h =
-              subst (λ x. has x id ≡ true) (sym d.is)
-              (below_has (mark_all_below (schema_of s).registry m (named_by (stands_for (schema_of s).registry i))) id h)
+              subst (λ y. has y id ≡ true) (sym d.is)
+              (below_has (mark_all_below (schema_in x).registry m (named_by (stands_for (schema_in x).registry i))) id h)
 
-          inside : (id : ℕ) → resolvable (schema_of s).registry id ≡ true → id < length m
-          inside id r = omega (arith, resolvable_in (schema_of s).registry id r, w.started.ready.room)
+          inside : (id : ℕ) → resolvable (schema_in x).registry id ≡ true → id < length m
+          inside id r = omega (arith, resolvable_in (schema_in x).registry id r, w.started.ready.room)
 
           closing : (via id : ℕ) (c : Bool) → eqb via i ≡ c → has (set f i true) via ≡ true
-              → member id (named_by (stands_for (schema_of s).registry via)) ≡ true → resolvable (schema_of s).registry id ≡ true → has m' id ≡ true
+              → member id (named_by (stands_for (schema_in x).registry via)) ≡ true → resolvable (schema_in x).registry id ≡ true → has m' id ≡ true
           closing via id true q h k r =
-              subst (λ x. has x id ≡ true) (sym d.is)
-              (mark_all_has (schema_of s).registry m (named_by (stands_for (schema_of s).registry i)) id
-              (subst (λ x. member id (named_by (stands_for (schema_of s).registry x)) ≡ true) (eqb-true via i q) k) r (inside id r))
+              subst (λ y. has y id ≡ true) (sym d.is)
+              (mark_all_has (schema_in x).registry m (named_by (stands_for (schema_in x).registry i)) id
+              (subst (λ y. member id (named_by (stands_for (schema_in x).registry y)) ≡ true) (eqb-true via i q) k) r (inside id r))
           closing via id false q h k r = kept id (w.closed via id (has_other f i via q h) k r)
 
     -- the end
     module _ (l : r ≡ None) where
-      following_least : Least (schema_of s) m
+      following_least : Least (schema_in x) m
       following_least = record {
         within = w.within;
         first = w.started.first;
         closed = λ via id h k r.
             w.closed via id
-            (o.none l via (omega (arith, resolvable_in (schema_of s).registry via (reached_resolvable (schema_of s) (w.within via h)))) h)
+            (o.none l via (omega (arith, resolvable_in (schema_in x).registry via (reached_resolvable (schema_in x) (w.within via h)))) h)
             k r;
       }
 
-      marks_are : take n m ≡ reached_set (schema_of s)
+      marks_are : take n m ≡ reached_set (schema_in x)
       unfolding has
       marks_are =
           let t : length (take n m) ≡ n = length-take-le n m following_count.0 in
-          ext_get_or false (take n m) (reached_set (schema_of s)) (t ∙ (e ∙ sym (reached_is (schema_of s)).length))
-          (λ j k. get_or-take n m j false (omega arith) ∙ least_is (schema_of s) m following_least j)
+          ext_get_or false (take n m) (reached_set (schema_in x)) (t ∙ (e ∙ sym (reached_is (schema_in x)).length))
+          (λ j k. get_or-take n m j false (omega arith) ∙ least_is (schema_in x) m following_least j)
 
-      pub following_done : ReachedIn s (record { marks = m; count = n })
+      pub following_done : ReachedIn x (record { marks = m; count = n })
       following_done = record { count = e; marks = marks_are; few = omega (arith, following_count.0, w.marks); room = following_count.0 }
 
 -- ---- the start: what the survivors name is marked, and nothing is followed
@@ -155,22 +156,22 @@ module _ {s : List ℕ} {m f : IdSet} (w : Following s m f) {n : ℕ} (e : n ≡
 abbrev pub no_marks : IdSet
 no_marks = replicate 512 false
 
-module _ (s : List ℕ) (g : Accepted s) where
-  few_marks : length (schema_of s).registry ≤ length no_marks
-  few_marks = omega (arith, (accepted_held s (accepted_read s g).1).registry, length-replicate 512 false)
+module _ (x : Image) where
+  few_marks : length (schema_in x).registry ≤ length no_marks
+  few_marks = omega (arith, (accepted_held x.bytes.now (accepted_read x.bytes.now x.accepted).1).registry, length-replicate 512 false)
 
-  pub ready_start : Ready s no_marks
-  ready_start = record { accepted = g; room = few_marks }
+  pub ready_start : Ready x no_marks
+  ready_start = record { room = few_marks }
 
-  pub start_following : {m : IdSet} → Marked s no_marks (named_from (view_of (schema_of s))) m → Following s m no_marks
+  pub start_following : {m : IdSet} → Marked x no_marks (named_from (view_of (schema_in x))) m → Following x m no_marks
   start_following d = record {
     started = record {
       ready = ready_after d ready_start;
-      first = λ id h r. subst (λ x. has x id ≡ true) (sym d.is) (first_marks (schema_of s) no_marks few_marks id h r);
+      first = λ id h r. subst (λ y. has y id ≡ true) (sym d.is) (first_marks (schema_in x) no_marks few_marks id h r);
     };
     marks = marked_length d ∙ length-replicate 512 false;
     follows = length-replicate 512 false;
-    within = λ id h. within_first (schema_of s) 512 id (subst (λ x. has x id ≡ true) d.is h);
+    within = λ id h. within_first (schema_in x) 512 id (subst (λ y. has y id ≡ true) d.is h);
     closed = λ via id h k r. no_both h (no_marks_lem 512 via);
   }
 

@@ -7,20 +7,24 @@ use Rattle.std.specs.Prelude.{Option, None, Some}
 use Rattle.maps.specs.Compare.{between}
 use Rattle.maps.proofs.Lists.{all, flat_map_same, flat_map_flat_map}
 use Rattle.image.specs.Schema.{Field, Variant}
-use Rattle.parts.specs.Promise.{ItemOf, ItemHere, ItemsHere, type_place, TypeHere, tree_in, variant_items}
-use Rattle.parts.specs.declared.Run.{Run}
+use Rattle.parts.specs.Promise.{ItemOf, variant_items}
+use Rattle.parts.specs.Handles.{tree_of}
+use Rattle.parts.specs.declared.handles.TypeRef.{TypeRef}
 use Rattle.parts.specs.declared.Shape.{Shape}
-use Rattle.parts.proofs.Promise.{field_type, field_type_here, variant_listed}
+use Rattle.parts.proofs.Promise.{variant_listed}
+use Rattle.members.specs.Handles.{ItemsAt}
+use Rattle.members.specs.declared.handles.Items.{Items}
+use Rattle.members.specs.declared.handles.Item.{Item}
 use Rattle.rules.specs.Survivors.{field_map, variant_map}
 use Rattle.rules.specs.Clauses.{field_types, variant_types}
 use Rattle.rules.specs.Reached.{named_in, IdSet}
-use Rattle.survivors.specs.Answers.{ItemFollows}
-use Rattle.survivors.specs.Runs.{item_in, item_map, items_of, Holds}
-use Rattle.survivors.proofs.Runs.{run_holds, next_here}
+use Rattle.survivors.specs.Answers.{ordinal_at, ItemFollows}
+use Rattle.survivors.specs.Runs.{item_of, item_map, items_of, Holds}
+use Rattle.survivors.proofs.Runs.{items_hold, listed_hold, next_among, among_shape}
 use Rattle.survivors.proofs.Walks.{rest_items, items_left, items_start, items_done, items_turn, items_less}
 use Rattle.reached.specs.Marks.{Marked}
 use Rattle.reached.specs.Named.{item_names, named_items}
-use Rattle.reached.proofs.Marking.{marked_as, Owing, owing_start, owing_ready, owing_turn, owing_done}
+use Rattle.reached.proofs.Marking.{ready_in, marked_in, marked_as, Owing, owing_start, owing_ready, owing_turn, owing_done}
 
 -- ---- what fields and variants name, item by item
 
@@ -44,68 +48,64 @@ unfoldable pub each : {A : Type 0} → (A → List ℕ) → Option A → Option 
 each f None o = []
 each f (Some a) o = f a
 
-module _ (h : Shape) (s : List ℕ) (n : Run) where
+module _ (h : Shape) (x : Items) where
   -- what is yet to be marked after an ordinal, and how many items are
   unfoldable pub to_mark : Option ℕ → List ℕ
-  to_mark after = rest_items h (each (item_names h)) (items_of h s n) [] after
+  to_mark after = rest_items h (each (item_names h)) (items_of h x) [] after
 
   unfoldable pub left_in : Option ℕ → ℕ
-  left_in after = items_left h (items_of h s n) after
+  left_in after = items_left h (items_of h x) after
 
-  pub items_first : {m : IdSet} → Owing s m (named_items h s n) m (to_mark None)
+  pub items_first : {m : IdSet} → Owing x.image m (named_items h x) m (to_mark None)
   unfolding named_items to_mark between each
-  items_first = owing_start (sym (items_start h (each (item_names h)) (items_of h s n) []))
+  items_first = owing_start (sym (items_start h (each (item_names h)) (items_of h x) []))
 
-  module _ (g : ItemsHere h s n.count n.start) (after : Option ℕ) {o : Option (ℕ × ℕ)} (a : ItemFollows h s n after o) where
-    pub items_last : o ≡ None → {m₀ m : IdSet} {whole : List ℕ} → Owing s m₀ whole m (to_mark after) → Marked s m₀ whole m
+  -- o is the next of them
+  module _ (e : x.shape ≡ h) {after : Option ℕ} {o : Option Item} (a : ItemFollows x after o) where
+    pub items_last : o ≡ None → {m₀ m : IdSet} {whole : List ℕ} → Owing x.image m₀ whole m (to_mark after) → Marked x.image m₀ whole m
     unfolding to_mark
-    items_last e w = owing_done w (items_done h (each (item_names h)) (items_of h s n) [] s n (run_holds h s n g) after a e)
+    items_last f w = owing_done w (items_done h (each (item_names h)) (items_of h x) [] (items_hold h x e) a f)
 
-    module _ {k p : ℕ} (e : o ≡ Some (k, p)) where
-      pub item_here : ItemHere h s p
-      item_here = next_here h s n (run_holds h s n g) after a e
+    module _ {j : Item} (f : o ≡ Some j) where
+      pub item_shape : j.shape ≡ h
+      item_shape = among_shape (items_hold h x e) (next_among (items_hold h x e) a f)
 
-      pub items_go : {m₀ m m' : IdSet} {whole : List ℕ} → Owing s m₀ whole m (to_mark after) → Marked s m (item_names h (item_in h s p)) m'
-          → Owing s m₀ whole m' (to_mark (Some k))
+      pub item_image : j.image ≡ x.image
+      item_image = (next_among (items_hold h x e) a f).image
+
+      pub items_go : {k : ℕ} → k ≡ ordinal_at j → {m₀ m m' : IdSet} {whole : List ℕ} → Owing x.image m₀ whole m (to_mark after)
+          → Marked j.image m (item_names h (item_of h j)) m' → Owing x.image m₀ whole m' (to_mark (Some k))
       unfolding to_mark each
-      items_go w d = owing_turn w (items_turn h (each (item_names h)) (items_of h s n) [] s n (run_holds h s n g) after a e) d
+      items_go u w d =
+          owing_turn w (items_turn h (each (item_names h)) (items_of h x) [] (items_hold h x e) a f u) (marked_in item_image d)
 
-      pub items_fewer : left_in (Some k) < left_in after
+      pub items_fewer : {k : ℕ} → k ≡ ordinal_at j → left_in (Some k) < left_in after
       unfolding left_in
-      items_fewer = items_less h (items_of h s n) s n (run_holds h s n g) after a e
+      items_fewer u = items_less (items_hold h x e) a f u
 
--- ---- the items of a declaration or of a variant: r is their run
+-- ---- the items of a declaration or of a variant
 
-module _ (h : Shape) (s : List ℕ) {n r : Run} {xs : List (ItemOf h)} (l : Holds h s n xs) (f : r ≡ n) where
-  pub listed_here : ItemsHere h s r.count r.start
-  listed_here = rw f l.here
+pub listed_marked : {h : Shape} {x : Items} {xs : List (ItemOf h)} → Holds h x xs → {m m' : IdSet} → Marked x.image m (named_items h x) m'
+    → Marked x.image m (flat_map (item_names h) (item_map h xs)) m'
+unfolding named_items
+listed_marked {h} l d = marked_as d (ap (λ ys. flat_map (item_names h) (item_map h ys)) (sym l.are))
 
-  pub listed_marked : {m m' : IdSet} → Marked s m (named_items h s r) m' → Marked s m (flat_map (item_names h) (item_map h xs)) m'
-  unfolding named_items items_of
-  listed_marked d = marked_as d (ap (named_items h s) f ∙ ap (λ ys. flat_map (item_names h) (item_map h ys)) (sym l.are))
+-- ---- an item
 
--- ---- the item at a place
+module _ (j : Item) where
+  pub field_marked : (t : TypeRef) → t.image ≡ j.image → tree_of t ≡ (item_of Shape.Field j).type → {m m' : IdSet}
+      → Marked t.image m (named_in (tree_of t)) m' → Marked j.image m (item_names Shape.Field (item_of Shape.Field j)) m'
+  unfolding item_names
+  field_marked t f g d = marked_as (marked_in f d) (ap named_in g)
 
-module _ (s : List ℕ) (p : ℕ) where
-  module _ (g : ItemHere Shape.Field s p) {q : ℕ} (f : q ≡ type_place s p) where
-    pub field_typed : TypeHere 32 s q
-    field_typed = rw f (field_type_here s p g)
-
-    pub field_marked : {m m' : IdSet} → Marked s m (named_in (tree_in s q)) m' → Marked s m (item_names Shape.Field (item_in Shape.Field s p)) m'
-    unfolding item_names
-    field_marked d = marked_as d (ap named_in (ap (tree_in s) f ∙ sym (field_type s p g)))
-
-  module _ (g : ItemHere Shape.Variant s p) {q : Run} (f : q ≡ variant_items s p) where
-    pub variant_fields : ItemsHere Shape.Field s q.count q.start
-    variant_fields = listed_here Shape.Field s (variant_listed s p g) f
-
-    pub variant_marked : {m m' : IdSet} → Marked s m (named_items Shape.Field s q) m' → Marked s m (item_names Shape.Variant (item_in Shape.Variant s p)) m'
-    unfolding item_names
-    variant_marked d = listed_marked Shape.Field s (variant_listed s p g) f d
+  pub variant_marked : j.shape ≡ Shape.Variant → {y : Items} → ItemsAt j.image Shape.Field (variant_items j.image.bytes.now j.at) y → {m m' : IdSet}
+      → Marked y.image m (named_items Shape.Field y) m' → Marked j.image m (item_names Shape.Variant (item_of Shape.Variant j)) m'
+  unfolding item_names
+  variant_marked g f d = rw f.image at (listed_marked (listed_hold f (variant_listed j.image.bytes.now j.at (rw g at j.here))) d)
 
 -- what the code needs
-pub ruleset walked = (items_first, items_last, item_here, items_fewer, owing_ready)
+pub ruleset walked = (items_first, items_last, item_shape, item_image, items_go, items_fewer, owing_ready, ready_in)
 
-pub ruleset field_walk = (walked, field_typed)
+pub ruleset field_walk = (walked, field_marked)
 
-pub ruleset variant_walk = (walked, variant_fields)
+pub ruleset variant_walk = (walked, variant_marked)

@@ -2,33 +2,35 @@
 use Rattle.std.specs.Prelude.{◌≡◌, Bool, true, false, List, ℕ, ◌≤◌, ◌<◌, length, take, Option, None, Some, IfSome}
 use Rattle.maps.specs.Keyed.{lookup}
 use Rattle.maps.specs.Orders.{before}
-use Rattle.parts.specs.Promise.{Accepted, schema_of, decl_in, tree_in, type_end}
+use Rattle.parts.specs.Promise.{tree_in, type_end}
+use Rattle.parts.specs.Handles.{schema_in, decl_of}
+use Rattle.parts.specs.declared.handles.Image.{Image}
+use Rattle.parts.specs.declared.handles.Decl.{Decl}
 use Rattle.rules.specs.Survivors.{name_of, declarations, view_of}
 use Rattle.rules.specs.Reached.{named_in, named_from, member, resolvable, IdSet, has, mark_all, reached_set}
 use Rattle.reached.specs.declared.Reached.{Reached}
 
--- an accepted image, and marks for all its ids
-pub record Ready (s : List ℕ) (m : IdSet) : Type 0 where
-  pub accepted : Accepted s
-  pub room : length (schema_of s).registry ≤ length m
+-- there are marks for all ids of an image
+pub record Ready (i : Image) (m : IdSet) : Type 0 where
+  pub room : length (schema_in i).registry ≤ length m
 
 -- n has the marks of m, and of those ids that are resolvable
-pub record Marked (s : List ℕ) (m : IdSet) (ids : List ℕ) (n : IdSet) : Type 0 where
-  pub is : n ≡ mark_all (schema_of s).registry m ids
+pub record Marked (i : Image) (m : IdSet) (ids : List ℕ) (n : IdSet) : Type 0 where
+  pub is : n ≡ mark_all (schema_in i).registry m ids
 
 -- r is the place after the type at a place, and what the type names is marked
-pub record TypeMarked (s : List ℕ) (at : ℕ) (m : IdSet) (r : ℕ) (n : IdSet) : Type 0 where
-  pub end : r ≡ type_end s at
-  pub marks : Marked s m (named_in (tree_in s at)) n
+pub record TypeMarked (i : Image) (at : ℕ) (m : IdSet) (r : ℕ) (n : IdSet) : Type 0 where
+  pub end : r ≡ type_end i.bytes.now at
+  pub marks : Marked i m (named_in (tree_in i.bytes.now at)) n
 
 -- what the survivors name is marked
-pub record Started (s : List ℕ) (m : IdSet) : Type 0 where
-  pub ready : Ready s m
-  pub first : (id : ℕ) → member id (named_from (view_of (schema_of s))) ≡ true → resolvable (schema_of s).registry id ≡ true → has m id ≡ true
+pub record Started (i : Image) (m : IdSet) : Type 0 where
+  pub ready : Ready i m
+  pub first : (id : ℕ) → member id (named_from (view_of (schema_in i))) ≡ true → resolvable (schema_in i).registry id ≡ true → has m id ≡ true
 
--- the declaration at a place is the survivor of its name, if the answer is true
-pub record StandsAt (s : List ℕ) (at : ℕ) (r : Bool) : Type 0 where
-  pub stands : r ≡ true → lookup name_of before (decl_in s at).name (declarations (schema_of s)) ≡ Some (decl_in s at)
+-- a declaration is the survivor of its name, if the answer is true
+pub record StandsAt (d : Decl) (r : Bool) : Type 0 where
+  pub stands : r ≡ true → lookup name_of before (decl_of d).name (declarations (schema_in d.image)) ≡ Some (decl_of d)
 
 -- an id below n that is in m and not in f, if there is one
 pub record Open (m f : IdSet) (n : ℕ) (r : Option ℕ) : Type 0 where
@@ -36,8 +38,8 @@ pub record Open (m f : IdSet) (n : ℕ) (r : Option ℕ) : Type 0 where
   pub none : r ≡ None → (id : ℕ) → id < n → has m id ≡ true → has f id ≡ true
 
 -- the answer: so many marks as the registry has entries, and those of the reached ids
-pub record ReachedIn (s : List ℕ) (r : Reached) : Type 0 where
-  pub count : r.count ≡ length (schema_of s).registry
-  pub marks : take r.count r.marks ≡ reached_set (schema_of s)
+pub record ReachedIn (i : Image) (r : Reached) : Type 0 where
+  pub count : r.count ≡ length (schema_in i).registry
+  pub marks : take r.count r.marks ≡ reached_set (schema_in i)
   pub few : r.count ≤ 512
   pub room : r.count ≤ length r.marks

@@ -2,7 +2,7 @@
 use mathlib.Core.List.{List, [], flat_map}
 use Rattle.std.specs.Prelude.{ℕ}
 use Rattle.parts.specs.Promise.{ItemOf}
-use Rattle.parts.specs.declared.Run.{Run}
+use Rattle.members.specs.declared.handles.Items.{Items}
 use Rattle.parts.specs.declared.Shape.{Shape}
 use Rattle.parts.specs.declared.Shape.TheVariants as shape
 use Rattle.rules.specs.Survivors.{field_map}
@@ -15,6 +15,6 @@ item_names shape.Field f = named_in f.type
 item_names shape.Bare v = []
 item_names shape.Variant v = flat_map (λ f. named_in f.type) (field_map v.fields)
 
--- the items that stand in a run
-unfoldable pub named_items : (h : Shape) → List ℕ → Run → List ℕ
-named_items h s n = flat_map (item_names h) (item_map h (items_of h s n))
+-- those that stand
+unfoldable pub named_items : (h : Shape) → Items → List ℕ
+named_items h x = flat_map (item_names h) (item_map h (items_of h x))

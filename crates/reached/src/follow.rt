@@ -1,12 +1,11 @@
 // What the survivors name is marked, and every marked entry is followed.
 ghost use Rattle.std.specs.Prelude.{◌≡◌, not, ◌&&◌, ◌≤◌, ◌<◌, length};
-ghost use Rattle.parts.specs.Promise.{Accepted};
 ghost use Rattle.rules.specs.Reached.{has};
 ghost use Rattle.reached.specs.Marks.{Open, ReachedIn};
 
 use crate::decls::{mark_entry, mark_survivors};
 use crate::{MOST, Reached};
-use parts::entries::entry_count;
+use parts::handles::Image;
 
 // Whether an id is marked and not yet followed.
 #[tactic(auto, unfolding(rules::specs::Reached::has))]
@@ -33,11 +32,10 @@ fn next_open(marks: &[bool], followed: &[bool], n: usize) -> Option<usize>
 
 // The ids that are reached in an accepted image: one marked entry a turn is followed, each once.
 #[tactic(auto, using(crate::proofs::Followed::followed))]
-pub fn reached(image: &[u8]) -> Reached
-    requires { Accepted image.now }
-    ensures { ReachedIn image.now result }
+pub fn reached(image: Image<'_>) -> Reached
+    ensures { ReachedIn image.entry result }
 {
-    let count = entry_count(image);
+    let count = image.entry_count();
     let mut marks = [false; MOST];
     mark_survivors(image, &mut marks);
     let mut followed = [false; MOST];

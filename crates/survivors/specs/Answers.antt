@@ -4,63 +4,77 @@ use Rattle.std.specs.Option.{option_map, is_some}
 use Rattle.maps.specs.Keyed.{survivors, lookup}
 use Rattle.maps.specs.Orders.{before}
 use Rattle.maps.specs.Walk.{following, nearer, covers}
-use Rattle.image.specs.Schema.{Name, Decl}
-use Rattle.parts.specs.Promise.{schema_of, entry_decl, EntryHere, ItemHere, places_from, ordinal_in}
-use Rattle.parts.specs.declared.Shape.{Shape}
-use Rattle.parts.specs.declared.Run.{Run}
+use Rattle.image.specs.Schema.{Name, Decl as Declaration}
+use Rattle.parts.specs.Promise.{places_from, ordinal_in}
+use Rattle.parts.specs.Handles.{schema_in, decl_of}
+use Rattle.parts.specs.declared.handles.Image.{Image}
+use Rattle.parts.specs.declared.handles.Decl.{Decl}
+use Rattle.members.specs.declared.handles.Items.{Items}
+use Rattle.members.specs.declared.handles.Item.{Item}
 use Rattle.rules.specs.Survivors.{listed, name_of}
-use Rattle.rules.specs.Reached.{IdSet}
-use Rattle.rules.specs.Imports.{marked_ids}
+use Rattle.rules.specs.Imports.{marked_ids, standing_with}
+use Rattle.survivors.specs.declared.decls.Declarations.{Declarations}
 
--- ---- declarations: `standing` are those that stand
+-- ---- declarations: `standing` are those that stand in an image
 
--- the name of an entry's declaration
-abbrev pub named : List ℕ → Option ℕ → Option Name
-named s r = option_map name_of (entry_decl s r)
+abbrev pub standing_of : Declarations → List Declaration
+standing_of ds = standing_with ds.reached.now (schema_in ds.image)
+
+-- the name of a declaration, if there is one
+abbrev pub named : Option Decl → Option Name
+named r = option_map name_of (option_map decl_of r)
 
 -- the declaration that stands under a name
-pub record Survives (standing : List Decl) (s : List ℕ) (name : Name) (r : Option ℕ) : Type 0 where
-  pub value : entry_decl s r ≡ lookup name_of before name standing
-  pub here : EntryHere s r
+pub record Survives (standing : List Declaration) (i : Image) (name : Name) (r : Option Decl) : Type 0 where
+  pub value : option_map decl_of r ≡ lookup name_of before name standing
+  pub image : IfSome r (λ d. d.image ≡ i)
 
 -- the declaration that stands under the next name
-pub record Follows (standing : List Decl) (s : List ℕ) (after r : Option ℕ) : Type 0 where
-  pub value : entry_decl s r ≡ following name_of before (named s after) standing
-  pub here : EntryHere s r
+pub record Follows (standing : List Declaration) (i : Image) (after r : Option Decl) : Type 0 where
+  pub value : option_map decl_of r ≡ following name_of before (named after) standing
+  pub image : IfSome r (λ d. d.image ≡ i)
 
 -- whether an entry more takes the place of the best declaration so far: one that is unresolvable is skipped
-unfoldable pub nearer_decl : Option Name → Option Decl → Option Decl → Bool
+unfoldable pub nearer_decl : Option Name → Option Declaration → Option Declaration → Bool
 nearer_decl b best None = false
 nearer_decl b best (Some d) = nearer name_of before b best d
 
 -- whether n has one under the name of a declaration, if there is one
-unfoldable pub namesake_in : List Decl → Option Decl → Bool
+unfoldable pub namesake_in : List Declaration → Option Declaration → Bool
 namesake_in n None = true
 namesake_in n (Some d) = is_some (lookup name_of before d.name n)
 
--- whether n has each name of what may stand in an image, with a set of its ids
-unfoldable pub names_covered : List Decl → List ℕ → IdSet → Bool
-names_covered n s m = covers name_of before n (listed (schema_of s).registry (marked_ids 0 m ++ (schema_of s).ids))
+-- whether n has each name of what may stand
+unfoldable pub names_covered : List Declaration → Declarations → Bool
+names_covered n ds = covers name_of before n (listed (schema_in ds.image).registry (marked_ids 0 ds.reached.now ++ (schema_in ds.image).ids))
 
 -- ---- items
 
+abbrev pub ordinal_at : Item → ℕ
+ordinal_at i = ordinal_in i.image.bytes.now i.at
+
 -- the places of the items that stand, by rising ordinal
-unfoldable pub place_map : Shape → List ℕ → Run → List ℕ
-place_map h s n = survivors (ordinal_in s) ltb (places_from h s n.count n.start)
+unfoldable pub place_map : Items → List ℕ
+place_map x = survivors (ordinal_in x.image.bytes.now) ltb (places_from x.shape x.image.bytes.now x.run.count x.run.start)
+
+-- whether an item with an ordinal takes the place of the best item so far, if any, by its ordinal
+unfoldable pub nearer_ordinal : Option ℕ → Option ℕ → ℕ → Bool
+nearer_ordinal b best k = nearer (λ j. j) ltb b best k
+
+abbrev pub place_of : Item → ℕ
+place_of i = i.at
+
+-- an item in the image of others, and of their shape
+pub record Among (x : Items) (i : Item) : Type 0 where
+  pub image : i.image ≡ x.image
+  pub shape : i.shape ≡ x.shape
 
 -- the item that stands under an ordinal
-pub record ItemSurvives (h : Shape) (s : List ℕ) (n : Run) (k : ℕ) (r : Option ℕ) : Type 0 where
-  pub place : r ≡ lookup (ordinal_in s) ltb k (place_map h s n)
-  pub here : IfSome r (ItemHere h s)
-
--- the place that comes next, and its ordinal with it
-abbrev pub place_next : Option (ℕ × ℕ) → Option ℕ
-place_next = option_map (λ x. x.1)
-
-abbrev pub NextHere : Shape → List ℕ → Option (ℕ × ℕ) → Type 0
-NextHere h s r = IfSome r (λ x. (x.0 ≡ ordinal_in s x.1) × ItemHere h s x.1)
+pub record ItemSurvives (x : Items) (k : ℕ) (r : Option Item) : Type 0 where
+  pub place : option_map place_of r ≡ lookup (ordinal_in x.image.bytes.now) ltb k (place_map x)
+  pub among : IfSome r (Among x)
 
 -- the item that stands under the next ordinal
-pub record ItemFollows (h : Shape) (s : List ℕ) (n : Run) (after : Option ℕ) (r : Option (ℕ × ℕ)) : Type 0 where
-  pub place : place_next r ≡ following (ordinal_in s) ltb after (place_map h s n)
-  pub here : NextHere h s r
+pub record ItemFollows (x : Items) (after : Option ℕ) (r : Option Item) : Type 0 where
+  pub place : option_map place_of r ≡ following (ordinal_in x.image.bytes.now) ltb after (place_map x)
+  pub among : IfSome r (Among x)

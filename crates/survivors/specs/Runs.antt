@@ -1,10 +1,10 @@
--- The items of a declaration or of a variant, as the values that the rules speak of, and the run of places that holds them.
--- Assumes nothing.
-use Rattle.std.specs.Prelude.{List, map, ℕ}
-use Rattle.parts.specs.Promise.{ItemOf, ItemsListed, places_from, field_in, bare_in, variant_in}
+-- The items of a declaration or of a variant, as the values that the rules speak of, and the items that hold them. Assumes nothing.
+use Rattle.std.specs.Prelude.{◌≡◌, List, map, ℕ}
+use Rattle.parts.specs.Promise.{ItemOf, places_from, field_in, bare_in, variant_in}
 use Rattle.parts.specs.declared.Shape.{Shape}
 use Rattle.parts.specs.declared.Shape.TheVariants as shape
-use Rattle.parts.specs.declared.Run.{Run}
+use Rattle.members.specs.declared.handles.Items.{Items}
+use Rattle.members.specs.declared.handles.Item.{Item}
 use Rattle.rules.specs.Survivors.{ordinal_of, field_map, variant_ordinal, variant_map}
 
 -- the item at a place
@@ -24,10 +24,15 @@ item_map shape.Field = field_map
 item_map shape.Bare = variant_map
 item_map shape.Variant = variant_map
 
--- the items of a run
-unfoldable pub items_of : (h : Shape) → List ℕ → Run → List (ItemOf h)
-items_of h s n = map (item_in h s) (places_from h s n.count n.start)
+-- an item, read as one of a shape
+abbrev pub item_of : (h : Shape) → Item → ItemOf h
+item_of h i = item_in h i.image.bytes.now i.at
 
--- the run is well formed, and holds these items
-abbrev pub Holds : (h : Shape) → List ℕ → Run → List (ItemOf h) → Type 0
-Holds h s n xs = ItemsListed h s n (item_in h s) xs
+-- so many items, read as those of a shape
+unfoldable pub items_of : (h : Shape) → Items → List (ItemOf h)
+items_of h x = map (item_in h x.image.bytes.now) (places_from h x.image.bytes.now x.run.count x.run.start)
+
+-- they are of a shape, and are these
+pub record Holds (h : Shape) (x : Items) (xs : List (ItemOf h)) : Type 0 where
+  pub shape : x.shape ≡ h
+  pub are : xs ≡ items_of h x

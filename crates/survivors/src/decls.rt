@@ -1,119 +1,119 @@
-// Declarations by their names: "Of declarations with one name the last listed stands." Ids of a set may stand
-// too: they are met as if they were listed first.
-ghost use Rattle.std.specs.Prelude.{◌≡◌};
-ghost use Rattle.maps.specs.Orders.{before};
-ghost use Rattle.maps.specs.Walk.{past};
-ghost use Rattle.parts.specs.Promise.{schema_of, DeclHere, decl_in, entry_decl, EntryHere};
-ghost use Rattle.rules.specs.Imports.{standing_with};
-ghost use Rattle.survivors.specs.Answers.{named, Survives, Follows, nearer_decl, namesake_in, names_covered};
-ghost use Rattle.survivors.specs.Candidates.{Searchable};
+// The declarations that may stand, those of a set's ids, by rising id, and after them those listed; and of them those that stand, by their
+// names: "Of declarations with one name the last listed stands."
+ghost use Rattle.std.specs.Prelude.{◌≤◌, length};
 
-use crate::candidates::{candidate, candidate_count};
-use parts::decls::decl_name;
+use crate::nearest::is_nearer;
+use parts::handles::{Decl, Image};
 
-// The declaration that stands under a name: "The search goes from the end and stops at the first match."
-pub fn survivor(image: &[u8], reached: &[bool], name: &[u8]) -> Option<usize>
-    requires { Searchable image.now reached.now }
-    ensures { Survives (standing_with reached.now (schema_of image.now)) image.now name.now result }
-{
-    let mut i = candidate_count(image, reached);
-    'search: loop {
-        if i == 0 {
-            break None;
+// What may stand in an image: with a set of its ids, none for the verdict of document 01, the reached ones for that with imports.
+#[derive(Clone, Copy)]
+pub struct Declarations<'a> {
+    pub image: Image<'a>,
+    pub reached: &'a [bool],
+    pub ghost few: { length reached.now ≤ 512 },
+}
+
+impl<'a> Declarations<'a> {
+    ghost use Rattle.std.specs.Prelude.{◌≡◌, ◌<◌};
+    ghost use Rattle.std.specs.Option.{option_map};
+    ghost use Rattle.parts.specs.Handles.{decl_of};
+    ghost use Rattle.survivors.specs.Candidates.{candidates, Candidate};
+    ghost use Rattle.survivors.specs.Answers.{standing_of, Survives, Follows, namesake_in, names_covered};
+
+    // How many positions there are.
+    #[tactic(auto, using(crate::proofs::Laws::Candidates::counts))]
+    pub fn count(self) -> usize
+        ensures { result ≡ length (candidates self.entry) }
+    {
+        let listed = self.image.id_count();
+        self.reached.len() + listed
+    }
+
+    // The declaration at a position: none, too, where the set does not have an id.
+    #[tactic(auto, using(crate::proofs::Laws::Candidates::positions))]
+    pub fn candidate(self, i: usize) -> Option<Decl<'a>>
+        requires { i < length (candidates self) }
+        ensures { Candidate self.entry i result }
+    {
+        let n = self.reached.len();
+        if n <= i {
+            return self.image.entry(self.image.id_at(i - n));
         }
-        i -= 1;
-        let Some(at) = candidate(image, reached, i) else {
-            continue;
-        };
-        let own = decl_name(image, at);
-        if name.len() == own.len() {
-            let mut j = 0;
-            loop {
-                if j == name.len() {
-                    break 'search Some(at);
+        if !self.reached[i] {
+            return None;
+        }
+        self.image.entry(i as u32)
+    }
+
+    // The declaration that stands under a name: "The search goes from the end and stops at the first match."
+    #[tactic(auto, using(crate::proofs::Laws::Listed::backward, crate::proofs::Laws::Listed::agreeing))]
+    pub fn survivor(self, name: &[u8]) -> Option<Decl<'a>>
+        ensures { Survives (standing_of self.entry) self.entry.image name.now result }
+    {
+        let mut i = self.count();
+        'search: loop {
+            if i == 0 {
+                break None;
+            }
+            i -= 1;
+            let Some(decl) = self.candidate(i) else {
+                continue;
+            };
+            let own = decl.name();
+            if name.len() == own.len() {
+                let mut j = 0;
+                loop {
+                    if j == name.len() {
+                        break 'search Some(decl);
+                    }
+                    if name[j] != own[j] {
+                        break;
+                    }
+                    j += 1;
                 }
-                if name[j] != own[j] {
-                    break;
-                }
-                j += 1;
             }
         }
     }
-}
 
-// Whether the name at one place stands before that at another.
-#[tactic(auto, using(maps::proofs::Names::slice_order), unfolding(maps::specs::Orders::before))]
-fn is_before(image: &[u8], a: usize, b: usize) -> bool
-    requires { DeclHere image.now a × DeclHere image.now b }
-    ensures { result ≡ before (decl_in image.now a).name (decl_in image.now b).name }
-{
-    decl_name(image, a) < decl_name(image, b)
-}
-
-// Whether the name at a place is past that of a declaration: every name is past that of none.
-fn is_past(image: &[u8], after: Option<usize>, at: usize) -> bool
-    requires { EntryHere image.now after × DeclHere image.now at }
-    ensures { result ≡ past before (named image.now after) (decl_in image.now at).name }
-{
-    let Some(bound) = after else {
-        return true;
-    };
-    is_before(image, bound, at)
-}
-
-// Whether an entry takes the place of the best one so far: its name is past that of `after`, and the best one's is not before it. The best
-// one is looked at first: where names are listed as they rise, that alone decides of all that follow it.
-fn is_nearer(image: &[u8], after: Option<usize>, best: Option<usize>, found: Option<usize>) -> bool
-    requires { EntryHere image.now after × EntryHere image.now best × EntryHere image.now found }
-    ensures { result ≡ nearer_decl (named image.now after) (entry_decl image.now best) (entry_decl image.now found) }
-{
-    let Some(at) = found else {
-        return false;
-    };
-    let Some(least) = best else {
-        return is_past(image, after, at);
-    };
-    !is_before(image, least, at) && is_past(image, after, at)
-}
-
-// The declaration that stands under the least name past that of `after`, from the start if that is none: in a pass from the front that goes
-// over to a later one of the same name.
-pub fn next_decl(image: &[u8], reached: &[bool], after: Option<usize>) -> Option<usize>
-    requires { Searchable image.now reached.now × EntryHere image.now after }
-    ensures { Follows (standing_with reached.now (schema_of image.now)) image.now after result }
-{
-    let n = candidate_count(image, reached);
-    let mut best = None;
-    for i in 0..n {
-        let found = candidate(image, reached, i);
-        if is_nearer(image, after, best, found) {
-            best = found;
+    // The declaration that stands under the least name past that of `after`, from the start if that is none: in a pass from the front that goes
+    // over to a later one of the same name.
+    #[tactic(auto, using(crate::proofs::Laws::Listed::forward))]
+    pub fn following(self, after: Option<Decl<'a>>) -> Option<Decl<'a>>
+        ensures { Follows (standing_of self.entry) self.entry.image after.entry result }
+    {
+        let n = self.count();
+        let mut best = None;
+        for i in 0..n {
+            let found = self.candidate(i);
+            if is_nearer(after, best, found) {
+                best = found;
+            }
         }
+        best
     }
-    best
-}
 
-// Whether another image has a declaration under the name of one, if there is one.
-fn has_namesake(image: &[u8], at: Option<usize>, other: &[u8], other_reached: &[bool]) -> bool
-    requires { EntryHere image.now at × Searchable other.now other_reached.now }
-    ensures { result ≡ namesake_in (standing_with other_reached.now (schema_of other.now)) (entry_decl image.now at) }
-{
-    let Some(body) = at else {
-        return true;
-    };
-    survivor(other, other_reached, decl_name(image, body)).is_some()
-}
+    // Whether a declaration stands under the name of one, if there is one.
+    #[tactic(auto, using(crate::proofs::Laws::Listed::namesakes))]
+    fn has_namesake(self, found: Option<Decl<'_>>) -> bool
+        ensures { result ≡ namesake_in (standing_of self.entry) (option_map decl_of found.entry) }
+    {
+        let Some(decl) = found else {
+            return true;
+        };
+        self.survivor(decl.name()).is_some()
+    }
 
-// Whether another image has a declaration under each name of what may stand in an image: far less than a walk by rising name.
-pub fn all_named(image: &[u8], reached: &[bool], other: &[u8], other_reached: &[bool]) -> bool
-    requires { Searchable image.now reached.now × Searchable other.now other_reached.now }
-    ensures { result ≡ names_covered (standing_with other_reached.now (schema_of other.now)) image.now reached.now }
-{
-    let n = candidate_count(image, reached);
-    for i in 0..n {
-        if !has_namesake(image, candidate(image, reached, i), other, other_reached) {
-            return false;
+    // Whether there are declarations under all names of what may stand here: far less than a walk by rising name.
+    #[tactic(auto, using(crate::proofs::Laws::Listed::covering))]
+    pub fn all_named(self, other: Declarations<'_>) -> bool
+        ensures { result ≡ names_covered (standing_of other.entry) self.entry }
+    {
+        let n = self.count();
+        for i in 0..n {
+            if !other.has_namesake(self.candidate(i)) {
+                return false;
+            }
         }
+        true
     }
-    true
 }

@@ -2,6 +2,6 @@
 // key, and what stands under the next key. What calls them does not depend on how they search.
 #![tactic(auto)]
 
-pub mod candidates;
 pub mod decls;
 pub mod items;
+mod nearest;

@@ -2,6 +2,7 @@
 use Rattle.std.specs.Prelude.{◌≡◌, Bool, ◌&&◌, List, ℕ, eqb}
 use Rattle.image.specs.Schema.{Label}
 use Rattle.parts.specs.Promise.{type_end}
+use Rattle.parts.specs.declared.handles.TypeRef.{TypeRef}
 use Rattle.rules.specs.Mended.{Likeness as Definition, equal, alike, different, likeness}
 use Rattle.types.specs.Resolved.{type_in}
 use Rattle.types.specs.declared.equal.Compared.{Compared}
@@ -40,3 +41,7 @@ pub record ComparedAt (s : List ℕ) (i : ℕ) (t : List ℕ) (j : ℕ) (r : Com
   pub answer : likeness_of r.likeness ≡ likeness (type_in s i) (type_in t j)
   -- types that are not different come with the places after them
   pub ends : (likeness_of r.likeness ≡ different → ⊥) → (r.old_end ≡ type_end s i) × (r.new_end ≡ type_end t j)
+
+-- the same of two types by their handles
+abbrev pub Compares : TypeRef → TypeRef → Compared → Type 0
+Compares t u r = ComparedAt t.image.bytes.now t.at u.image.bytes.now u.at r

@@ -1,22 +1,20 @@
 // How alike two types are, each at its place in its own image, and whether they are read as equal.
 ghost use Rattle.std.specs.Prelude.{◌≡◌};
 ghost use Rattle.parts.specs.Codes.{number, sub_byte_tag};
-ghost use Rattle.parts.specs.Promise.{Accepted, LabelHere, label_in, TypeHere};
+ghost use Rattle.parts.specs.Handles.{label_of};
 ghost use Rattle.rules.specs.Equal.{same_names};
 ghost use Rattle.rules.specs.Types.{same_label};
 ghost use Rattle.rules.specs.Mended.{likeness};
-ghost use Rattle.types.specs.Resolved.{named_by, node_in, type_in};
-ghost use Rattle.types.specs.Likeness.{same_codes, likeness_of, After, ComparedAt};
+ghost use Rattle.types.specs.Resolved.{named_by, node_of, resolved};
+ghost use Rattle.types.specs.Likeness.{same_codes, likeness_of, After, Compares};
 ghost use Rattle.types.specs.Readings.{reads_alike, reading_of};
 
 use crate::Reading;
 use crate::likeness::{Likeness, joined, of_tag, read_as};
 use crate::names::same_names;
 use crate::nodes::inner_types;
-use parts::decls::decl_name;
-use parts::entries::entry;
+use parts::handles::{Image, TypeRef};
 use parts::tags::Tag;
-use parts::types::{bit_names, label_end, type_bits, type_code, type_id, type_size, type_tag};
 
 // How alike two types are, and the places after them; if they are different, the places say nothing.
 #[derive(Clone, Copy)]
@@ -28,41 +26,39 @@ struct Compared {
 
 // Whether two ids stand for the same name, each in its own registry; two that are unresolvable are equal too.
 #[tactic(auto, using(crate::proofs::Laws::Labels::ids))]
-fn named_equal(a: &[u8], old: u32, b: &[u8], new: u32) -> bool
-    requires { Accepted a.now × Accepted b.now }
-    ensures { result ≡ same_names (named_by a.now old) (named_by b.now new) }
+fn named_equal(a: Image<'_>, old: u32, b: Image<'_>, new: u32) -> bool
+    ensures { result ≡ same_names (named_by a.entry.bytes.now old) (named_by b.entry.bytes.now new) }
 {
-    match (entry(a, old), entry(b, new)) {
-        (Some(i), Some(j)) => decl_name(a, i) == decl_name(b, j),
+    match (a.entry(old), b.entry(new)) {
+        (Some(i), Some(j)) => i.name() == j.name(),
         (None, None) => true,
         _ => false,
     }
 }
 
 // Whether two sub-bytes are both signed or both not, and have as many bits.
-fn sub_bytes_equal(a: &[u8], i: usize, b: &[u8], j: usize) -> bool
-    requires { LabelHere a.now i × LabelHere b.now j × ((label_in a.now i).tag ≡ number sub_byte_tag) × ((label_in b.now j).tag ≡ number sub_byte_tag) }
-    ensures { result ≡ same_codes (label_in a.now i) (label_in b.now j) }
+fn sub_bytes_equal(a: TypeRef<'_>, b: TypeRef<'_>) -> bool
+    requires { ((label_of a).tag ≡ number sub_byte_tag) × ((label_of b).tag ≡ number sub_byte_tag) }
+    ensures { result ≡ same_codes (label_of a.entry) (label_of b.entry) }
 {
-    type_code(a, i) == type_code(b, j) && type_bits(a, i) == type_bits(b, j)
+    a.code() == b.code() && a.bits() == b.bits()
 }
 
 // Whether two nodes are the same but for their inner types. Vectors, quaternions and matrices are compared like the others.
 #[tactic(auto, using(crate::proofs::Laws::Labels::labels))]
-fn labels_equal(a: &[u8], i: usize, b: &[u8], j: usize) -> bool
-    requires { Accepted a.now × Accepted b.now × LabelHere a.now i × LabelHere b.now j }
-    ensures { result ≡ same_label (node_in a.now i) (node_in b.now j) }
+fn labels_equal(a: TypeRef<'_>, b: TypeRef<'_>) -> bool
+    ensures { result ≡ same_label (node_of a.entry) (node_of b.entry) }
 {
-    let tag = type_tag(a, i);
-    if tag != type_tag(b, j) {
+    let tag = a.tag();
+    if tag != b.tag() {
         return false;
     }
     match tag {
-        Tag::Primitive | Tag::Semantic => type_code(a, i) == type_code(b, j),
-        Tag::SubByte => sub_bytes_equal(a, i, b, j),
-        Tag::Named => named_equal(a, type_id(a, i), b, type_id(b, j)),
-        Tag::FixedArray => type_size(a, i) == type_size(b, j),
-        Tag::Bits => same_names(a, bit_names(a, i), b, bit_names(b, j)),
+        Tag::Primitive | Tag::Semantic => a.code() == b.code(),
+        Tag::SubByte => sub_bytes_equal(a, b),
+        Tag::Named => named_equal(a.image, a.id(), b.image, b.id()),
+        Tag::FixedArray => a.size() == b.size(),
+        Tag::Bits => same_names(a.names(), b.names()),
         _ => true,
     }
 }
@@ -78,24 +74,23 @@ fn after(before: Likeness, rest: Compared) -> Compared
     }
 }
 
-// Two types of at most `left` nodes on a path, walked together: it calls itself on inner types, each from the place where the one before it
-// ended. It goes on past vectors, and ends where the types are different.
-fn compare_nodes(a: &[u8], i: usize, b: &[u8], j: usize, left: usize) -> Compared
-    requires { Accepted a.now × Accepted b.now × TypeHere left a.now i × TypeHere left b.now j }
-    ensures { ComparedAt a.now i b.now j result }
+// Two types, walked together: it calls itself on inner types, each from the place where the one before it ended, with a node less on a path.
+// It goes on past vectors, and ends where the types are different.
+fn compare_nodes(a: TypeRef<'_>, b: TypeRef<'_>) -> Compared
+    ensures { Compares a.entry b.entry result }
 {
-    if !labels_equal(a, i, b, j) {
+    if !labels_equal(a, b) {
         return Compared {
             likeness: Likeness::Different,
-            old_end: i,
-            new_end: j,
+            old_end: a.at,
+            new_end: b.at,
         };
     }
-    let tag = type_tag(a, i);
+    let tag = a.tag();
     let node = of_tag(tag);
     let inner = inner_types(tag);
-    let p = label_end(a, i);
-    let q = label_end(b, j);
+    let p = a.label_end();
+    let q = b.label_end();
     if inner == 0 {
         return Compared {
             likeness: node,
@@ -103,7 +98,7 @@ fn compare_nodes(a: &[u8], i: usize, b: &[u8], j: usize, left: usize) -> Compare
             new_end: q,
         };
     }
-    let first = after(node, compare_nodes(a, p, b, q, left - 1));
+    let first = after(node, compare_nodes(a.inner_at(p), b.inner_at(q)));
     if inner == 1 {
         return first;
     }
@@ -112,16 +107,15 @@ fn compare_nodes(a: &[u8], i: usize, b: &[u8], j: usize, left: usize) -> Compare
     }
     after(
         first.likeness,
-        compare_nodes(a, first.old_end, b, first.new_end, left - 1),
+        compare_nodes(a.inner_at(first.old_end), b.inner_at(first.new_end)),
     )
 }
 
 // How alike two types are: named types by their names, each from its own registry.
-pub fn types_likeness(a: &[u8], i: usize, b: &[u8], j: usize) -> Likeness
-    requires { Accepted a.now × Accepted b.now × TypeHere 32 a.now i × TypeHere 32 b.now j }
-    ensures { likeness_of result ≡ likeness (type_in a.now i) (type_in b.now j) }
+pub fn types_likeness(a: TypeRef<'_>, b: TypeRef<'_>) -> Likeness
+    ensures { likeness_of result ≡ likeness (resolved a.entry) (resolved b.entry) }
 {
-    compare_nodes(a, i, b, j, 32).likeness
+    compare_nodes(a, b).likeness
 }
 
 // How the third answer is read. A reading more is a case more.
@@ -137,9 +131,8 @@ fn reads_alike(reading: Reading) -> bool
 
 // Whether two types are equal, as they are read.
 #[tactic(auto, using(crate::proofs::Laws::Readings::read))]
-pub fn types_equal(reading: Reading, a: &[u8], i: usize, b: &[u8], j: usize) -> bool
-    requires { Accepted a.now × Accepted b.now × TypeHere 32 a.now i × TypeHere 32 b.now j }
-    ensures { result ≡ (reading_of reading).same (type_in a.now i) (type_in b.now j) }
+pub fn types_equal(reading: Reading, a: TypeRef<'_>, b: TypeRef<'_>) -> bool
+    ensures { result ≡ (reading_of reading).same (resolved a.entry) (resolved b.entry) }
 {
-    read_as(reads_alike(reading), types_likeness(a, i, b, j))
+    read_as(reads_alike(reading), types_likeness(a, b))
 }

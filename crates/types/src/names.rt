@@ -1,10 +1,9 @@
 // Names: whether two are equal, and whether two lists of them are.
 ghost use Rattle.std.specs.Prelude.{◌≡◌};
+ghost use Rattle.parts.specs.Handles.{names_of};
 ghost use Rattle.rules.specs.Equal.{same_name, same_names};
-ghost use Rattle.types.specs.Names.{NamesIn, names_in};
 
-use parts::Run;
-use parts::names::{name_at, name_end};
+use parts::handles::Names;
 
 // Whether two names are the same bytes.
 #[tactic(auto, using(crate::proofs::Laws::Names::bytes))]
@@ -14,23 +13,9 @@ pub fn same_name(a: &[u8], b: &[u8]) -> bool
     a == b
 }
 
-// The names of a run in one image and those of a run in another.
-#[tactic(auto, using(crate::proofs::Laws::Names::runs))]
-pub(crate) fn same_names(a: &[u8], old: Run, b: &[u8], new: Run) -> bool
-    requires { NamesIn a.now old × NamesIn b.now new }
-    ensures { result ≡ same_names (names_in a.now old) (names_in b.now new) }
+// Whether two lists of names are the same.
+pub(crate) fn same_names(old: Names<'_>, new: Names<'_>) -> bool
+    ensures { result ≡ same_names (names_of old.entry) (names_of new.entry) }
 {
-    if old.count != new.count {
-        return false;
-    }
-    let mut i = old.start;
-    let mut j = new.start;
-    for _ in 0..old.count {
-        if name_at(a, i) != name_at(b, j) {
-            return false;
-        }
-        i = name_end(a, i);
-        j = name_end(b, j);
-    }
-    true
+    old.eq(new)
 }

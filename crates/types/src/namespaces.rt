@@ -1,16 +1,14 @@
 // Whether the namespaces of two images are equal.
 ghost use Rattle.std.specs.Prelude.{◌≡◌};
-ghost use Rattle.parts.specs.Promise.{Accepted, schema_of};
+ghost use Rattle.parts.specs.Handles.{schema_in};
 ghost use Rattle.rules.specs.Equal.{same_names};
 
 use crate::names::same_names;
-use parts::entries::segments;
+use parts::handles::Image;
 
 // Whether two images have the same segments, in order.
-#[tactic(auto, using(crate::proofs::Laws::Names::namespaces))]
-pub fn namespaces_equal(a: &[u8], b: &[u8]) -> bool
-    requires { Accepted a.now × Accepted b.now }
-    ensures { result ≡ same_names (schema_of a.now).namespace (schema_of b.now).namespace }
+pub fn namespaces_equal(a: Image<'_>, b: Image<'_>) -> bool
+    ensures { result ≡ same_names (schema_in a.entry).namespace (schema_in b.entry).namespace }
 {
-    same_names(a, segments(a), b, segments(b))
+    same_names(a.namespace(), b.namespace())
 }

@@ -7,25 +7,43 @@ use native.Mathlib.Omega.{arith}
 use native.Mathlib.Numerals.{add-one}
 use borrow.Author.Tests.{ne_eqb}
 use lib.Dec.{eqb}
-use Rattle.image.specs.Schema.{Name}
+use Rattle.std.specs.Prelude.{Option, None, Some}
 use Rattle.image.specs.Words.{bytes}
-use Rattle.parts.specs.Codes.{number, primitive_tag, sub_byte_tag, semantic_tag, named_tag, fixed_array_tag, bits_tag}
-use Rattle.parts.specs.Numbers.{tag_number}
 use Rattle.image.specs.declared.tags.Tag.{Tag}
-use Rattle.parts.specs.Promise.{LabelHere, label_in, label_end, type_end, bits_in, coding_of}
-use Rattle.parts.proofs.Promise.{label_regular, bits_listed}
-use Rattle.parts.specs.declared.Run.{Run}
+use Rattle.image.specs.declared.tags.Tag.TheVariants as tag
+use Rattle.parts.specs.Codes.{number, sub_byte_tag, named_tag}
+use Rattle.parts.specs.Handles.{decl_of, Resolves, TypeAt}
+use Rattle.parts.specs.Numbers.{tag_number}
+use Rattle.parts.specs.Promise.{label_in, label_end, type_end, coding_of}
+use Rattle.parts.specs.declared.handles.Image.{Image}
+use Rattle.parts.specs.declared.handles.Decl.{Decl}
+use Rattle.parts.specs.declared.handles.TypeRef.{TypeRef}
 use Rattle.parts.specs.declared.Encoding.{Encoding}
+use Rattle.parts.proofs.Tagged.{same_tag, past_codes}
 use Rattle.rules.specs.Types.{resolve}
 use Rattle.text.specs.Decimal.{decimal}
+use Rattle.text.specs.Writers.{Adds}
+use Rattle.text.specs.declared.Writer.{Writer}
 use Rattle.rules.specs.Text.{joined, word, primitive_word, semantic_word, show_name, show_leaf, opening, show_size, show_type, deltas_around, show_encoding}
 use Rattle.rules.proofs.Types.{tag_resolved}
-use Rattle.types.specs.Names.{run, NamesIn, names_in, LabelNames}
 use Rattle.types.specs.Nodes.{Leaf, Node}
-use Rattle.types.specs.Resolved.{named_by, node_in, type_in}
+use Rattle.types.specs.Resolved.{named_by, node_in, type_in, resolved}
 use Rattle.display.specs.Display.{repeated}
-use Rattle.types.proofs.Laws.Names.{names_none}
-use Rattle.types.proofs.Laws.Labels.{not_named, named, bits_in_lem}
+use Rattle.display.proofs.Laws.Words.{after_nil}
+use Rattle.types.proofs.Laws.Labels.{not_named, named, unresolvable, resolvable}
+
+-- ---- the name that an id stands for
+
+module _ (i : Image) (id : ℕ) {r : Option Decl} (h : Resolves i id r) where
+  pub name_unknown : r ≡ None → show_name (named_by i.bytes.now id) ≡ bytes "<unknown>"
+  unfolding show_name
+  name_unknown e = ap show_name (unresolvable i id h e)
+
+  pub name_known : {d : Decl} → r ≡ Some d → show_name (named_by i.bytes.now id) ≡ (decl_of d).name
+  unfolding show_name
+  name_known e = ap show_name (resolvable i id h e)
+
+pub ruleset ids = (name_unknown, name_known, after_nil)
 
 -- ---- a node without inner types
 
@@ -33,48 +51,43 @@ module _ (s : List ℕ) (node : ℕ) where
   unnamed : ((label_in s node).tag ≡ number named_tag → ⊥) → node_in s node ≡ label_in s node
   unnamed n = not_named _ (label_in s node) n
 
-  pub leaf_primitive : (label_in s node).tag ≡ number primitive_tag → {x : ℕ} → x ≡ (label_in s node).first
-      → primitive_word x ≡ show_leaf (node_in s node)
+  pub leaf_sub_byte : (label_in s node).tag ≡ number sub_byte_tag
+      → show_leaf (node_in s node) ≡ word ("u" ∷ "i" ∷ []) (label_in s node).first ++ decimal (label_in s node).second
   unfolding show_leaf
-  leaf_primitive e q = rw (unnamed (λ z. absurd (omega arith)), e, q)
+  leaf_sub_byte e = rw (unnamed (λ z. absurd (omega arith)), e)
 
-  pub leaf_sub_byte : (label_in s node).tag ≡ number sub_byte_tag → {x y : ℕ} → x ≡ (label_in s node).first → y ≡ (label_in s node).second
-      → word ("u" ∷ "i" ∷ []) x ++ decimal y ≡ show_leaf (node_in s node)
+  pub leaf_bits : (number named_tag) < (label_in s node).tag
+      → show_leaf (node_in s node) ≡ bytes "bits { " ++ (joined (bytes ", ") (label_in s node).names ++ bytes " }")
   unfolding show_leaf
-  leaf_sub_byte e p q = rw (unnamed (λ z. absurd (omega arith)), e, p, q)
-
-  pub leaf_semantic : (label_in s node).tag ≡ number semantic_tag → {x : ℕ} → x ≡ (label_in s node).first → semantic_word x ≡ show_leaf (node_in s node)
-  unfolding show_leaf
-  leaf_semantic e q = rw (unnamed (λ z. absurd (omega arith)), e, q)
-
-  pub leaf_named : (label_in s node).tag ≡ number named_tag → {x : ℕ} → x ≡ (label_in s node).first → show_name (named_by s x) ≡ show_leaf (node_in s node)
-  unfolding show_leaf
-  leaf_named e q = rw (named _ (label_in s node) e, q)
-
-  pub leaf_bits : (number named_tag) < (label_in s node).tag → {names : List Name} → names ≡ (label_in s node).names
-      → bytes "bits { " ++ (joined (bytes ", ") names ++ bytes " }") ≡ show_leaf (node_in s node)
-  unfolding show_leaf
-  leaf_bits l n =
+  leaf_bits l =
       let past : (k : ℕ) → k < 4 → eqb (label_in s node).tag k ≡ false = (λ k h. ne_eqb _ k (λ z. absurd (omega arith))) in
-      rw (unnamed (λ z. absurd (omega arith)), past 0 (omega arith), past 1 (omega arith), past 2 (omega arith), past 3 (omega arith), n)
+      rw (unnamed (λ z. absurd (omega arith)), past 0 (omega arith), past 1 (omega arith), past 2 (omega arith), past 3 (omega arith))
 
-  pub size_none : ((label_in s node).tag ≡ number fixed_array_tag → ⊥) → [] ≡ show_size (node_in s node)
-  unfolding show_size
-  size_none n = rw (tag_resolved _ (label_in s node), ne_eqb (label_in s node).tag 6 n)
+  -- x is its tag
+  module _ (x : Tag) (t : tag_number x ≡ (label_in s node).tag) where
+    pub leaf_primitive : x ≡ tag.Primitive → show_leaf (node_in s node) ≡ primitive_word (label_in s node).first
+    unfolding show_leaf
+    leaf_primitive p = let e = sym t ∙ ap tag_number p in rw (unnamed (λ z. absurd (omega (arith, e, z))), e)
 
-  pub size_some : (label_in s node).tag ≡ number fixed_array_tag → {x : ℕ} → x ≡ (label_in s node).first → bytes ", " ++ decimal x ≡ show_size (node_in s node)
-  unfolding show_size
-  size_some e q = rw (unnamed (λ z. absurd (omega arith)), e, q)
+    pub leaf_semantic : x ≡ tag.Semantic → show_leaf (node_in s node) ≡ semantic_word (label_in s node).first
+    unfolding show_leaf
+    leaf_semantic p = let e = sym t ∙ ap tag_number p in rw (unnamed (λ z. absurd (omega (arith, e, z))), e)
 
--- the names of a node
-module _ (s : List ℕ) (node : ℕ) (g : LabelHere s node) (x : Tag) (e : tag_number x ≡ (label_in s node).tag) where
-  pub no_label_names : (tag_number x ≡ number bits_tag → ⊥) → {at : ℕ} → LabelNames s node (run at 0)
-  unfolding NamesIn
-  no_label_names n {at} = record { here = λ l. absurd (omega arith); are = names_none s at 0 (omega arith) ∙ sym ((label_regular s node g).names (λ z. n (e ∙ z))) }
+    pub leaf_named : x ≡ tag.Named → show_leaf (node_in s node) ≡ show_name (named_by s (label_in s node).first)
+    unfolding show_leaf
+    leaf_named p = rw (named _ (label_in s node) (sym t ∙ ap tag_number p))
 
-  pub bits_label_names : tag_number x ≡ number bits_tag → {r : Run} → r ≡ bits_in s node → LabelNames s node r
-  unfolding names_in
-  bits_label_names q k = record { here = bits_in_lem s node g (sym e ∙ q) k; are = rw k (sym (bits_listed s node g (sym e ∙ q)).are) }
+    pub size_some : x ≡ tag.FixedArray → show_size (node_in s node) ≡ bytes ", " ++ decimal (label_in s node).first
+    unfolding show_size
+    size_some p = let e = sym t ∙ ap tag_number p in rw (unnamed (λ z. absurd (omega (arith, e, z))), e)
+
+    pub size_none : (x ≡ tag.FixedArray → ⊥) → show_size (node_in s node) ≡ []
+    unfolding show_size
+    size_none n = rw (tag_resolved _ (label_in s node), ne_eqb (label_in s node).tag 6 (λ z. n (same_tag x tag.FixedArray (t ∙ z))))
+
+pub ruleset leaves = (leaf_primitive, leaf_semantic, leaf_named, past_codes)
+
+pub ruleset sizes = (size_some, size_none, after_nil)
 
 -- ---- a node with inner types
 
@@ -92,6 +105,14 @@ module _ (s : List ℕ) (node inner : ℕ) where
         → opening x ++ (show_type (type_in s p) ++ (bytes ", " ++ (show_type (type_in s r) ++ bytes ">"))) ≡ show_type (type_in s node)
     unfolding show_type resolve
     text_two f k {r} u = rw (u, q, e, (n.pair f k).tree, tag_resolved _ (label_in s node))
+
+-- an inner type t at its place
+module _ {i : Image} {left at : ℕ} {t : TypeRef} (p : TypeAt i left at t) where
+  pub shown_at : {w v : Writer} → Adds w (show_type (resolved t)) v → Adds w (show_type (type_in i.bytes.now at)) v
+  shown_at a = rw (p.image, p.at) at a
+
+  pub ended_at : {n : ℕ} → n ≡ type_end t.image.bytes.now t.at → n ≡ type_end i.bytes.now at
+  ended_at e = rw (p.image, p.at) at e
 
 -- ---- encodings
 
@@ -115,6 +136,12 @@ pub encoding_text : (e : Encoding) → repeated e.deltas (bytes "delta(") ++ (wo
 unfolding show_encoding
 encoding_text e = sym (deltas_around_lem e.deltas _)
 
-pub repeated_more : (n : ℕ) (xs : List ℕ) → repeated n xs ++ xs ≡ repeated (n + 1) xs
+pub repeated_none : (xs : List ℕ) → repeated 0 xs ≡ []
 unfolding repeated
-repeated_more n xs = repeated_last n xs ∙ ap (λ (k : ℕ). repeated k xs) (sym (add-one n))
+repeated_none xs = refl
+
+pub repeated_more : (n : ℕ) (xs : List ℕ) → repeated (n + 1) xs ≡ repeated n xs ++ xs
+unfolding repeated
+repeated_more n xs = ap (λ (k : ℕ). repeated k xs) (add-one n) ∙ sym (repeated_last n xs)
+
+pub ruleset repeating = (repeated_none, repeated_more, after_nil)

@@ -1,14 +1,13 @@
 -- `listing::checked` meets its contract: the image's refusal, or what is measured. Assumes nothing.
-use Rattle.std.proofs.Common.{◌∙◌}
-use Rattle.parts.proofs.Promise.{accepted, rejected_read}
+use Rattle.parts.proofs.Promise.{read_bytes, read_no}
 use Rattle.rules.specs.Outcome.{fit}
-use Rattle.verdicts.specs.Verdicts.{verdict_is}
+use Rattle.verdicts.specs.Verdicts.{answer_values, outcome_values}
 use Rattle.listing.specs.Listing.{accept, outcome}
 use Rattle.listing.proofs.checked.Goals as goal
 
-pub measured-requires : goal.measured-requires
-measured-requires c = accepted _ c.read_image.ensures c.in-Ok.is
+pub returns-in-Ok : goal.returns-in-Ok
+returns-in-Ok c = rw (read_bytes c.read.ensures c.in-Ok.is) at c.measured.ensures
 
 pub returns-in-Err : goal.returns-in-Err
-unfolding outcome accept fit verdict_is
-returns-in-Err c = c.refused.ensures ∙ rw (rejected_read c.args.image.now c.read_image.ensures c.in-Err.is)
+unfolding outcome accept fit answer_values outcome_values
+returns-in-Err c = rw (read_no c.read.ensures c.in-Err.is)

@@ -1,4 +1,4 @@
--- The entries that may stand, by position: how many there are, what each is, and that they are those which `standing_with` lists.
+-- The declarations that may stand, by position: how many there are, what each is, and that they are those which `standing_with` lists.
 -- Assumes nothing.
 use mathlib.Core.Path.{◌≡◌, refl, sym, ap, ◌∙◌}
 use mathlib.Core.Bool.{true, false, cond}
@@ -8,11 +8,15 @@ use Prim.Native.Nat.{ℕ, zero, suc, ◌+◌, ◌-◌, ◌≤◌, ◌<◌}
 use native.Mathlib.Numerals.{unary_clauses}
 use native.Mathlib.Omega.{arith}
 use lib.ListN.{length, get_or}
-use Rattle.parts.specs.Promise.{schema_of, entry_decl, EntryHere, Resolved}
+use Rattle.image.specs.Schema.{Schema}
+use Rattle.parts.specs.Handles.{schema_in, Resolves}
+use Rattle.parts.specs.declared.handles.Decl.{Decl}
+use Rattle.parts.proofs.Promise.{accepted_most, ids_most}
 use Rattle.rules.specs.Survivors.{Registry, stands_for, resolved, listed}
 use Rattle.rules.specs.Reached.{IdSet}
 use Rattle.rules.specs.Imports.{marked_ids}
 use Rattle.survivors.specs.Candidates.{candidates_from, candidates, Candidate, present}
+use Rattle.survivors.specs.declared.decls.Declarations.{Declarations}
 
 module _ (R : Registry) where
   -- the listed ones
@@ -57,36 +61,46 @@ module _ (R : Registry) where
   present_from id (true ∷ m) ids = ap (resolved (stands_for R id)) (present_from (suc id) m ids)
   present_from id (false ∷ m) ids = present_from (suc id) m ids
 
-module _ (s : List ℕ) (m : IdSet) where
-  pub present_candidates : present (candidates s m) ≡ listed (schema_of s).registry (marked_ids 0 m ++ (schema_of s).ids)
-  unfolding candidates
-  present_candidates = present_from (schema_of s).registry 0 m (schema_of s).ids
+module _ (ds : Declarations) where
+  abbrev own : Schema
+  own = schema_in ds.image
 
-  pub candidates_length : length (candidates s m) ≡ length m + length (schema_of s).ids
+  abbrev set : IdSet
+  set = ds.reached.now
+
+  pub present_candidates : present (candidates ds) ≡ listed own.registry (marked_ids 0 set ++ own.ids)
   unfolding candidates
-  candidates_length = length_from (schema_of s).registry 0 m (schema_of s).ids
+  present_candidates = present_from own.registry 0 set own.ids
+
+  pub candidates_length : length (candidates ds) ≡ length set + length own.ids
+  unfolding candidates
+  candidates_length = length_from own.registry 0 set own.ids
+
+  pub listed_most : length own.ids ≤ 32768
+  listed_most = omega (arith, ids_most _ ds.image.accepted, accepted_most _ ds.image.accepted)
 
   -- at a position of the set that has its id or not, and past the set
   module _ (i : ℕ) where
-    marked_at : i < length m → get_or (candidates s m) i None ≡ cond (get_or m i false) (stands_for (schema_of s).registry i) None
+    marked_at : i < length set → get_or (candidates ds) i None ≡ cond (get_or set i false) (stands_for own.registry i) None
     unfolding candidates
-    marked_at h =
-        at_marked (schema_of s).registry 0 m (schema_of s).ids i h ∙ ap (λ j. cond (get_or m i false) (stands_for (schema_of s).registry j) None) (omega arith)
+    marked_at h = at_marked own.registry 0 set own.ids i h ∙ ap (λ j. cond (get_or set i false) (stands_for own.registry j) None) (omega arith)
 
-    pub not_in_set : i < length m → get_or m i false ≡ false → Candidate s m i None
-    not_in_set h e = record { value = sym (marked_at h ∙ ap (λ b. cond b (stands_for (schema_of s).registry i) None) e); here = tt }
+    pub not_in_set : i < length set → get_or set i false ≡ false → Candidate ds i None
+    not_in_set h e = record { value = sym (marked_at h ∙ ap (λ b. cond b (stands_for own.registry i) None) e); image = tt }
 
-    pub in_set : i < length m → get_or m i false ≡ true → {r : Option ℕ} → Resolved s i r → Candidate s m i r
+    pub in_set : i < length set → get_or set i false ≡ true → {r : Option Decl} → Resolves ds.image i r → Candidate ds i r
     unfolding stands_for
-    in_set h e v = record {
-      value = v.value ∙ sym (marked_at h ∙ ap (λ b. cond b (stands_for (schema_of s).registry i) None) e);
-      here = v.here;
-    }
+    in_set h e v = record { value = v.value ∙ sym (marked_at h ∙ ap (λ b. cond b (stands_for own.registry i) None) e); image = v.image }
 
-    pub past_set : length m ≤ i → i < length (candidates s m) → {id : ℕ} → id ≡ get_or (schema_of s).ids (i - length m) 0 → {r : Option ℕ}
-        → Resolved s id r → Candidate s m i r
+    pub past_set : length set ≤ i → i < length (candidates ds) → {id : ℕ} → id ≡ get_or own.ids (i - length set) 0 → {r : Option Decl}
+        → Resolves ds.image id r → Candidate ds i r
     unfolding stands_for candidates
     past_set h k e v = record {
-      value = v.value ∙ (ap (stands_for (schema_of s).registry) e ∙ sym (at_after (schema_of s).registry 0 m (schema_of s).ids i h (omega (arith, candidates_length))));
-      here = v.here;
+      value = v.value ∙ (ap (stands_for own.registry) e ∙ sym (at_after own.registry 0 set own.ids i h (omega (arith, candidates_length))));
+      image = v.image;
     }
+
+-- what the code needs
+pub ruleset counts = (candidates_length, listed_most)
+
+pub ruleset positions = (candidates_length, not_in_set, in_set, past_set)

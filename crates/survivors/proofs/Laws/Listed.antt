@@ -1,168 +1,250 @@
--- The searches over the entries that may stand: a turn, the ways out. Assumes nothing.
+-- The searches over the declarations that may stand: a turn, the ways out. Assumes nothing.
 use mathlib.Core.Path.{◌≡◌, refl, sym, ap, ◌∙◌}
 use mathlib.Core.Bool.{Bool, true, false, cond, ◌&&◌}
-use Rattle.std.specs.Prelude.{Option, None, Some}
+use Rattle.std.specs.Prelude.{Option, None, Some, IfSome}
 use mathlib.Core.List.{List, [], ◌∷◌, ◌++◌, flat_map}
-use Prim.Native.Nat.{ℕ, suc, ◌+◌, ◌-◌, ◌≤◌, ◌<◌}
+use Prim.Native.Nat.{ℕ, zero, suc, ◌+◌, ◌-◌, ◌≤◌, ◌<◌}
 use native.Mathlib.Numerals.{add-one}
+use native.Mathlib.Omega.{arith}
 use lib.ListN.{length, get_or, take, drop, drop_of_length-le}
 use lib.Seq.{drop-cons}
 use Rattle.maps.specs.Lists.{every}
-use Rattle.maps.specs.Orders.{same, before}
+use Rattle.maps.specs.Orders.{same, before, order_of}
 use Rattle.maps.specs.Keyed.{lookup}
-use Rattle.std.specs.Option.{is_some}
+use Rattle.std.specs.Option.{option_map, is_some}
 use Rattle.maps.specs.Walk.{latest, following, better, least, covers}
-use Rattle.maps.proofs.Names.{by_name}
+use Rattle.maps.proofs.Names.{by_name, same_told, ends_same, finds_other, other_length, goes_on}
 use Rattle.maps.proofs.Searches.{latest_start, latest_nothing, latest_skips, latest_other, latest_found, lookup_latest, least_cons, least_nil}
 use Rattle.maps.proofs.Walking.{following_least}
-use Rattle.image.specs.Schema.{Name, Decl}
-use Rattle.parts.specs.Promise.{schema_of, decl_in, entry_decl, EntryHere}
+use Rattle.image.specs.Schema.{Name, Decl as Declaration}
+use Rattle.parts.specs.Handles.{decl_of}
+use Rattle.parts.specs.declared.handles.Image.{Image}
+use Rattle.parts.specs.declared.handles.Decl.{Decl}
 use Rattle.rules.specs.Survivors.{resolved, name_of}
-use Rattle.rules.specs.Reached.{IdSet}
 use Rattle.rules.specs.Imports.{standing_with}
-use Rattle.survivors.specs.Answers.{Survives, nearer_decl, namesake_in, names_covered}
+use Rattle.survivors.specs.Answers.{standing_of, named, Survives, Follows, nearer_decl, namesake_in, names_covered}
 use Rattle.survivors.specs.Candidates.{candidates, Candidate, present}
+use Rattle.survivors.specs.declared.decls.Declarations.{Declarations}
 use Rattle.survivors.proofs.Laws.Better.{some_map}
 use Rattle.survivors.proofs.Laws.Candidates.{present_candidates}
-use Rattle.survivors.proofs.Laws.Nearest.{decl_none, decl_body, entry_here}
+use Rattle.survivors.proofs.Laws.Nearest.{decl_none}
 
 -- what one entry adds to those that may stand
-unfoldable pub shown : Option Decl → List Decl
+unfoldable pub shown : Option Declaration → List Declaration
 shown o = resolved o []
 
-present_flat : (l : List (Option Decl)) → present l ≡ flat_map shown l
+present_flat : (l : List (Option Declaration)) → present l ≡ flat_map shown l
 unfolding present resolved flat_map shown
 present_flat [] = refl
 present_flat (o ∷ l) = go o (present_flat l)
   where
-    go : (o : Option Decl) → present l ≡ flat_map shown l → resolved o (present l) ≡ resolved o [] ++ flat_map shown l
+    go : (o : Option Declaration) → present l ≡ flat_map shown l → resolved o (present l) ≡ resolved o [] ++ flat_map shown l
     go None e = e
     go (Some d) e = rw e
 
+positive : (i : ℕ) → (i ≡ 0 → ⊥) → 0 < i
+positive zero z = absurd (z refl)
+positive (suc i) z = omega arith
+
 -- ---- from the end
 
-module _ (s : List ℕ) (m : IdSet) (name : Name) where
-  abbrev stands : Option Decl
-  stands = lookup name_of before name (standing_with m (schema_of s))
-
+module _ (ds : Declarations) (name : Name) where
   -- what is found going back from a position
-  unfoldable pub back : ℕ → Option Decl
-  back i = latest name_of before name (flat_map shown (take i (candidates s m)))
+  unfoldable pub back : ℕ → Option Declaration
+  back i = latest name_of before name (flat_map shown (take i (candidates ds)))
 
-  pub back_start : (n : ℕ) → n ≡ length (candidates s m) → back n ≡ stands
+-- that is what stands under the name
+pub record Left (ds : Declarations) (name : Name) (i : ℕ) : Type 0 where
+  pub most : i ≤ length (candidates ds)
+  pub found : back ds name i ≡ lookup name_of before name (standing_of ds)
+
+module _ {ds : Declarations} {name : Name} where
+  pub left_start : (n : ℕ) → n ≡ length (candidates ds) → Left ds name n
   unfolding back standing_with
-  back_start n e =
-      ap back e
-      ∙ latest_start name_of before name shown (candidates s m)
-      ∙ ap (latest name_of before name) (sym (present_flat (candidates s m)) ∙ present_candidates s m)
-      ∙ sym (lookup_latest name_of by_name name _)
+  left_start n e = record {
+    most = omega arith;
+    found =
+        ap (back ds name) e
+        ∙ latest_start name_of before name shown (candidates ds)
+        ∙ ap (latest name_of before name) (sym (present_flat (candidates ds)) ∙ present_candidates ds)
+        ∙ sym (lookup_latest name_of by_name name _);
+  }
 
-  pub back_end : (i : ℕ) → i ≡ 0 → back i ≡ stands → Survives (standing_with m (schema_of s)) s name None
-  unfolding back
-  back_end i e p = record { value = sym (latest_nothing name_of before name shown (candidates s m) i e) ∙ p; here = tt }
+  module _ {i : ℕ} (k : Left ds name i) where
+    pub left_end : i ≡ 0 → Survives (standing_of ds) ds.image name None
+    unfolding back
+    left_end e = record { value = sym (latest_nothing name_of before name shown (candidates ds) i e) ∙ k.found; image = tt }
 
-  -- a turn, at the entry before the position
-  module _ (i : ℕ) (h : 0 < i) (b : i ≤ length (candidates s m)) {r : Option ℕ} (v : Candidate s m (i - 1) r) where
-    pub back_skips : r ≡ None → back (i - 1) ≡ back i
-    unfolding back shown resolved
-    back_skips u = sym (latest_skips name_of before name shown (candidates s m) None i h b (rw (← v.value, u)))
+    -- a turn, at the declaration before the position
+    module _ (z : i ≡ 0 → ⊥) where
+      h : 0 < i
+      h = positive i z
 
-    module _ {at : ℕ} (u : r ≡ Some at) {own : Name} (w : own ≡ (decl_in s at).name) where
-      one : shown (get_or (candidates s m) (i - 1) None) ≡ decl_in s at ∷ []
-      unfolding shown resolved
-      one = rw (← v.value, u)
+      less : i - 1 ≤ length (candidates ds)
+      less = omega (arith, k.most)
 
-      pub back_other : same before name own ≡ false → back (i - 1) ≡ back i
-      unfolding back
-      back_other n = sym (latest_other name_of before name shown (candidates s m) None i h b (decl_in s at) one (rw w at n))
+      module _ {r : Option Decl} (v : Candidate ds (i - 1) r) where
+        pub left_skips : r ≡ None → Left ds name (i - 1)
+        unfolding back shown resolved
+        left_skips u = record { most = less; found = sym (latest_skips name_of before name shown (candidates ds) None i h k.most (rw (← v.value, u))) ∙ k.found }
 
-      pub back_found : same before name own ≡ true → back i ≡ stands → Survives (standing_with m (schema_of s)) s name (Some at)
-      unfolding back
-      back_found n p = record {
-        value = sym (latest_found name_of before name shown (candidates s m) None i h b (decl_in s at) one (rw w at n)) ∙ p;
-        here = entry_here s u v.here;
-      }
+        module _ {d : Decl} (u : r ≡ Some d) {own : Name} (w : own ≡ (decl_of d).name) where
+          one : shown (get_or (candidates ds) (i - 1) None) ≡ decl_of d ∷ []
+          unfolding shown resolved
+          one = rw (← v.value, u)
+
+          pub left_other : same before name own ≡ false → Left ds name (i - 1)
+          unfolding back
+          left_other n = record {
+            most = less;
+            found = sym (latest_other name_of before name shown (candidates ds) None i h k.most (decl_of d) one (rw w at n)) ∙ k.found;
+          }
+
+          pub left_found : same before name own ≡ true → Survives (standing_of ds) ds.image name (Some d)
+          unfolding back
+          left_found n = record {
+            value = sym (latest_found name_of before name shown (candidates ds) None i h k.most (decl_of d) one (rw w at n)) ∙ k.found;
+            image = rw u at v.image;
+          }
+
+-- ---- two names, which agree as far as j
+
+pub record Agree (a b : Name) (j : ℕ) : Type 0 where
+  pub most : j ≤ length a
+  pub order : order_of a b ≡ order_of (drop j a) (drop j b)
+
+module _ {a b : Name} where
+  pub agree_start : Agree a b 0
+  agree_start = record { most = omega arith; order = refl }
+
+  module _ {j : ℕ} (k : Agree a b j) where
+    pub agree_end : j ≡ length a → length a ≡ length b → same before a b ≡ true
+    agree_end e f = same_told _ _ (sym (ends_same a b j k.order (omega arith) (omega arith)))
+
+    module _ (l : j < length a) (m : j < length b) where
+      pub agree_more : get_or a j 0 ≡ get_or b j 0 → Agree a b (j + 1)
+      agree_more e = record { most = omega arith; order = goes_on a b j k.order l m e }
+
+      pub agree_not : (get_or a j 0 ≡ get_or b j 0 → ⊥) → same before a b ≡ false
+      agree_not n = finds_other a b j k.order l m n
 
 -- ---- from the front
 
-module _ (s : List ℕ) (m : IdSet) (b : Option Name) where
+module _ (ds : Declarations) (b : Option Name) where
   -- what is found going on from a position, with the best declaration so far
-  unfoldable pub ahead : Option Decl → ℕ → Option Decl
-  ahead best i = least name_of before b best (present (drop i (candidates s m)))
+  unfoldable pub ahead : Option Declaration → ℕ → Option Declaration
+  ahead best i = least name_of before b best (present (drop i (candidates ds)))
 
-  pub ahead_start : ahead None 0 ≡ following name_of before b (standing_with m (schema_of s))
+  ahead_start : ahead None 0 ≡ following name_of before b (standing_of ds)
   unfolding ahead standing_with
-  ahead_start = ap (least name_of before b None) (present_candidates s m) ∙ sym (following_least name_of by_name b _)
+  ahead_start = ap (least name_of before b None) (present_candidates ds) ∙ sym (following_least name_of by_name b _)
 
-  pub ahead_end : (best : Option Decl) (i : ℕ) {o : Option Decl} → length (candidates s m) ≤ i → ahead best i ≡ o → best ≡ o
+  ahead_end : (best : Option Declaration) (i : ℕ) → length (candidates ds) ≤ i → ahead best i ≡ best
   unfolding ahead present
-  ahead_end best i h p = sym (rw (drop_of_length-le (candidates s m) h) (least_nil name_of before b best)) ∙ p
+  ahead_end best i h = rw (drop_of_length-le (candidates ds) h) (least_nil name_of before b best)
 
   -- the best after an entry more
-  abbrev after : Option Decl → Option Decl → Option Decl
+  abbrev after : Option Declaration → Option Declaration → Option Declaration
   after best o = cond (nearer_decl b best o) o best
 
-  least_resolved : (best o : Option Decl) (ds : List Decl)
-      → least name_of before b best (resolved o ds) ≡ least name_of before b (after best o) ds
+  least_resolved : (best o : Option Declaration) (l : List Declaration)
+      → least name_of before b best (resolved o l) ≡ least name_of before b (after best o) l
   unfolding resolved nearer_decl better
-  least_resolved best None ds = refl
-  least_resolved best (Some d) ds = least_cons name_of before b best d ds
+  least_resolved best None l = refl
+  least_resolved best (Some d) l = least_cons name_of before b best d l
 
-  -- a turn, at the entry r of the position; t: it takes the place of the best
-  module _ (best : Option ℕ) (i : ℕ) {o : Option Decl} (h : i < length (candidates s m))
-      {r : Option ℕ} (v : Candidate s m i r) {t : Bool} (q : t ≡ nearer_decl b (entry_decl s best) (entry_decl s r)) (p : ahead (entry_decl s best) i ≡ o) where
-    turn : ahead (cond t (entry_decl s r) (entry_decl s best)) (i + 1) ≡ o
-    unfolding ahead present
-    turn =
-        rw (add-one, q)
-        (sym (rw (drop-cons (candidates s m) i None h, ← v.value) (least_resolved (entry_decl s best) (entry_decl s r) (present (drop (suc i) (candidates s m))))) ∙ p)
+  -- a turn, at what a position stands for
+  ahead_turn : (best o : Option Declaration) (i : ℕ) → i < length (candidates ds) → o ≡ get_or (candidates ds) i None
+      → ahead best i ≡ ahead (after best o) (i + 1)
+  unfolding ahead present
+  ahead_turn best o i h e = rw (add-one, drop-cons (candidates ds) i None h, ← e) (least_resolved best o (present (drop (suc i) (candidates ds))))
 
-    pub ahead_taken : t ≡ true → {best' : Option ℕ} → best' ≡ r → EntryHere s best' × (ahead (entry_decl s best') (i + 1) ≡ o)
-    ahead_taken w f = rw f (v.here, rw w at turn)
+-- that is the next one
+pub record Met (ds : Declarations) (bound best : Option Decl) (i : ℕ) : Type 0 where
+  pub next : ahead ds (named bound) (option_map decl_of best) i ≡ following name_of before (named bound) (standing_of ds)
+  pub image : IfSome best (λ d. d.image ≡ ds.image)
 
-    pub ahead_left : t ≡ false → EntryHere s best → {best' : Option ℕ} → best' ≡ best → EntryHere s best' × (ahead (entry_decl s best') (i + 1) ≡ o)
-    ahead_left w g f = rw f (g, rw w at turn)
+module _ {ds : Declarations} {bound : Option Decl} where
+  pub met_start : Met ds bound None 0
+  met_start = record { next = ahead_start ds (named bound); image = tt }
+
+  module _ {best : Option Decl} {i : ℕ} (k : Met ds bound best i) where
+    pub met_end : length (candidates ds) ≤ i → Follows (standing_of ds) ds.image bound best
+    met_end h = record { value = sym (ahead_end ds (named bound) (option_map decl_of best) i h) ∙ k.next; image = k.image }
+
+    -- a turn, at the declaration r of the position; t: it takes the place of the best
+    module _ (h : i < length (candidates ds)) {r : Option Decl} (v : Candidate ds i r)
+        {t : Bool} (q : t ≡ nearer_decl (named bound) (option_map decl_of best) (option_map decl_of r)) where
+      pub met_taken : t ≡ true → Met ds bound r (i + 1)
+      met_taken w = record {
+        next = sym (ahead_turn ds (named bound) (option_map decl_of best) (option_map decl_of r) i h v.value ∙ rw (← q, w)) ∙ k.next;
+        image = v.image;
+      }
+
+      pub met_left : t ≡ false → Met ds bound best (i + 1)
+      met_left w = record {
+        next = sym (ahead_turn ds (named bound) (option_map decl_of best) (option_map decl_of r) i h v.value ∙ rw (← q, w)) ∙ k.next;
+        image = k.image;
+      }
 
 -- ---- whether n has each name, from the front
 
-module _ (n : List Decl) (s : List ℕ) (m : IdSet) where
+module _ (n : List Declaration) (ds : Declarations) where
   unfoldable pub named_from : ℕ → Bool
-  named_from i = covers name_of before n (present (drop i (candidates s m)))
+  named_from i = covers name_of before n (present (drop i (candidates ds)))
 
-  pub named_start : named_from 0 ≡ names_covered n s m
+-- those from a position on, if it has all
+pub record Covering (n : List Declaration) (ds : Declarations) (i : ℕ) : Type 0 where
+  pub rest : named_from n ds i ≡ names_covered n ds
+
+covers_resolved : (n : List Declaration) (o : Option Declaration) (l : List Declaration)
+    → covers name_of before n (resolved o l) ≡ (namesake_in n o && covers name_of before n l)
+unfolding covers every resolved namesake_in
+covers_resolved n None l = refl
+covers_resolved n (Some d) l = refl
+
+module _ {n : List Declaration} {ds : Declarations} where
+  pub covering_start : Covering n ds 0
   unfolding named_from names_covered
-  named_start = ap (covers name_of before n) (present_candidates s m)
+  covering_start = record { rest = ap (covers name_of before n) (present_candidates ds) }
 
-  pub named_end : (i : ℕ) {x : Bool} → length (candidates s m) ≤ i → named_from i ≡ x → true ≡ x
-  unfolding named_from present covers every
-  named_end i h p = rw (drop_of_length-le (candidates s m) h) at p
+  module _ {i : ℕ} (k : Covering n ds i) where
+    pub covering_end : length (candidates ds) ≤ i → true ≡ names_covered n ds
+    unfolding named_from present covers every
+    covering_end h = rw (drop_of_length-le (candidates ds) h) at k.rest
 
-  covers_resolved : (o : Option Decl) (ds : List Decl) → covers name_of before n (resolved o ds) ≡ (namesake_in n o && covers name_of before n ds)
-  unfolding covers every resolved namesake_in
-  covers_resolved None ds = refl
-  covers_resolved (Some d) ds = refl
+    module _ (h : i < length (candidates ds)) {r : Option Decl} (v : Candidate ds i r) {t : Bool} (q : t ≡ namesake_in n (option_map decl_of r)) where
+      step : (t && named_from n ds (i + 1)) ≡ names_covered n ds
+      unfolding named_from present
+      step =
+          rw (add-one, q)
+          (sym (rw (drop-cons (candidates ds) i None h, ← v.value) (covers_resolved n (option_map decl_of r) (present (drop (suc i) (candidates ds)))))
+          ∙ k.rest)
 
-  module _ (i : ℕ) {x : Bool} (p : named_from i ≡ x) (h : i < length (candidates s m)) {r : Option ℕ} (v : Candidate s m i r)
-      {t : Bool} (q : t ≡ namesake_in n (entry_decl s r)) where
-    step : (t && named_from (i + 1)) ≡ x
-    unfolding named_from present
-    step =
-        rw (add-one, q)
-        (sym (rw (drop-cons (candidates s m) i None h, ← v.value) (covers_resolved (entry_decl s r) (present (drop (suc i) (candidates s m))))) ∙ p)
+      pub covering_not : t ≡ false → false ≡ names_covered n ds
+      covering_not w = rw w at step
 
-    pub named_not : t ≡ false → false ≡ x
-    named_not w = rw w at step
+      pub covering_turn : t ≡ true → Covering n ds (i + 1)
+      covering_turn w = record { rest = rw w at step }
 
-    pub named_turn : t ≡ true → named_from (i + 1) ≡ x
-    named_turn w = rw w at step
-
--- of one entry, by what stands under its name
-module _ (n : List Decl) (s : List ℕ) {at : Option ℕ} where
-  pub namesake_skips : at ≡ None → true ≡ namesake_in n (entry_decl s at)
+-- of one declaration, by what stands under its name
+module _ (n : List Declaration) {r : Option Decl} where
+  pub namesake_skips : r ≡ None → true ≡ namesake_in n (option_map decl_of r)
   unfolding namesake_in
-  namesake_skips e = rw (decl_none s e)
+  namesake_skips e = rw (decl_none e)
 
-  module _ {body : ℕ} (e : at ≡ Some body) {own : Name} (w : own ≡ (decl_in s body).name) (o : List ℕ) {r : Option ℕ} (h : Survives n o own r) where
-    pub namesake_found : is_some r ≡ namesake_in n (entry_decl s at)
-    unfolding namesake_in
-    namesake_found = rw (e, ← w, ← h.value) (some_map (decl_in o) r)
+  pub namesake_found : {d : Decl} → r ≡ Some d → {own : Name} → own ≡ (decl_of d).name → {i : Image} {o : Option Decl} → Survives n i own o
+      → is_some o ≡ namesake_in n (option_map decl_of r)
+  unfolding namesake_in
+  namesake_found e w {i} {o} h = rw (e, ← w, ← h.value) (some_map decl_of o)
+
+-- what the code needs
+pub ruleset backward = (left_start, left_end, left_skips, left_other, left_found)
+
+pub ruleset agreeing = (agree_start, agree_end, agree_more, agree_not, other_length)
+
+pub ruleset forward = (met_start, met_taken, met_left, met_end)
+
+pub ruleset covering = (covering_start, covering_end, covering_not, covering_turn)
+
+pub ruleset namesakes = (namesake_skips, namesake_found)

@@ -12,18 +12,20 @@ use Rattle.image.specs.Schema.{Name, Label, label}
 use Rattle.image.specs.declared.tags.Tag.{Tag}
 use Rattle.image.specs.declared.tags.Tag.TheVariants as tag
 use Rattle.maps.proofs.Tests.{both}
-use Rattle.parts.specs.Promise.{LabelHere, label_in, Regular, bits_in, decl_in, Resolved}
-use Rattle.parts.proofs.Promise.{label_regular, bits_listed, resolved_body, resolved_none}
+use Rattle.parts.specs.Promise.{LabelHere, label_in, Regular}
+use Rattle.parts.proofs.Promise.{label_regular, type_label}
 use Rattle.parts.specs.Numbers.{tag_number}
-use Rattle.parts.specs.declared.Run.{Run}
+use Rattle.parts.specs.Handles.{decl_of, Resolves}
+use Rattle.parts.specs.declared.handles.Image.{Image}
+use Rattle.parts.specs.declared.handles.Decl.{Decl}
+use Rattle.std.specs.Option.{option_map}
 use Rattle.rules.specs.Equal.{same_list, same_name, same_names}
 use Rattle.rules.specs.Survivors.{Registry, stands_for}
 use Rattle.rules.specs.Types.{name_or_none, resolve_label, same_label}
 use Rattle.rules.proofs.Types.{tag_resolved}
-use Rattle.types.specs.Names.{NamesIn, names_in}
 use Rattle.types.specs.Resolved.{named_by, node_in}
 use Rattle.types.proofs.Laws.Names.{bytes}
-use Rattle.types.proofs.Laws.Tags.{same_tag, past_codes}
+use Rattle.parts.proofs.Tagged.{same_tag, past_codes}
 
 -- ---- with the name in the place of the id
 
@@ -36,34 +38,34 @@ unfolding resolve_label
 named R l e = rw (eq-eqb l.tag 3 e)
 
 -- what an id stands for, by the answer of `entry`
-module _ (s : List ℕ) (id : ℕ) {r : Option ℕ} (h : Resolved s id r) where
-  pub unresolvable : r ≡ None → named_by s id ≡ []
+module _ (i : Image) (id : ℕ) {r : Option Decl} (h : Resolves i id r) where
+  pub unresolvable : r ≡ None → named_by i.bytes.now id ≡ []
   unfolding stands_for name_or_none
-  unresolvable e = ap name_or_none (resolved_none s id h e)
+  unresolvable e = ap name_or_none (sym h.value ∙ ap (option_map decl_of) e)
 
-  pub resolvable : {at : ℕ} → r ≡ Some at → named_by s id ≡ (decl_in s at).name ∷ []
+  pub resolvable : {d : Decl} → r ≡ Some d → named_by i.bytes.now id ≡ (decl_of d).name ∷ []
   unfolding stands_for name_or_none
-  resolvable e = ap name_or_none (resolved_body s id h e)
+  resolvable e = ap name_or_none (sym h.value ∙ ap (option_map decl_of) e)
 
 -- and two ids, each in its own registry
-module _ (s : List ℕ) (old : ℕ) {x : Option ℕ} (g : Resolved s old x) (t : List ℕ) (new : ℕ) {y : Option ℕ} (h : Resolved t new y) where
-  pub both_names : {i j : ℕ} → x ≡ Some i → y ≡ Some j → {n m : Name} → n ≡ (decl_in s i).name → m ≡ (decl_in t j).name
-      → pointwise eqb n m ≡ same_names (named_by s old) (named_by t new)
+module _ (a : Image) (old : ℕ) {x : Option Decl} (g : Resolves a old x) (b : Image) (new : ℕ) {y : Option Decl} (h : Resolves b new y) where
+  pub both_names : {i j : Decl} → x ≡ Some i → y ≡ Some j → {n m : Name} → n ≡ (decl_of i).name → m ≡ (decl_of j).name
+      → pointwise eqb n m ≡ same_names (named_by a.bytes.now old) (named_by b.bytes.now new)
   unfolding same_names same_list
   both_names {i} {j} e f {n} {m} p q =
-      rw (resolvable s old g e, resolvable t new h f, and-true (same_name (decl_in s i).name (decl_in t j).name), ← p, ← q) (bytes n m)
+      rw (resolvable a old g e, resolvable b new h f, and-true (same_name (decl_of i).name (decl_of j).name), ← p, ← q) (bytes n m)
 
-  pub no_names : x ≡ None → y ≡ None → true ≡ same_names (named_by s old) (named_by t new)
+  pub no_names : x ≡ None → y ≡ None → true ≡ same_names (named_by a.bytes.now old) (named_by b.bytes.now new)
   unfolding same_names same_list
-  no_names e f = rw (unresolvable s old g e, unresolvable t new h f)
+  no_names e f = rw (unresolvable a old g e, unresolvable b new h f)
 
-  pub old_name : {i : ℕ} → x ≡ Some i → y ≡ None → false ≡ same_names (named_by s old) (named_by t new)
+  pub old_name : {i : Decl} → x ≡ Some i → y ≡ None → false ≡ same_names (named_by a.bytes.now old) (named_by b.bytes.now new)
   unfolding same_names same_list
-  old_name e f = rw (resolvable s old g e, unresolvable t new h f)
+  old_name e f = rw (resolvable a old g e, unresolvable b new h f)
 
-  pub new_name : {j : ℕ} → x ≡ None → y ≡ Some j → false ≡ same_names (named_by s old) (named_by t new)
+  pub new_name : {j : Decl} → x ≡ None → y ≡ Some j → false ≡ same_names (named_by a.bytes.now old) (named_by b.bytes.now new)
   unfolding same_names same_list
-  new_name e f = rw (unresolvable s old g e, resolvable t new h f)
+  new_name e f = rw (unresolvable a old g e, resolvable b new h f)
 
 -- what the code needs of them
 pub ruleset ids = (both_names, no_names, old_name, new_name)
@@ -169,13 +171,12 @@ module _ (s : List ℕ) (i : ℕ) (t : List ℕ) (j : ℕ) (x y : Tag) (p : tag_
           let w = first_is k in
           c ∙ sym (as_they_are (λ z. absurd (omega arith)) ∙ both_numbers _ _ (label_regular s i g) (label_regular t j h) tags w)
 
-      pub by_names : x ≡ tag.Bits → {a b : Run} → a ≡ bits_in s i → b ≡ bits_in t j → {r : Bool} → r ≡ same_names (names_in s a) (names_in t b)
+      pub by_names : x ≡ tag.Bits → {a b : List Name} → a ≡ (label_in s i).names → b ≡ (label_in t j).names → {r : Bool} → r ≡ same_names a b
           → r ≡ same_label (node_in s i) (node_in t j)
-      unfolding names_in
       by_names k f m c =
           let w = first_is k in
           c
-          ∙ rw (f, m, ← (bits_listed s i g w).are, ← (bits_listed t j h (sym tags ∙ w)).are)
+          ∙ rw (f, m)
           (sym (as_they_are (λ z. absurd (omega arith)) ∙ names_only _ _ (label_regular s i g) (label_regular t j h) tags w))
 
       pub by_tag : (x ≡ tag.Primitive → ⊥) → (x ≡ tag.SubByte → ⊥) → (x ≡ tag.Semantic → ⊥) → (x ≡ tag.Named → ⊥) → (x ≡ tag.FixedArray → ⊥) → (x ≡ tag.Bits → ⊥)
@@ -185,10 +186,5 @@ module _ (s : List ℕ) (i : ℕ) (t : List ℕ) (j : ℕ) (x y : Tag) (p : tag_
           sym (as_they_are (λ z. absurd (omega arith))
           ∙ nothing_more _ _ (label_regular s i g) (label_regular t j h) tags (omega arith) (λ z. f (same_tag x tag.FixedArray (p ∙ z))) (λ z. k (same_tag x tag.Bits (p ∙ z))))
 
--- the names of bits stand in their run
-pub bits_in_lem : (s : List ℕ) (at : ℕ) → LabelHere s at → (label_in s at).tag ≡ 16 → {r : Run} → r ≡ bits_in s at → NamesIn s r
-unfolding NamesIn
-bits_in_lem s at g t e = rw e (λ _. (bits_listed s at g t).here)
-
 -- what the code needs
-pub ruleset labels = (by_name, by_primitive, by_semantic, by_size, by_numbers, by_names, by_tag, bits_in_lem)
+pub ruleset labels = (by_name, by_primitive, by_semantic, by_size, by_numbers, by_names, by_tag, type_label)

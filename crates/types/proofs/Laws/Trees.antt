@@ -11,9 +11,12 @@ use Rattle.rules.specs.Survivors.{Registry}
 use Rattle.rules.specs.Types.{resolve_label, resolve, vector, same_label, same_tree}
 use Rattle.rules.specs.Mended.{different, equal_trees, likeness_by, likeness}
 use Rattle.rules.proofs.Types.{tag_resolved}
+use Rattle.parts.specs.Handles.{TypeAt}
+use Rattle.parts.specs.declared.handles.Image.{Image}
+use Rattle.parts.specs.declared.handles.TypeRef.{TypeRef}
 use Rattle.types.specs.Nodes.{Leaf, One, Two, Node, Inner}
 use Rattle.types.specs.Resolved.{node_in, type_in}
-use Rattle.types.specs.Likeness.{likeness_of, joint, compared, After, ComparedAt}
+use Rattle.types.specs.Likeness.{likeness_of, joint, compared, After, ComparedAt, Compares}
 use Rattle.types.specs.declared.equal.Compared.{Compared}
 use Rattle.types.specs.declared.likeness.Likeness.{Likeness}
 use Rattle.types.specs.declared.likeness.Likeness.TheVariants.{Different}
@@ -56,10 +59,10 @@ root_is left s at h =
 
 -- r is whether the labels are the same
 module _ (s : List ℕ) (i : ℕ) (t : List ℕ) (j : ℕ) {r : Bool} (e : r ≡ same_label (node_in s i) (node_in t j)) where
-  pub labels_differ : r ≡ false → {left : ℕ} → TypeHere left s i → TypeHere left t j → {p q : ℕ} → ComparedAt s i t j (compared Different p q)
+  pub labels_differ : r ≡ false → {old new : ℕ} → TypeHere old s i → TypeHere new t j → {p q : ℕ} → ComparedAt s i t j (compared Different p q)
   unfolding likeness_of likeness likeness_by
-  labels_differ f {left} g h =
-      let d : equal_trees (type_in s i) (type_in t j) ≡ false = roots_differ _ _ (tree_in s i) (tree_in t j) (rw (root_is left s i g, root_is left t j h, ← e) f) in
+  labels_differ f {old} {new} g h =
+      let d : equal_trees (type_in s i) (type_in t j) ≡ false = roots_differ _ _ (tree_in s i) (tree_in t j) (rw (root_is old s i g, root_is new t j h, ← e) f) in
       record { answer = rw d; ends = λ n. absurd (n refl) }
 
   module _ (f : r ≡ true) where
@@ -123,3 +126,7 @@ module _ (s : List ℕ) (i : ℕ) (t : List ℕ) (j : ℕ) {r : Bool} (e : r ≡
                     let x₂ = c₃.ends (λ y₂. d (w₂.likeness ∙ ap (joint (likeness_of o'.likeness)) y₂ ∙ joint_different (likeness_of o'.likeness))) in
                     (w₂.old_end ∙ x₂.0 ∙ sym a.end, w₂.new_end ∙ x₂.1 ∙ sym b.end);
               }
+
+-- two inner types at the places that they were read from
+pub placed : {a b : Image} {m n i j : ℕ} {t u : TypeRef} {r : Compared} → TypeAt a m i t → TypeAt b n j u → Compares t u r → ComparedAt a.bytes.now i b.bytes.now j r
+placed x y c = rw (x.image, x.at, y.image, y.at) at c

@@ -1,10 +1,11 @@
--- What is written, with the names that are left, is the whole. Assumes nothing.
-use Rattle.std.proofs.Common.{◌+◌, ◌-◌}
-use Rattle.rules.specs.Text.{joined}
+-- What is written, with the names that are left, is the whole.
+use Rattle.std.proofs.Common.{◌≡◌}
+use Rattle.parts.specs.Handles.{names_of}
 use Rattle.text.specs.Writers.{after}
-use Rattle.types.specs.Names.{names_in}
-use Rattle.display.proofs.Laws.Names.{Naming}
+use Rattle.display.proofs.Laws.Names.{others}
 use Rattle.display.proofs.names.names_display.Given as goal
 
-abbrev pub invariant-loop : goal.invariant-loop
-invariant-loop l = Naming l.image l.between (after l.initial.w (joined l.between (names_in l.image l.run))) l.w l.next (l.run.count + 1 - l.counter)
+abbrev pub invariant-loop-name : goal.invariant-loop-name
+invariant-loop-name l =
+    (goal.iterator-loop-name).can_next l.name-iterator × (goal.iterator-loop-name).is_finite l.name-iterator
+    × (after l.w (others l.between (names_of l.name-iterator)) ≡ after l.initial.w (others l.between (names_of l.initial.name-iterator)))

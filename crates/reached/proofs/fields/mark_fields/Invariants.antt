@@ -5,9 +5,9 @@ use Rattle.reached.proofs.Marking.{Owing}
 use Rattle.reached.proofs.Walks.{to_mark, left_in}
 use Rattle.reached.proofs.fields.mark_fields.Given as goal
 
-abbrev pub invariant-loop-ordinal : goal.invariant-loop-ordinal
-invariant-loop-ordinal l =
-    Owing l.image l.initial.marks (named_items Shape.Field l.image l.run) l.marks (to_mark Shape.Field l.image l.run l.after)
+abbrev pub invariant-loop-field : goal.invariant-loop-field
+invariant-loop-field l =
+    Owing l.fields.image l.initial.marks (named_items Shape.Field l.fields) l.marks (to_mark Shape.Field l.fields l.after)
 
-abbrev pub decreases-loop-ordinal : goal.decreases-loop-ordinal
-decreases-loop-ordinal l = left_in Shape.Field l.image l.run l.after
+abbrev pub decreases-loop-field : goal.decreases-loop-field
+decreases-loop-field l = left_in Shape.Field l.fields l.after

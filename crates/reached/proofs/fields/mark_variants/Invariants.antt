@@ -5,9 +5,9 @@ use Rattle.reached.proofs.Marking.{Owing}
 use Rattle.reached.proofs.Walks.{to_mark, left_in}
 use Rattle.reached.proofs.fields.mark_variants.Given as goal
 
-abbrev pub invariant-loop-ordinal : goal.invariant-loop-ordinal
-invariant-loop-ordinal l =
-    Owing l.image l.initial.marks (named_items Shape.Variant l.image l.run) l.marks (to_mark Shape.Variant l.image l.run l.after)
+abbrev pub invariant-loop-variant : goal.invariant-loop-variant
+invariant-loop-variant l =
+    Owing l.variants.image l.initial.marks (named_items Shape.Variant l.variants) l.marks (to_mark Shape.Variant l.variants l.after)
 
-abbrev pub decreases-loop-ordinal : goal.decreases-loop-ordinal
-decreases-loop-ordinal l = left_in Shape.Variant l.image l.run l.after
+abbrev pub decreases-loop-variant : goal.decreases-loop-variant
+decreases-loop-variant l = left_in Shape.Variant l.variants l.after

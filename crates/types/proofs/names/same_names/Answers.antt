@@ -1,15 +1,8 @@
-use Rattle.std.proofs.Common.{arith}
-use Rattle.types.proofs.Laws.Names.{name_here}
+-- `types::names::same_names` meets its contract: std's `eq` says whether the names are the same, in turn. Assumes nothing.
+use Rattle.types.proofs.Laws.Names.{lists_same}
 use Rattle.types.proofs.names.same_names.Goals as goal
 
-pub name_at-requires : goal.name_at-requires
-name_at-requires c = name_here _ _ _ c.loop.invariant.old_here (omega arith)
-
-pub name_at-requires-in-loop : goal.name_at-requires-in-loop
-name_at-requires-in-loop c = name_here _ _ _ c.loop.invariant.new_here (omega arith)
-
-pub name_end-i-requires : goal.name_end-i-requires
-name_end-i-requires c = name_here _ _ _ c.loop.invariant.old_here (omega arith)
-
-pub name_end-j-requires : goal.name_end-j-requires
-name_end-j-requires c = name_here _ _ _ c.loop.invariant.new_here (omega arith)
+pub returns : goal.returns
+returns c =
+    let h = c.eq.ensures.ran in
+    lists_same h.1 h.2 h.3 h.4 _ _ h.8.0 h.9.0 h.5 h.6 _ h.8.1 h.8.2 (rw h.7 at h.9.1) h.9.2 h.10 h.11

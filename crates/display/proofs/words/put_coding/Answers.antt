@@ -1,0 +1,10 @@
+-- The text is that of the words, as antt computes.
+use Rattle.std.proofs.Common.{refl}
+use Rattle.image.specs.Words.{bytes}
+use Rattle.text.proofs.Writers.{adds_as}
+use Rattle.display.proofs.Laws.Words.{words_are, table, whole, whole_words}
+use Rattle.display.proofs.words.put_coding.Goals as goal
+
+pub returns : goal.returns
+unfolding bytes table whole whole_words
+returns c = adds_as (words_are _ _ refl refl _) c.put_word.ensures
