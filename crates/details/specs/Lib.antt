@@ -1,4 +1,2 @@
--- Words: the words of the report in one table. Details: the texts of a change's declaration, item and detail, and that its places are well
--- formed.
-pub mod Words
+-- Details: the texts of a change's declaration, item and detail.
 pub mod Details

@@ -8,28 +8,21 @@ mod subjects;
 pub mod words;
 
 ghost use Rattle.text.specs.Writers.{Adds};
-ghost use Rattle.details.specs.Details.{verb_text, detail_text, DetailHere};
+ghost use Rattle.details.specs.Details.{verb_text, detail_text};
 
 use crate::shown::put_values;
 use crate::subjects::put_subject;
+use parts::Encoding;
+use parts::handles::{Image, TypeRef};
+use parts::kinds::Kind;
 use text::Writer;
 
-// The declaration that a change is in: none, for the namespace; the body at a place of the old or of the new image; or a variant of a
-// union, by the places of the union's body and of the variant, both in the old image.
+// The declaration that a change is in, by its name: none, for the namespace; or a variant of a union, by the names of both.
 #[derive(Clone, Copy)]
-pub enum Scope {
+pub enum Scope<'a> {
     Schema,
-    Old(usize),
-    New(usize),
-    Variant(usize, usize),
-}
-
-// The field, variant or bit that a change is of, by its place in the old or in the new image.
-#[derive(Clone, Copy)]
-pub enum Item {
-    Nothing,
-    Old(usize),
-    New(usize),
+    Decl(&'a [u8]),
+    Variant(&'a [u8], &'a [u8]),
 }
 
 // What an item is called in a detail.
@@ -40,9 +33,9 @@ pub enum Word {
     Bit,
 }
 
-// What a detail says something of. `OldDecl`, `OldItem`, `DeclName` and `Newtype` have places of the old image, the others of the new one.
+// What a detail says something of.
 #[derive(Clone, Copy)]
-pub enum Subject {
+pub enum Subject<'a> {
     // namespace
     Namespace,
     // declaration
@@ -52,19 +45,17 @@ pub enum Subject {
     // width
     Width,
     // message 'Drive'
-    OldDecl(usize),
-    NewDecl(usize),
+    Decl(Kind, &'a [u8]),
     // 'Drive'
-    DeclName(usize),
+    DeclName(&'a [u8]),
     // newtype 'Speed' inner
-    Newtype(usize),
+    Newtype(&'a [u8]),
     // field 'limit' @1
-    OldItem(Word, usize),
-    NewItem(Word, usize),
+    Item(Word, &'a [u8], u32),
     // field 'limit'
-    FieldName(usize),
+    FieldName(&'a [u8]),
     // field @1
-    FieldOrdinal(usize),
+    FieldOrdinal(u32),
 }
 
 // What happened to the subject.
@@ -82,33 +73,26 @@ pub enum Verb {
 // What is shown of one of the two images: the name of an item, the kind, the mark or the width of a declaration, a type, the encoding of a
 // field, the namespace.
 #[derive(Clone, Copy)]
-pub enum Value {
-    Name(usize),
-    Kind(usize),
-    NonExhaustive(usize),
-    Width(usize),
-    Type(usize),
-    Encoding(usize),
-    Namespace,
+pub enum Value<'a> {
+    Name(&'a [u8]),
+    Kind(Kind),
+    NonExhaustive(bool),
+    Width(Option<u8>),
+    Type(TypeRef<'a>),
+    Encoding(Encoding),
+    Namespace(Image<'a>),
 }
 
-// The values that changed, if a detail shows them.
+// A detail in its parts: with the old value and the new one, if it shows them.
 #[derive(Clone, Copy)]
-pub enum Values {
-    Unsaid,
-    FromTo(Value, Value),
-}
-
-// A detail in its parts.
-#[derive(Clone, Copy)]
-pub struct Detail {
-    pub subject: Subject,
+pub struct Detail<'a> {
+    pub subject: Subject<'a>,
     pub verb: Verb,
-    pub values: Values,
+    pub values: Option<(Value<'a>, Value<'a>)>,
 }
 
 // What happened to the subject.
-#[tactic(auto, using(text::proofs::Writers::after_after), unfolding(crate::specs::Details::verb_text, crate::specs::Words::bytes))]
+#[tactic(auto, using(text::proofs::Writers::after_after), unfolding(image::specs::Words::bytes))]
 fn put_verb(w: &mut Writer<'_>, verb: Verb)
     ensures { Adds w.old (verb_text verb) w.new }
 {
@@ -125,14 +109,13 @@ fn put_verb(w: &mut Writer<'_>, verb: Verb)
 
 // Subject, verb and values.
 #[tactic(auto, using(text::proofs::Writers::after_after), unfolding(crate::specs::Details::detail_text))]
-pub fn put_detail(w: &mut Writer<'_>, old: &[u8], new: &[u8], detail: Detail)
-    requires { DetailHere old.now new.now detail }
-    ensures { Adds w.old (detail_text old.now new.now detail) w.new }
+pub fn put_detail(w: &mut Writer<'_>, detail: Detail<'_>)
+    ensures { Adds w.old (detail_text detail.entry) w.new }
 {
     let subject = detail.subject;
     let verb = detail.verb;
     let values = detail.values;
-    put_subject(w, old, new, subject);
+    put_subject(w, subject);
     put_verb(w, verb);
-    put_values(w, old, new, values);
+    put_values(w, values);
 }

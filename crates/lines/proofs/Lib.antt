@@ -1,3 +1,5 @@
--- Lines: the line of a site in pieces, and the last line. Clauses: the changes that the clauses of rules report are those of sites.
+-- Lines: the line of a site in pieces, and the last line. Lending: a line that is written into the part after what is written. Reports:
+-- reporters one after the other.
 pub mod Lines
-pub mod Clauses
+pub mod Lending
+pub mod Reports

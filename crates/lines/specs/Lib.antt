@@ -1,5 +1,4 @@
--- Sites: the change that a site stands for, and that its places are well formed. Clauses: a site for each change that a clause reports.
--- Last: the last line, of a tally.
+-- Sites: the change that a site stands for. Last: the last line, of a tally. Reports: a report after changes.
 pub mod Sites
-pub mod Clauses
 pub mod Last
+pub mod Reports

@@ -1,18 +1,73 @@
-// Changes and their lines: where a change is, and the one place where it is counted and its line measured or written.
+// Changes and their lines: what a line shows, and the report, the one place where a change is counted and its line written.
 #![tactic(auto)]
 
-pub mod reporting;
-pub mod sites;
+mod reporting;
+mod words;
 
-use details::{Detail, Item, Scope};
-use tally::{Bump, ChangeKind};
+ghost use Rattle.std.specs.Prelude.{◌≡◌, [], ◌∷◌};
+ghost use Rattle.tally.specs.Tallies.{no_change};
+ghost use Rattle.lines.specs.Sites.{change_of};
+ghost use Rattle.lines.specs.Reports.{Reports, Ends};
 
-// A change: its kind, and where all that its line shows is found.
+use crate::reporting::{line_into, result_into};
+use details::{Detail, Scope};
+use tally::{Bump, ChangeKind, Tally};
+use types::Reading;
+
+// A change: its kind and weight, and what its line shows.
 #[derive(Clone, Copy)]
-pub struct Site {
+pub struct Site<'a> {
     pub kind: ChangeKind,
     pub bump: Bump,
-    pub scope: Scope,
-    pub item: Item,
-    pub detail: Detail,
+    pub scope: Scope<'a>,
+    pub field: Option<&'a [u8]>,
+    pub detail: Detail<'a>,
+}
+
+// The report so far: its lines, as far as the buffer reaches, how long they are, and the tally of their changes; and how the images are
+// read. What is past the end of the buffer is counted and not written, so that an empty buffer measures.
+#[derive(Drop)]
+pub struct Report<'a> {
+    out: &'a mut [u8],
+    pub length: usize,
+    pub tally: Tally,
+    pub reading: Reading,
+}
+
+impl Report<'_> {
+    // Of no change, from the start of a buffer.
+    pub fn new(out: &mut [u8], reading: Reading) -> Report<'_>
+        ensures same_reference { result.out.ghost_name ≡ out.entry.ghost_name }
+        ensures bytes { result.out.now ≡ out.old }
+        ensures start { result.length ≡ 0 }
+        ensures tally { result.tally ≡ no_change }
+        ensures reading { result.reading ≡ reading }
+    {
+        Report {
+            out,
+            length: 0,
+            tally: Tally::empty(),
+            reading,
+        }
+    }
+
+    // A change is counted, and its line written after the lines before it.
+    pub fn emit(&mut self, site: Site<'_>)
+        ensures { Reports self.old (change_of site.entry ∷ []) self.new }
+    {
+        let done = self.length.min(self.out.len());
+        let n = line_into(&mut self.out[done..], site);
+        self.length = self.length.saturating_add(n);
+        self.tally = self.tally.with_change(site.kind, site.bump);
+    }
+
+    // "Last line, in the same way: result, bump, number of changes."
+    pub fn put_last_line(&mut self)
+        ensures { Ends self.old self.new }
+    {
+        let at = self.length;
+        let done = at.min(self.out.len());
+        let n = result_into(&mut self.out[done..], self.tally);
+        self.length = at.saturating_add(n);
+    }
 }

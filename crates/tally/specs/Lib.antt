@@ -1,3 +1,2 @@
--- Tallies: the tally of a list of changes. Reporting: what a reporter of changes asks and answers.
+-- The tally of a list of changes.
 pub mod Tallies
-pub mod Reporting

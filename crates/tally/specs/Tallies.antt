@@ -1,14 +1,18 @@
 -- The tally of a list of changes. Assumes nothing.
-use Rattle.std.specs.Prelude.{◌≡◌, ℕ, ◌+◌, ◌^◌, ◌≤◌, ◌<◌, max, length, get_or, set, replicate}
+use Rattle.std.specs.Prelude.{◌≡◌, ℕ, zero, suc, ◌+◌, ◌-◌, ◌^◌, min, max, length, get_or, set, replicate}
 use mathlib.Core.List.{List, flat_map}
 use Rattle.maps.specs.Lists.{pass}
-use Rattle.rules.specs.Changes.{level, kind_at, kind_count, Change}
+use Rattle.rules.specs.Changes.{kind_at, kind_count, Change}
 use Rattle.rules.specs.Changes as spec
 use Rattle.rules.specs.Report.{change_line}
 use Rattle.rules.specs.Verdict.{bump_of}
 use Rattle.rules.specs.Answer.{counts}
+use Rattle.tally.specs.declared.Bump.{Bump}
+use Rattle.tally.specs.declared.Bump.TheVariants as bump
 use Rattle.tally.specs.declared.ChangeKind.{ChangeKind}
 use Rattle.tally.specs.declared.ChangeKind.TheVariants as kind
+use Rattle.tally.specs.declared.CompatResult.{CompatResult}
+use Rattle.tally.specs.declared.CompatResult.TheVariants as result
 use Rattle.tally.specs.declared.Tally.{Tally}
 
 -- the place of a kind among the counts, as `ChangeKind` of the requirements has it
@@ -33,21 +37,50 @@ kind_number kind.FlagsBitRemoved = kind_at spec.FlagsBitRemoved
 kind_number kind.FlagsBitOrdinalChanged = kind_at spec.FlagsBitOrdinalChanged
 kind_number kind.WidthChanged = kind_at spec.WidthChanged
 
+-- the number of a bump, and the bump of the requirements that it is; the other way round, the bump of a number and that of the requirements
+abbrev pub level_of : Bump → ℕ
+level_of bump.Patch = 0
+level_of bump.Minor = 1
+level_of bump.Major = 2
+
+abbrev pub bump_value : Bump → spec.Bump
+bump_value bump.Patch = spec.patch
+bump_value bump.Minor = spec.minor
+bump_value bump.Major = spec.major
+
+abbrev pub bump_at : ℕ → Bump
+bump_at zero = Bump.Patch
+bump_at (suc zero) = Bump.Minor
+bump_at (suc (suc n)) = Bump.Major
+
+abbrev pub bump_for : spec.Bump → Bump
+bump_for spec.patch = Bump.Patch
+bump_for spec.minor = Bump.Minor
+bump_for spec.major = Bump.Major
+
+-- the larger of two
+abbrev pub larger : Bump → Bump → Bump
+larger a b = bump_at (max (level_of a) (level_of b))
+
+-- "result (Compatible 0, Breaking 1)"
+abbrev pub result_number : CompatResult → ℕ
+result_number result.Compatible = 0
+result_number result.Breaking = 1
+
 -- of no change
 unfoldable pub no_change : Tally
-no_change = record { counts = replicate kind_count 0; bump = record { level = 0 }; length = 0; changes = 0 }
+no_change = record { counts = replicate kind_count 0; bump = Bump.Patch; changes = 0 }
 
--- with a change more, of a kind and a level, whose line has n bytes
-unfoldable pub with_change : Tally → ℕ → ℕ → ℕ → Tally
-with_change t kind l n = record {
-  counts = set t.counts kind (get_or t.counts kind 0 + 1);
-  bump = record { level = max t.bump.level l };
-  length = t.length + n;
-  changes = t.changes + 1;
+-- with a change more, of a kind and a bump: a count that is the largest number stays
+unfoldable pub with_change : Tally → ℕ → Bump → Tally
+with_change t kind b = record {
+  counts = set t.counts kind (min (get_or t.counts kind 0 + 1) (2 ^ 64 - 1));
+  bump = larger t.bump b;
+  changes = min (t.changes + 1) (2 ^ 64 - 1);
 }
 
 unfoldable pub tallied : Tally → Change → Tally
-tallied t c = with_change t c.kind (level c.bump) (length (change_line c))
+tallied t c = with_change t c.kind (bump_for c.bump)
 
 -- with the changes cs more
 unfoldable pub tally_from : Tally → List Change → Tally
@@ -60,16 +93,5 @@ lines_of cs = flat_map change_line cs
 -- a tally is that of the changes cs
 pub record TallyOf (cs : List Change) (t : Tally) : Type 0 where
   pub kinds : t.counts ≡ counts kind_count 0 cs
-  pub bump : t.bump.level ≡ bump_of cs
-  pub lines : t.length ≡ length (lines_of cs)
+  pub bump : level_of t.bump ≡ bump_of cs
   pub changes : t.changes ≡ length cs
-
--- no count is above the number of changes, and each change has a byte or more
-pub record Sound (t : Tally) : Type 0 where
-  pub each : (k : ℕ) → get_or t.counts k 0 ≤ t.changes
-  pub few : t.changes ≤ t.length
-
--- what is asked before a change is counted
-pub record Countable (t : Tally) (n : ℕ) : Type 0 where
-  pub sound : Sound t
-  pub small : t.length + n < 2 ^ 62

@@ -1,10 +1,10 @@
-// The tally of changes: a count for each kind, the bump, the length of the lines, and how many changes there are.
+// The tally of changes: a count for each kind, the bump, and how many changes there are.
 #![tactic(auto)]
 
-ghost use Rattle.std.specs.Prelude.{◌≡◌, ◌<◌, max};
+ghost use Rattle.std.specs.Prelude.{◌≡◌, ◌<◌, ◌≤◌};
 ghost use Rattle.rules.specs.Changes.{kind_count};
 ghost use Rattle.rules.specs.Verdict.{result_at};
-ghost use Rattle.tally.specs.Tallies.{Countable, kind_number, no_change, with_change};
+ghost use Rattle.tally.specs.Tallies.{kind_number, level_of, larger, no_change, result_number, with_change};
 
 // The kinds of change, in the order of compat.rs, each with its place among the counts; after them the one of widths.
 #[derive(Clone, Copy, Debug, PartialEq, Eq)]
@@ -43,34 +43,61 @@ impl ChangeKind {
 // How many kinds are counted.
 pub const KINDS: usize = 19;
 
-// The weight of a change.
+// The weight of a change, from the least to the largest.
 #[derive(Clone, Copy, Debug, PartialEq, Eq, PartialOrd, Ord)]
-pub struct Bump {
-    pub level: u8,
+pub enum Bump {
+    Patch = 0,
+    Minor = 1,
+    Major = 2,
 }
 
 impl Bump {
-    pub const PATCH: Bump = Bump { level: 0 };
+    pub const PATCH: Bump = Bump::Patch;
 
-    pub const MINOR: Bump = Bump { level: 1 };
+    pub const MINOR: Bump = Bump::Minor;
 
-    pub const MAJOR: Bump = Bump { level: 2 };
+    pub const MAJOR: Bump = Bump::Major;
+
+    // Its number, which is also the place of its word.
+    pub fn level(self) -> u8
+        ensures is { result ≡ level_of self }
+        ensures known { result ≤ 2 }
+    {
+        self as u8
+    }
 
     // The larger of two.
     pub fn larger(self, other: Bump) -> Bump
-        ensures { result.level ≡ max self.level other.level }
+        ensures { result ≡ larger self other }
     {
         self.max(other)
     }
 
-    // "the result (Breaking exactly at Major)": Breaking 1, Compatible 0, also the places of their words.
-    pub fn result(self) -> usize
-        ensures { result ≡ result_at self.level }
+    // "the result (Breaking exactly at Major)"
+    pub fn result(self) -> CompatResult
+        ensures { result_number result ≡ result_at (level_of self) }
     {
-        if self.level == 2 {
-            return 1;
+        match self {
+            Bump::Major => CompatResult::Breaking,
+            _ => CompatResult::Compatible,
         }
-        0
+    }
+}
+
+// Whether a new schema may be loaded where an old one runs.
+#[derive(Clone, Copy, Debug, PartialEq, Eq)]
+pub enum CompatResult {
+    Compatible = 0,
+    Breaking = 1,
+}
+
+impl CompatResult {
+    // What C is told, also the place of its word.
+    pub fn number(self) -> u8
+        ensures is { result ≡ result_number self }
+        ensures known { result < 2 }
+    {
+        self as u8
     }
 }
 
@@ -79,7 +106,6 @@ impl Bump {
 pub struct Tally {
     pub counts: [u64; KINDS],
     pub bump: Bump,
-    pub length: usize,
     pub changes: usize,
 }
 
@@ -91,25 +117,23 @@ impl Tally {
         Tally {
             counts: [0u64; KINDS],
             bump: Bump::PATCH,
-            length: 0,
             changes: 0,
         }
     }
 
-    // With a change more, whose line has n bytes.
-    pub fn with_change(self, kind: ChangeKind, bump: Bump, n: usize) -> Tally
-        requires { Countable self n }
-        ensures { result ≡ with_change self (kind_number kind) bump.level n }
+    // With a change more. What is past the largest number is not counted, so that nothing is asked of what came before.
+    #[tactic(auto, unfolding(crate::specs::Tallies::with_change))]
+    pub fn with_change(self, kind: ChangeKind, bump: Bump) -> Tally
+        ensures { result ≡ with_change self (kind_number kind) bump }
     {
         let mut counts = self.counts;
-        counts[kind.place()] += 1;
+        let place = kind.place();
+        counts[place] = counts[place].saturating_add(1);
         let largest = self.bump.larger(bump);
-        let length = self.length + n;
-        let changes = self.changes + 1;
+        let changes = self.changes.saturating_add(1);
         Tally {
             counts,
             bump: largest,
-            length,
             changes,
         }
     }

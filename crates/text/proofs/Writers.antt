@@ -6,11 +6,10 @@ use Rattle.std.proofs.lemmas.List.{set_past}
 use mathlib.Core.Bool.{Bool, true, false}
 use borrow.Author.Tests.{leb-true, leb-false}
 use lib.Dec.{leb}
-use Rattle.text.specs.Text.{put, put_in, Room}
+use Rattle.text.specs.Text.{put}
 use Rattle.text.specs.Writers.{after, after_byte, Adds, Fills}
-use Rattle.text.specs.declared.Mode.TheVariants.{Write}
 use Rattle.text.specs.declared.Writer.{Writer}
-use Rattle.text.proofs.Writing.{in_nil, in_in, paste_put, put_length}
+use Rattle.text.proofs.Writing.{paste_put, put_length, put_nil, put_put}
 
 pub after_after : (w : Writer) (xs ys : List ℕ) → after (after w xs) ys ≡ after w (xs ++ ys)
 unfolding after
@@ -64,13 +63,13 @@ set_put d at x h =
     ∙ paste_put d at (x ∷ [])
 
 after_bytes : (w : Writer) (xs : List ℕ) → w.at + length xs ≤ length w.out.now → w.at + length xs < 2 ^ 64 → (after w xs).out.now ≡ put w.out.now w.at xs
-unfolding after put_in Room
-after_bytes w [] h k = sym (in_nil Write w.out.now w.at)
+unfolding after
+after_bytes w [] h k = sym (put_nil w.out.now w.at)
 after_bytes w (x ∷ xs) h k =
     after_bytes (after_byte w x) xs (simp length-set (omega arith)) (omega arith)
     ∙ ap (λ (n : ℕ). put (set w.out.now w.at x) n xs) (omega arith)
     ∙ ap (λ (l : List ℕ). put l (w.at + 1) xs) (set_put w.out.now w.at x (omega arith))
-    ∙ in_in Write w.out.now w.at (x ∷ []) xs (omega arith)
+    ∙ put_put w.out.now w.at (x ∷ []) xs (omega arith)
 
 after_frame : (w : Writer) (xs : List ℕ) → after w xs ≡ record w { at = (after w xs).at; out = record w.out { now = (after w xs).out.now } }
 unfolding after

@@ -1,4 +1,4 @@
--- Decimal: how a number is spelled. Text: a buffer with text at a place; what a writer by mode asks and answers. Writers: a writer after text.
+-- Decimal: how a number is spelled. Text: a buffer with text at a place. Writers: a writer after text.
 pub mod Decimal
 pub mod Text
 pub mod Writers

@@ -3,15 +3,8 @@
 
 ghost use Rattle.std.specs.Prelude.{◌≡◌, [], ◌∷◌, ◌+◌, ◌≤◌, length};
 ghost use Rattle.text.specs.Decimal.{decimal, Spelled};
-ghost use Rattle.text.specs.Text.{put, Space, Puts, start_in};
+ghost use Rattle.text.specs.Text.{put};
 ghost use Rattle.text.specs.Writers.{Adds};
-
-// Whether text is only measured, or written too.
-#[derive(Clone, Copy)]
-pub enum Mode {
-    Measure,
-    Write,
-}
 
 // The digits of a number, from a place to the end.
 #[derive(Clone, Copy)]
@@ -100,15 +93,5 @@ impl Writer<'_> {
         let from = d.from;
         let bytes = d.bytes;
         self.text(&bytes[from..]);
-    }
-}
-
-// Where the part of a buffer of so many bytes starts that a writer at a place is lent: what only measures is lent none of it.
-pub fn start_in(mode: Mode, len: usize, at: usize) -> usize
-    ensures { result ≡ start_in mode len at }
-{
-    match mode {
-        Mode::Measure => len,
-        Mode::Write => at,
     }
 }

@@ -1,2 +1,2 @@
--- A verdict of an outcome, and what its selectors give.
+-- What C is told of an answer, and what its selectors give.
 pub mod Verdicts

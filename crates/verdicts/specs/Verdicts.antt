@@ -1,25 +1,35 @@
--- A verdict: how one is made of a refusal or of a tally, what an outcome's is, and the value that a selector gives. Assumes nothing.
-use Rattle.std.specs.Prelude.{◌∷◌, ℕ, length, get_or, replicate}
+-- What C is told of an answer, of a tally's verdict and of an outcome, and the value that a selector gives. Assumes nothing.
+use Rattle.std.specs.Prelude.{◌∷◌, ℕ, length, get_or, replicate, Result, Ok, Err}
+use Rattle.image.specs.Numbers.{refusal_number, side_number}
 use Rattle.rules.specs.Changes.{kind_count}
 use Rattle.rules.specs.Verdict.{result_at}
 use Rattle.rules.specs.Outcome.{Outcome, refused, answered}
+use Rattle.tally.specs.Tallies.{level_of, result_number}
 use Rattle.tally.specs.declared.Tally.{Tally}
+use Rattle.verdicts.specs.declared.Fault.{Fault}
 use Rattle.verdicts.specs.declared.Verdict.{Verdict}
+use Rattle.verdicts.specs.declared.Values.{Values}
 
 -- "A refusal is number and side .., with bump Major, result Breaking, all counts and length 0"
-unfoldable pub refused_by : ℕ → ℕ → Verdict
+unfoldable pub refused_by : ℕ → ℕ → Values
 refused_by number side =
-    record { number = number; side = side; bump = record { level = 2 }; result = 1; length = 0; counts = replicate kind_count 0 }
+    record { number = number; side = side; bump = 2; result = 1; length = 0; counts = replicate kind_count 0 }
 
--- of a tally, and the length of the whole text
-unfoldable pub of_tally : Tally → ℕ → Verdict
-of_tally t n = record { number = 0; side = 0; bump = t.bump; result = result_at t.bump.level; length = n; counts = t.counts }
+-- what C is told of an answer of the code
+unfoldable pub answer_values : Result Verdict Fault → Values
+answer_values (Ok v) = record { number = 0; side = 0; bump = level_of v.bump; result = result_number v.result; length = v.length; counts = v.counts }
+answer_values (Err f) = refused_by (refusal_number f.refusal) (side_number f.side)
 
-unfoldable pub verdict_is : Outcome → Verdict
-verdict_is (refused number side) = refused_by number side
-verdict_is (answered a) =
-    record { number = 0; side = 0; bump = record { level = a.bump }; result = a.result; length = length a.text; counts = a.counts }
+-- of the verdict of a tally, and the length of the whole text
+unfoldable pub of_tally : Tally → ℕ → Values
+of_tally t n = record { number = 0; side = 0; bump = level_of t.bump; result = result_at (level_of t.bump); length = n; counts = t.counts }
+
+-- what it is to be told of an outcome
+unfoldable pub outcome_values : Outcome → Values
+outcome_values (refused number side) = refused_by number side
+outcome_values (answered a) =
+    record { number = 0; side = 0; bump = a.bump; result = a.result; length = length a.text; counts = a.counts }
 
 -- by selector; one beyond them gives 0
-unfoldable pub select_in : Verdict → ℕ → ℕ
-select_in v selector = get_or (v.number ∷ v.side ∷ v.bump.level ∷ v.result ∷ v.length ∷ v.counts) selector 0
+unfoldable pub select_in : Values → ℕ → ℕ
+select_in v selector = get_or (v.number ∷ v.side ∷ v.bump ∷ v.result ∷ v.length ∷ v.counts) selector 0

@@ -1,52 +1,81 @@
-// A verdict, of two images or of one, made in two ways only: of a refusal, or of a tally.
+// What a call is answered, of two images or of one: a verdict, made of a tally only, or why there is none; and the numbers that C is told
+// of it.
 #![tactic(auto)]
 
-ghost use Rattle.std.specs.Prelude.{◌≡◌};
-ghost use Rattle.image.specs.Numbers.{refusal_number, side_number};
-ghost use Rattle.verdicts.specs.Verdicts.{refused_by, of_tally, select_in};
+ghost use Rattle.std.specs.Prelude.{◌≡◌, Ok};
+ghost use Rattle.verdicts.specs.Verdicts.{answer_values, of_tally, select_in};
 
 use image::refusals::Refusal;
 use image::sides::Side;
-use tally::{Bump, KINDS, Tally};
+use tally::{Bump, CompatResult, KINDS, Tally};
 
-// What a call is asked for: the number and the side of a refusal, 0 if there is none; bump, result, the length of the text, counts.
+// Why images get no verdict.
+#[derive(Clone, Copy)]
+pub struct Fault {
+    pub refusal: Refusal,
+    pub side: Side,
+}
+
+// The bump, the result, the length of the text, and the counts.
 #[derive(Clone, Copy)]
 pub struct Verdict {
-    pub number: u8,
-    pub side: u8,
     pub bump: Bump,
-    pub result: usize,
+    pub result: CompatResult,
     pub length: usize,
     pub counts: [u64; KINDS],
 }
 
 impl Verdict {
-    // "with bump Major, result Breaking, all counts and length 0"
-    pub fn refused(refusal: Refusal, side: Side) -> Verdict
-        ensures { result ≡ refused_by (refusal_number refusal) (side_number side) }
-    {
-        Verdict {
-            number: refusal.number(),
-            side: side.number(),
-            bump: Bump::MAJOR,
-            result: 1,
-            length: 0,
-            counts: [0u64; KINDS],
-        }
-    }
-
     // Of a tally, and the length of the whole text.
     pub fn of_tally(t: Tally, length: usize) -> Verdict
-        ensures { result ≡ of_tally t length }
+        ensures { answer_values (Ok result) ≡ of_tally t length }
     {
         let counts = t.counts;
         Verdict {
-            number: 0,
-            side: 0,
             bump: t.bump,
             result: t.bump.result(),
             length,
             counts,
+        }
+    }
+}
+
+// What C is told: the number and the side of a refusal, 0 if there is none; bump, result, the length of the text, counts.
+#[derive(Clone, Copy)]
+pub struct Values {
+    pub number: u8,
+    pub side: u8,
+    pub bump: u8,
+    pub result: u8,
+    pub length: usize,
+    pub counts: [u64; KINDS],
+}
+
+impl Values {
+    // Of a verdict; or of a refusal, "with bump Major, result Breaking, all counts and length 0".
+    pub fn of(answer: Result<Verdict, Fault>) -> Values
+        ensures { result ≡ answer_values answer }
+    {
+        match answer {
+            Ok(v) => {
+                let counts = v.counts;
+                Values {
+                    number: 0,
+                    side: 0,
+                    bump: v.bump.level(),
+                    result: v.result.number(),
+                    length: v.length,
+                    counts,
+                }
+            }
+            Err(fault) => Values {
+                number: fault.refusal.number(),
+                side: fault.side.number(),
+                bump: Bump::MAJOR.level(),
+                result: CompatResult::Breaking.number(),
+                length: 0,
+                counts: [0u64; KINDS],
+            },
         }
     }
 
@@ -58,7 +87,7 @@ impl Verdict {
         match selector {
             0 => self.number as u64,
             1 => self.side as u64,
-            2 => self.bump.level as u64,
+            2 => self.bump as u64,
             3 => self.result as u64,
             4 => self.length as u64,
             _ => {

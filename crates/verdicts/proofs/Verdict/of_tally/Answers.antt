@@ -1,7 +1,7 @@
 -- `verdicts::Verdict::of_tally` meets its contract. Assumes nothing.
-use Rattle.verdicts.specs.Verdicts.{of_tally}
+use Rattle.verdicts.specs.Verdicts.{answer_values, of_tally}
 use Rattle.verdicts.proofs.Verdict.of_tally.Goals as goal
 
 pub returns : goal.returns
-unfolding of_tally
+unfolding answer_values of_tally
 returns c = rw c.result.ensures

@@ -1,8 +1,8 @@
--- `verdicts::Verdict::select` meets its contract, by the selector. Assumes nothing.
+-- `verdicts::Values::select` meets its contract, by the selector. Assumes nothing.
 use Rattle.std.proofs.Common.{rules, arith}
 use Rattle.verdicts.specs.Verdicts.{select_in}
 use Rattle.verdicts.proofs.Selectors.{select_count, select_beyond}
-use Rattle.verdicts.proofs.Verdict.select.Goals as goal
+use Rattle.verdicts.proofs.Values.select.Goals as goal
 
 pub returns-then-selector : goal.returns-then-selector
 returns-then-selector c = select_count c.args.self c.args.selector (search rules)

@@ -1,2 +1,0 @@
--- Table: the words of rules in the table of all.
-pub mod Table
