@@ -1,86 +1,86 @@
 -- One declaration: what is reported of it, from what stands under its name on the other side. Assumes nothing.
-use mathlib.Core.Path.{◌≡◌, sym, ap, ◌∙◌}
+use mathlib.Core.Path.{◌≡◌, refl, sym, ap, ◌∙◌}
 use mathlib.Core.Bool.{Bool, true, false}
 use Rattle.std.specs.Prelude.{Option, None, Some}
 use Rattle.std.specs.Option.{is_some}
-use mathlib.Core.List.{List, []}
-use Prim.Native.Nat.{ℕ}
+use mathlib.Core.List.{List, [], ◌∷◌}
 use Rattle.maps.specs.Orders.{before}
 use Rattle.maps.specs.Keyed.{lookup}
-use Rattle.maps.specs.Compare.{matched}
 use Rattle.maps.proofs.Walking.{covered_none}
-use Rattle.image.specs.Schema.{Name, Decl}
-use Rattle.text.specs.declared.Mode.{Mode}
-use Rattle.parts.specs.Promise.{decl_in}
+use Rattle.image.specs.Schema.{Name, Decl as Declaration}
+use Rattle.parts.specs.Handles.{decl_of}
+use Rattle.parts.specs.declared.handles.Image.{Image}
+use Rattle.parts.specs.declared.handles.Decl.{Decl}
 use Rattle.rules.specs.Survivors.{name_of}
-use Rattle.rules.specs.Reached.{IdSet}
 use Rattle.rules.specs.Imports.{standing_with}
+use Rattle.rules.specs.Changes.{Change}
 use Rattle.rules.specs.Clauses.{compare_decls, decl_rules}
-use Rattle.tally.specs.Reporting.{Ready, Ran}
-use Rattle.tally.specs.declared.Tally.{Tally}
 use Rattle.types.specs.declared.Reading.{Reading}
-use Rattle.survivors.specs.Answers.{Survives, names_covered}
+use Rattle.survivors.specs.Answers.{standing_of, Survives, names_covered}
+use Rattle.survivors.specs.declared.decls.Declarations.{Declarations}
 use Rattle.survivors.proofs.Laws.Better.{some_map}
-use Rattle.survivors.proofs.Declarations.{survives_none, survives_body, survives_here}
-use Rattle.lines.specs.Clauses.{decl_removed, decl_added}
-use Rattle.lines.proofs.Clauses.{Reports, decl_removed_lem, decl_added_lem}
-use Rattle.items.specs.Pairs.{context_of, DeclPair}
+use Rattle.survivors.proofs.Declarations.{survives_none, survives_body, survives_image}
+use Rattle.lines.specs.Sites.{change_of}
+use Rattle.lines.specs.Reports.{Reports}
+use Rattle.lines.specs.declared.Report.{Report}
+use Rattle.lines.specs.declared.Site.{Site}
+use Rattle.lines.proofs.Reports.{reports_none, reports_as}
+use Rattle.items.specs.Items.{context_of}
 use Rattle.items.specs.Sides.{on, off}
 use Rattle.items.specs.declared.Side.{Side}
-use Rattle.items.proofs.Standing.{unmatched_has, unmatched_lacks}
-use Rattle.checking.specs.Decls.{standing_off, all_off, lone, unmatched_decls, unmatched_in, kept_in, DeclOn}
+use Rattle.items.specs.declared.Side.TheVariants as side
+use Rattle.items.proofs.Standing.{unmatched_has, unmatched_lacks, matched_none, matched_some}
+use Rattle.checking.specs.Decls.{lone_of, lone, unmatched_decls, unmatched_decl, kept_decl, of_decls}
 
 -- what stands under a name stands under one that equals it
-pub under : {m : List Decl} {s : List ℕ} {name key : Name} {r : Option ℕ} → name ≡ key → Survives m s name r → Survives m s key r
+pub under : {m : List Declaration} {i : Image} {name key : Name} {r : Option Decl} → name ≡ key → Survives m i name r → Survives m i key r
 under e h = rw (← e) h
 
--- ---- on one side only, where n stand on the other
+module _ (reading : Reading) (old new : Declarations) where
+  -- what is gone, or came, is the change of a site
+  lone_is : (s : Side) (d : Declaration) → lone reading old new s d ≡ lone_of s d ∷ []
+  unfolding decl_rules
+  lone_is side.Old d = refl
+  lone_is side.New d = refl
 
-module _ (reading : Reading) {old new : List ℕ} {a b : IdSet} {side : Side} {at : ℕ} (p : DeclOn old new a b side at) {n : List Decl} {q : Option ℕ}
-    (k : Survives n (off side old new) (decl_in (on side old new) at).name q) where
-  there : is_some q ≡ is_some (lookup name_of before (decl_in (on side old new) at).name n)
-  there = some_map (decl_in (off side old new)) q ∙ ap is_some k.value
+  -- each name of what may stand on a side stands on the other
+  pub none_unmatched : (s : Side) {own other : Declarations} → own ≡ on s old new → other ≡ off s old new
+      → {t : Bool} → t ≡ names_covered (standing_of other) own → t ≡ true → unmatched_decls reading old new s ≡ []
+  unfolding unmatched_decls standing_with names_covered
+  none_unmatched s p q e t = covered_none name_of before (lone reading old new s) (standing_of (off s old new)) _ (rw (p, q) at (sym e ∙ t))
 
-  pub stands_off : is_some q ≡ true → unmatched_in reading old new n side at ≡ []
-  unfolding unmatched_in
-  stands_off e = unmatched_has (lone reading old new side) _ _ (sym there ∙ e)
+-- ---- on one side only: k says what stands on the other under the name of a declaration
 
-  module _ (e : is_some q ≡ false) where
-    alone : unmatched_in reading old new n side at ≡ lone reading old new side (decl_in (on side old new) at)
-    unfolding unmatched_in
-    alone = unmatched_lacks (lone reading old new side) _ _ (sym there ∙ e)
+module _ (old new : Declarations) (s : Side) {other : Declarations} (q : other ≡ off s old new) (d : Decl) {name : Name} (u : name ≡ (decl_of d).name)
+    {o : Option Decl} (k : Survives (standing_of other) other.image name o) {t : Bool} (p : t ≡ is_some o) where
+  there : t ≡ is_some (lookup name_of before (decl_of d).name (standing_of (off s old new)))
+  there = p ∙ some_map decl_of o ∙ ap is_some (rw (q, u) at k.value)
 
-    pub removed : side ≡ Side.Old → Reports old new (decl_removed at) true (unmatched_in reading old new n side at)
-    removed o = rw (alone, o) (decl_removed_lem old new p.searchable.0.accepted p.searchable.1.accepted (context_of reading old new) at (rw o at p.here))
+  pub stands_off : t ≡ true → {r : Report} → Reports r (unmatched_decl r.reading old new s d) r
+  unfolding unmatched_decl
+  stands_off e {r} = reports_none (unmatched_has (lone r.reading old new s) _ _ (sym there ∙ e))
 
-    pub added : side ≡ Side.New → Reports old new (decl_added at) true (unmatched_in reading old new n side at)
-    added o = rw (alone, o) (decl_added_lem old new p.searchable.0.accepted p.searchable.1.accepted (context_of reading old new) at (rw o at p.here))
+  pub stands_alone : t ≡ false → (c : Site) → change_of c ≡ lone_of s (decl_of d)
+      → {r r' : Report} → Reports r (change_of c ∷ []) r' → Reports r (unmatched_decl r.reading old new s d) r'
+  unfolding unmatched_decl
+  stands_alone e c f {r} h =
+      reports_as
+      (unmatched_lacks (lone r.reading old new s) _ _ (sym there ∙ e)
+      ∙ lone_is r.reading old new s (decl_of d)
+      ∙ ap (λ (l : Change). l ∷ []) (sym f))
+      h
 
--- each name of what may stand on a side stands on the other
-pub none_unmatched : (reading : Reading) (old new : List ℕ) (a b : IdSet) (side : Side) {t : Bool} → t ≡ all_off old new a b side → t ≡ true
-    → unmatched_decls reading old new a b side ≡ []
-unfolding unmatched_decls standing_with names_covered
-none_unmatched reading old new a b side e q = covered_none name_of before (lone reading old new side) (standing_off old new a b side) _ (sym e ∙ q)
+-- ---- on both: k says what stands in the new image
 
--- ---- on both, where n stand in the new image
+module _ (new : Declarations) (d : Decl) {name : Name} (u : name ≡ (decl_of d).name) {o : Option Decl} (k : Survives (standing_of new) new.image name o) where
+  pub new_none : o ≡ None → {r : Report} → Reports r (kept_decl r.reading new d) r
+  unfolding kept_decl
+  new_none e {r} = reports_none (matched_none (decl_rules (context_of r.reading d.image new.image)).kept _ (survives_none (under u k) e))
 
-module _ (reading : Reading) {old new : List ℕ} {a b : IdSet} {i : ℕ} (p : DeclOn old new a b Side.Old i) {n : List Decl} {q : Option ℕ} (k : Survives n new (decl_in old i).name q) where
-  pub new_none : q ≡ None → kept_in reading old new n i ≡ []
-  unfolding kept_in matched
-  new_none e = rw (survives_none new _ k e)
-
-  module _ {j : ℕ} (e : q ≡ Some j) where
-    both_kept : kept_in reading old new n i ≡ compare_decls (context_of reading old new) (decl_in old i) (decl_in new j)
-    unfolding kept_in matched decl_rules
-    both_kept = rw (survives_body new _ k e)
-
-    module _ {m : Mode} {d : List ℕ} {t : Tally} where
-      -- what comparing them asks, and gives
-      pub both_asks : Ready m d t (kept_in reading old new n i)
-          → DeclPair old new i j × Ready m d t (compare_decls (context_of reading old new) (decl_in old i) (decl_in new j))
-      both_asks w = rw (← both_kept) (record { accepted = (p.searchable.0.accepted, p.searchable.1.accepted); here = (p.here, survives_here new _ k e) }, w)
-
-      pub both_ran : {u : Tally} {d' : List ℕ}
-          → Ran m d t (compare_decls (context_of reading old new) (decl_in old i) (decl_in new j)) u d'
-          → Ran m d t (kept_in reading old new n i) u d'
-      both_ran w = rw both_kept w
+  pub both_kept : {f : Decl} → o ≡ Some f → {r r' : Report} → Reports r (of_decls r.reading d f) r' → Reports r (kept_decl r.reading new d) r'
+  unfolding kept_decl decl_rules
+  both_kept {f} e {r} h =
+      reports_as
+      (matched_some (decl_rules (context_of r.reading d.image new.image)).kept _ (survives_body (under u k) e)
+      ∙ ap (λ (i : Image). compare_decls (context_of r.reading d.image i) (decl_of d) (decl_of f)) (sym (survives_image k e)))
+      h

@@ -1,54 +1,77 @@
--- A walk over the declarations m that stand in an image s, by rising name, which reports what g gives of each, with what a map n has under
--- its name. It serves what stands on one side only and what was kept. Assumes nothing.
-use mathlib.Core.Path.{◌≡◌, sym}
+-- The walks over the declarations that stand, by rising name: over those of a side, of which those are reported that the other side has not; and
+-- over the old ones, of which those are compared that the new image has too. Assumes nothing.
+use mathlib.Core.Path.{◌≡◌, sym, ap, ◌∙◌}
 use Rattle.std.specs.Prelude.{Option, None, Some}
-use mathlib.Core.List.{List, [], ◌∷◌}
-use Prim.Native.Nat.{ℕ}
+use mathlib.Core.List.{List, ◌++◌}
 use Rattle.maps.specs.Orders.{before}
 use Rattle.maps.specs.Keyed.{lookup}
-use Rattle.maps.specs.Compare.{between}
-use Rattle.maps.specs.Walk.{Rising}
-use Rattle.image.specs.Schema.{Decl}
-use Rattle.text.specs.declared.Mode.{Mode}
-use Rattle.text.proofs.Pieces.{together}
-use Rattle.parts.specs.Promise.{decl_in, EntryHere}
+use Rattle.maps.specs.Compare.{unmatched, matched}
+use Rattle.parts.specs.Handles.{decl_of}
+use Rattle.parts.specs.declared.handles.Image.{Image}
+use Rattle.parts.specs.declared.handles.Decl.{Decl}
 use Rattle.rules.specs.Survivors.{name_of}
 use Rattle.rules.specs.Changes.{Change}
-use Rattle.tally.specs.Reporting.{Ready, Ran}
-use Rattle.tally.specs.declared.Tally.{Tally}
-use Rattle.tally.proofs.Running.{Owed, owed_start, owed_cut, owed_room, owed_next, owed_end}
-use Rattle.survivors.specs.Answers.{Follows}
-use Rattle.survivors.proofs.Declarations.{follows_here}
+use Rattle.rules.specs.Clauses.{decl_rules}
+use Rattle.rules.proofs.Standing.{standing_rises}
+use Rattle.types.specs.declared.Reading.{Reading}
+use Rattle.lines.specs.Reports.{Reports}
+use Rattle.lines.specs.declared.Report.{Report}
+use Rattle.lines.proofs.Reports.{reports_as, Left, left_start, left_reading, left_turn, left_done}
+use Rattle.survivors.specs.Answers.{standing_of, Follows}
+use Rattle.survivors.specs.declared.decls.Declarations.{Declarations}
+use Rattle.survivors.proofs.Declarations.{follows_image}
 use Rattle.survivors.proofs.Walks.{rest_decls, decls_start, decls_done, decls_turn}
+use Rattle.items.specs.Items.{context_of}
+use Rattle.items.specs.Sides.{on, off}
+use Rattle.items.specs.declared.Side.{Side}
+use Rattle.checking.specs.Decls.{rules, lone, unmatched_decls, unmatched_decl, kept_decls, kept_decl}
 
--- The walk began with the tally t and the buffer d, and stands at t' and d' after an entry: it owes what is left.
-pub record Walked (g : Option Decl → Option Decl → List Change) (m : List Decl) (s : List ℕ) (n : List Decl) (mode : Mode) (d : List ℕ) (t : Tally)
-    (after : Option ℕ) (t' : Tally) (d' : List ℕ) : Type 0 where
-  pub here : EntryHere s after
-  pub owed : Owed mode d t (between name_of before g m n) t' d' (rest_decls g m s n after ∷ [])
+-- ---- what stands on one side only: what the walk has yet to report after a declaration
 
-module _ {g : Option Decl → Option Decl → List Change} {m : List Decl} {s : List ℕ} {n : List Decl} {mode : Mode} {d : List ℕ} {t : Tally} where
-  pub walk_start : Ready mode d t (between name_of before g m n) → Walked g m s n mode d t None t d
-  unfolding together
-  walk_start a = record { here = tt; owed = owed_start (sym (decls_start g m s n)) a }
+abbrev pub rest_unmatched : Reading → Declarations → Declarations → Side → Option Decl → List Change
+rest_unmatched reading old new s after =
+    rest_decls (unmatched (lone reading old new s)) (standing_of (on s old new)) (standing_of (off s old new)) after
 
-  module _ {after : Option ℕ} {t' : Tally} {d' : List ℕ} (w : Walked g m s n mode d t after t' d') {r : Option ℕ} (f : Follows m s after r) where
-    pub walk_done : r ≡ None → Ran mode d t (between name_of before g m n) t' d'
-    unfolding together
-    walk_done e = owed_end (owed_cut (decls_done g m s n after f e) w.owed)
+-- own is what may stand on the side
+module _ (old new : Declarations) (s : Side) {own : Declarations} (q : own ≡ on s old new) {a : Report} where
+  pub unmatched_start : Left a (unmatched_decls a.reading old new s) a (rest_unmatched a.reading old new s None)
+  unfolding unmatched_decls
+  unmatched_start = left_start (sym (decls_start (unmatched (lone a.reading old new s)) _ _))
 
-    module _ (R : Rising name_of before m) {at : ℕ} (e : r ≡ Some at) where
-      -- what is reported of the declaration that is met
-      abbrev met : List Change
-      met = g (Some (decl_in s at)) (lookup name_of before (decl_in s at).name n)
+  module _ {all : List Change} {after : Option Decl} {b : Report} (w : Left a all b (rest_unmatched a.reading old new s after))
+      {r : Option Decl} (f : Follows (standing_of own) own.image after r) where
+    pub unmatched_turn : {d : Decl} → r ≡ Some d → {c : Report} → Reports b (unmatched_decl b.reading old new s d) c
+        → Left a all c (rest_unmatched a.reading old new s (Some d))
+    unfolding unmatched_decl
+    unmatched_turn {d} e h =
+        left_turn w
+        (decls_turn (unmatched (lone a.reading old new s)) _ _ (rw q at f) (standing_rises _ _) e)
+        (reports_as (ap (λ (x : Reading). unmatched_decl x old new s d) (sym (left_reading w))) h)
 
-      turn : Owed mode d t (between name_of before g m n) t' d' (met ∷ rest_decls g m s n (Some at) ∷ [])
-      unfolding together
-      turn = owed_cut (decls_turn g m s n after f R e) w.owed
+    pub unmatched_done : r ≡ None → Reports a all b
+    unmatched_done e = left_done w (decls_done (unmatched (lone a.reading old new s)) _ _ (rw q at f) e)
 
-      -- for its reporter
-      pub walk_room : Ready mode d' t' met
-      walk_room = owed_room turn
+-- ---- what was kept
 
-      pub walk_turn : {t'' : Tally} {d'' : List ℕ} → Ran mode d' t' met t'' d'' → Walked g m s n mode d t (Some at) t'' d''
-      walk_turn a = record { here = follows_here s after f e; owed = owed_next turn a }
+abbrev pub rest_kept : Reading → Declarations → Declarations → Option Decl → List Change
+rest_kept reading old new after = rest_decls (matched (rules reading old new).kept) (standing_of old) (standing_of new) after
+
+module _ (old new : Declarations) {a : Report} where
+  pub kept_start : Left a (kept_decls a.reading old new) a (rest_kept a.reading old new None)
+  unfolding kept_decls
+  kept_start = left_start (sym (decls_start (matched (rules a.reading old new).kept) _ _))
+
+  module _ {all : List Change} {after : Option Decl} {b : Report} (w : Left a all b (rest_kept a.reading old new after))
+      {r : Option Decl} (f : Follows (standing_of old) old.image after r) where
+    pub kept_turn : {d : Decl} → r ≡ Some d → {c : Report} → Reports b (kept_decl b.reading new d) c
+        → Left a all c (rest_kept a.reading old new (Some d))
+    unfolding kept_decl
+    kept_turn {d} e h =
+        let own : d.image ≡ old.image = follows_image f e in
+        left_turn w
+        (decls_turn (matched (rules a.reading old new).kept) _ _ f (standing_rises _ _) e
+        ∙ ap (λ (i : Image). matched (decl_rules (context_of a.reading i new.image)).kept (Some (decl_of d)) (lookup name_of before (decl_of d).name (standing_of new)) ++ rest_kept a.reading old new (Some d)) (sym own))
+        (reports_as (ap (λ (x : Reading). kept_decl x new d) (sym (left_reading w))) h)
+
+    pub kept_done : r ≡ None → Reports a all b
+    kept_done e = left_done w (decls_done (matched (rules a.reading old new).kept) _ _ f e)

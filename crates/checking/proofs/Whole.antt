@@ -1,39 +1,25 @@
 -- All changes, part by part. Assumes nothing.
-use mathlib.Core.Path.{◌≡◌, refl}
-use mathlib.Core.List.{List, [], ◌∷◌}
-use Prim.Native.Nat.{ℕ}
+use mathlib.Core.List.{◌++◌}
 use Rattle.maps.specs.Compare.{compare}
-use Rattle.text.specs.declared.Mode.{Mode}
-use Rattle.text.proofs.Pieces.{together}
-use Rattle.parts.specs.Promise.{schema_of}
-use Rattle.rules.specs.Reached.{IdSet}
 use Rattle.rules.specs.Imports.{view_with}
-use Rattle.rules.specs.Changes.{Change}
-use Rattle.rules.specs.Clauses.{compare_namespaces, changes}
+use Rattle.rules.specs.Clauses.{changes}
 use Rattle.types.specs.declared.Reading.{Reading}
-use Rattle.tally.specs.Tallies.{no_change}
-use Rattle.tally.specs.Reporting.{Ready}
-use Rattle.tally.specs.declared.Tally.{Tally}
-use Rattle.tally.proofs.Running.{Owed, owed_start}
+use Rattle.survivors.specs.declared.decls.Declarations.{Declarations}
+use Rattle.lines.specs.Reports.{Reports}
+use Rattle.lines.specs.declared.Report.{Report}
+use Rattle.lines.proofs.Reports.{reports_then}
 use Rattle.items.specs.declared.Side.{Side}
-use Rattle.checking.specs.Decls.{unmatched_decls, kept_decls, all_changes}
+use Rattle.checking.specs.Decls.{of_namespaces, unmatched_decls, kept_decls, all_changes}
 
-module _ (reading : Reading) (old new : List ℕ) (a b : IdSet) where
-  -- in the order of the report
-  abbrev pub parts : List (List Change)
-  parts =
-      compare_namespaces (schema_of old).namespace (schema_of new).namespace
-      ∷ unmatched_decls reading old new a b Side.Old
-      ∷ unmatched_decls reading old new a b Side.New
-      ∷ kept_decls reading old new a b
-      ∷ []
-
-  all_parts_lem : all_changes reading old new a b ≡ together parts
-  unfolding all_changes changes view_with compare unmatched_decls kept_decls together
-  all_parts_lem = refl
-
-  -- from the tally of no change on
-  pub parts_start : {m : Mode} {d : List ℕ} {t : Tally} → t ≡ no_change
-      → Ready m d no_change (all_changes reading old new a b)
-      → Owed m d no_change (all_changes reading old new a b) t d parts
-  parts_start e r = rw e (owed_start all_parts_lem r)
+-- in the order of the report
+pub all_reported : (old new : Declarations) {a b c d e : Report}
+    → Reports a (of_namespaces old.image new.image) b
+    → Reports b (unmatched_decls b.reading old new Side.Old) c
+    → Reports c (unmatched_decls c.reading old new Side.New) d
+    → Reports d (kept_decls d.reading old new) e
+    → Reports a (all_changes a.reading old new) e
+unfolding all_changes changes view_with compare unmatched_decls kept_decls
+all_reported old new names gone came kept =
+    let last = reports_then (λ (r : Reading). kept_decls r old new) came kept in
+    let lone = reports_then (λ (r : Reading). unmatched_decls r old new Side.New ++ kept_decls r old new) gone last in
+    reports_then (λ (r : Reading). unmatched_decls r old new Side.Old ++ (unmatched_decls r old new Side.New ++ kept_decls r old new)) names lone

@@ -1,170 +1,122 @@
 // 2. and 3. Declarations, by rising name: removed, added, kept.
-ghost use Rattle.tally.specs.Reporting.{Ready, Ran};
-ghost use Rattle.parts.specs.Numbers.{kind_number};
-ghost use Rattle.items.specs.Pairs.{DeclPair, KindPair};
-ghost use Rattle.items.specs.declared.Side.{Side};
-ghost use Rattle.checking.specs.Decls.{BothSearchable, DeclOn, of_kind, of_decls, unmatched_decls, unmatched_decl, kept_decls, kept_decl};
+ghost use Rattle.std.specs.Prelude.{◌≡◌};
+ghost use Rattle.parts.specs.Handles.{decl_of};
+ghost use Rattle.lines.specs.Reports.{Reports};
+ghost use Rattle.items.specs.Sides.{on, off};
+ghost use Rattle.checking.specs.Decls.{of_kind, of_decls, unmatched_decls, unmatched_decl, kept_decls, kept_decl};
 
-use crate::sides::{all_off, namesake_off, next_on};
+use crate::sites::{kind_changed, lone};
 use clauses::enums::compare_enums;
 use clauses::flags::compare_flags;
 use clauses::messages::compare_messages;
 use clauses::newtypes::compare_newtypes;
 use clauses::unions::compare_unions;
 use clauses::widths::compare_widths;
-use items::{Side, Walk};
-use lines::reporting::emit;
-use lines::sites::{decl_added, decl_removed, kind_changed};
-use parts::decls::decl_kind;
+use items::Side;
+use lines::Report;
+use members::kinds::{Enum, Flags, Message, Newtype, Union};
+use parts::handles::Decl;
 use parts::kinds::Kind;
-use tally::Tally;
+use survivors::decls::Declarations;
 
 // Two declarations of one kind.
-fn compare_kind(
-    walk: Walk,
-    old: &[u8],
-    new: &[u8],
-    out: &mut [u8],
-    t: Tally,
-    kind: Kind,
-    i: usize,
-    j: usize,
-) -> Tally
-    requires { KindPair (kind_number kind) old.now new.now i j × Ready walk.mode out.old t (of_kind walk.reading old.now new.now (kind_number kind) i j) }
-    ensures { Ran walk.mode out.old t (of_kind walk.reading old.now new.now (kind_number kind) i j) result out.new }
+fn compare_kind(r: &mut Report<'_>, old: Decl<'_>, new: Decl<'_>)
+    requires { (decl_of new).kind ≡ (decl_of old).kind }
+    ensures { Reports r.old (of_kind r.old.reading old.entry new.entry) r.new }
 {
-    match kind {
-        Kind::Message => compare_messages(walk, old, new, out, t, i, j),
-        Kind::Enum => compare_enums(walk, old, new, out, t, i, j),
-        Kind::Flags => compare_flags(walk, old, new, out, t, i, j),
-        Kind::Union => compare_unions(walk, old, new, out, t, i, j),
-        Kind::Newtype => compare_newtypes(walk, old, new, out, t, i, j),
+    match old.kind() {
+        Kind::Message => compare_messages(r, Message { decl: old }, Message { decl: new }),
+        Kind::Enum => compare_enums(r, Enum { decl: old }, Enum { decl: new }),
+        Kind::Flags => compare_flags(r, Flags { decl: old }, Flags { decl: new }),
+        Kind::Union => compare_unions(r, Union { decl: old }, Union { decl: new }),
+        Kind::Newtype => compare_newtypes(r, Newtype { decl: old }, Newtype { decl: new }),
         // Config, trait, impl: silent; so is a generic alias, of which a pair is refused.
-        _ => t,
+        _ => (),
     }
 }
 
 // Two declarations under one name.
-fn compare_decls(
-    walk: Walk,
-    old: &[u8],
-    new: &[u8],
-    out: &mut [u8],
-    t: Tally,
-    i: usize,
-    j: usize,
-) -> Tally
-    requires { DeclPair old.now new.now i j × Ready walk.mode out.old t (of_decls walk.reading old.now new.now i j) }
-    ensures { Ran walk.mode out.old t (of_decls walk.reading old.now new.now i j) result out.new }
+fn compare_decls(r: &mut Report<'_>, old: Decl<'_>, new: Decl<'_>)
+    ensures { Reports r.old (of_decls r.old.reading old.entry new.entry) r.new }
 {
-    let kind = decl_kind(old, i);
-    if kind != decl_kind(new, j) {
-        let mode = walk.mode;
-        return emit(mode, old, new, out, t, kind_changed(i, j));
+    let kind = old.kind();
+    if kind != new.kind() {
+        r.emit(kind_changed(old, new));
+        return;
     }
-    let t = compare_widths(walk, old, new, out, t, i, j);
-    compare_kind(walk, old, new, out, t, kind, i, j)
+    compare_widths(r, old, new);
+    compare_kind(r, old, new);
 }
 
-// The declaration at a place of a side: a change, if none stands under its name on the other.
-fn unmatched_decl(
-    walk: Walk,
-    old: &[u8],
-    new: &[u8],
-    old_reached: &[bool],
-    new_reached: &[bool],
-    out: &mut [u8],
-    t: Tally,
-    side: Side,
-    at: usize,
-) -> Tally
-    requires { DeclOn old.now new.now old_reached.now new_reached.now side at × Ready walk.mode out.old t (unmatched_decl walk.reading old.now new.now old_reached.now new_reached.now side at) }
-    ensures { Ran walk.mode out.old t (unmatched_decl walk.reading old.now new.now old_reached.now new_reached.now side at) result out.new }
+// What may stand on a side.
+fn on<'a>(side: Side, old: Declarations<'a>, new: Declarations<'a>) -> Declarations<'a>
+    ensures { result ≡ on side old.entry new.entry }
 {
-    if namesake_off(side, old, new, old_reached, new_reached, at).is_some() {
-        return t;
-    }
-    let mode = walk.mode;
     match side {
-        Side::Old => emit(mode, old, new, out, t, decl_removed(at)),
-        Side::New => emit(mode, old, new, out, t, decl_added(at)),
+        Side::Old => old,
+        Side::New => new,
     }
+}
+
+// And what may stand on the other.
+fn off<'a>(side: Side, old: Declarations<'a>, new: Declarations<'a>) -> Declarations<'a>
+    ensures { result ≡ off side old.entry new.entry }
+{
+    match side {
+        Side::Old => new,
+        Side::New => old,
+    }
+}
+
+// A declaration of a side: a change, if none stands under its name on the other.
+fn unmatched_decl(
+    r: &mut Report<'_>,
+    side: Side,
+    old: Declarations<'_>,
+    new: Declarations<'_>,
+    decl: Decl<'_>,
+)
+    ensures { Reports r.old (unmatched_decl r.old.reading old.entry new.entry side decl.entry) r.new }
+{
+    let other = off(side, old, new);
+    if other.survivor(decl.name()).is_some() {
+        return;
+    }
+    r.emit(lone(side, decl));
 }
 
 // The declarations of a side that do not stand on the other. Most often each name does, which is told without a walk.
-pub fn unmatched_decls(
-    walk: Walk,
-    old: &[u8],
-    new: &[u8],
-    old_reached: &[bool],
-    new_reached: &[bool],
-    out: &mut [u8],
-    t: Tally,
-    side: Side,
-) -> Tally
-    requires { BothSearchable old.now new.now old_reached.now new_reached.now × Ready walk.mode out.old t (unmatched_decls walk.reading old.now new.now old_reached.now new_reached.now side) }
-    ensures { Ran walk.mode out.old t (unmatched_decls walk.reading old.now new.now old_reached.now new_reached.now side) result out.new }
+pub fn unmatched_decls(r: &mut Report<'_>, side: Side, old: Declarations<'_>, new: Declarations<'_>)
+    ensures { Reports r.old (unmatched_decls r.old.reading old.entry new.entry side) r.new }
 {
-    if all_off(side, old, new, old_reached, new_reached) {
-        return t;
+    let own = on(side, old, new);
+    if own.all_named(off(side, old, new)) {
+        return;
     }
-    let mut tally = t;
     let mut after = None;
-    while let Some(at) = next_on(side, old, new, old_reached, new_reached, after) {
-        tally = unmatched_decl(
-            walk,
-            old,
-            new,
-            old_reached,
-            new_reached,
-            out,
-            tally,
-            side,
-            at,
-        );
-        after = Some(at);
+    while let Some(decl) = own.following(after) {
+        unmatched_decl(r, side, old, new, decl);
+        after = Some(decl);
     }
-    tally
 }
 
-// The old declaration at a place: compared, if a new one stands under its name too.
-fn kept_decl(
-    walk: Walk,
-    old: &[u8],
-    new: &[u8],
-    old_reached: &[bool],
-    new_reached: &[bool],
-    out: &mut [u8],
-    t: Tally,
-    i: usize,
-) -> Tally
-    requires { DeclOn old.now new.now old_reached.now new_reached.now Side.Old i × Ready walk.mode out.old t (kept_decl walk.reading old.now new.now old_reached.now new_reached.now i) }
-    ensures { Ran walk.mode out.old t (kept_decl walk.reading old.now new.now old_reached.now new_reached.now i) result out.new }
+// An old declaration: compared, if a new one stands under its name too.
+fn kept_decl(r: &mut Report<'_>, new: Declarations<'_>, decl: Decl<'_>)
+    ensures { Reports r.old (kept_decl r.old.reading new.entry decl.entry) r.new }
 {
-    let Some(j) = namesake_off(Side::Old, old, new, old_reached, new_reached, i) else {
-        return t;
+    let Some(found) = new.survivor(decl.name()) else {
+        return;
     };
-    compare_decls(walk, old, new, out, t, i, j)
+    compare_decls(r, decl, found);
 }
 
-// The declarations of the old image that stand in the new one too.
-pub fn kept_decls(
-    walk: Walk,
-    old: &[u8],
-    new: &[u8],
-    old_reached: &[bool],
-    new_reached: &[bool],
-    out: &mut [u8],
-    t: Tally,
-) -> Tally
-    requires { BothSearchable old.now new.now old_reached.now new_reached.now × Ready walk.mode out.old t (kept_decls walk.reading old.now new.now old_reached.now new_reached.now) }
-    ensures { Ran walk.mode out.old t (kept_decls walk.reading old.now new.now old_reached.now new_reached.now) result out.new }
+// The old declarations that stand in the new image too.
+pub fn kept_decls(r: &mut Report<'_>, old: Declarations<'_>, new: Declarations<'_>)
+    ensures { Reports r.old (kept_decls r.old.reading old.entry new.entry) r.new }
 {
-    let mut tally = t;
     let mut after = None;
-    while let Some(at) = next_on(Side::Old, old, new, old_reached, new_reached, after) {
-        tally = kept_decl(walk, old, new, old_reached, new_reached, out, tally, at);
-        after = Some(at);
+    while let Some(decl) = old.following(after) {
+        kept_decl(r, new, decl);
+        after = Some(decl);
     }
-    tally
 }

@@ -1,5 +1,5 @@
--- Tests: a clause that reports if a test passes. Sets: two runs of items by ordinal. Pairs: two fields or declarations under one key, and
--- the parts of what is reported of them.
-pub mod Tests
+-- Told: a clause that reports a change if a test passes, and nothing if it does not. Sets: two runs of items by ordinal. Kept: what stands
+-- on both sides, and what is reported of it.
+pub mod Told
 pub mod Sets
-pub mod Pairs
+pub mod Kept

@@ -1,35 +1,65 @@
 // 5. Enums. Renames and deprecation are silent.
-ghost use Rattle.tally.specs.Reporting.{Ready, Ran};
-ghost use Rattle.items.specs.Pairs.{KindPair, of_enums};
+ghost use Rattle.std.specs.Prelude.{◌≡◌};
+ghost use Rattle.parts.specs.Handles.{decl_of};
+ghost use Rattle.rules.specs.Clauses.{enum_bump, compare_non_exhaustive};
+ghost use Rattle.tally.specs.Tallies.{bump_value};
+ghost use Rattle.lines.specs.Reports.{Reports};
+ghost use Rattle.clauses.specs.Pairs.{of_enums};
 
-use crate::reporting::emit_if;
+use details::{Detail, Scope, Subject, Value, Verb};
+use items::pairs::Pair;
 use items::unmatched::unmatched_items;
-use items::{Items, Owner, Side, Walk};
-use lines::sites::non_exhaustive_changed;
-use members::items::decl_items;
-use parts::decls::non_exhaustive;
-use tally::Tally;
+use items::{Owner, Side};
+use lines::{Report, Site};
+use members::kinds::Enum;
+use parts::handles::Decl;
+use tally::{Bump, ChangeKind};
+
+// Whether an enum is open.
+fn compare_openness(r: &mut Report<'_>, old: Decl<'_>, new: Decl<'_>)
+    ensures { Reports r.old (compare_non_exhaustive (decl_of old.entry).name (decl_of old.entry).marks (decl_of new.entry).marks) r.new }
+{
+    let was = old.non_exhaustive();
+    let is = new.non_exhaustive();
+    if was == is {
+        return;
+    }
+    r.emit(Site {
+        kind: ChangeKind::NonExhaustiveChanged,
+        bump: Bump::MAJOR,
+        scope: Scope::Decl(old.name()),
+        field: None,
+        detail: Detail {
+            subject: Subject::NonExhaustive,
+            verb: Verb::Changed,
+            values: Some((Value::NonExhaustive(was), Value::NonExhaustive(is))),
+        },
+    });
+}
+
+// "`VariantAdded` Minor if the new enum is non-exhaustive, else Major."
+#[tactic(auto, unfolding(rules::specs::Clauses::enum_bump))]
+fn enum_bump(new: Decl<'_>) -> Bump
+    ensures { bump_value result ≡ enum_bump (decl_of new.entry).marks }
+{
+    if new.non_exhaustive() {
+        return Bump::MINOR;
+    }
+    Bump::MAJOR
+}
 
 // Two enums: openness, variants removed, variants added.
-pub fn compare_enums(
-    walk: Walk,
-    old: &[u8],
-    new: &[u8],
-    out: &mut [u8],
-    t: Tally,
-    i: usize,
-    j: usize,
-) -> Tally
-    requires { KindPair 1 old.now new.now i j × Ready walk.mode out.old t (of_enums walk.reading old.now new.now i j) }
-    ensures { Ran walk.mode out.old t (of_enums walk.reading old.now new.now i j) result out.new }
+pub fn compare_enums(r: &mut Report<'_>, old: Enum<'_>, new: Enum<'_>)
+    ensures { Reports r.old (of_enums r.old.reading old.entry.decl new.entry.decl) r.new }
 {
-    let test = non_exhaustive(old, i) != non_exhaustive(new, j);
-    let t = emit_if(walk, old, new, out, t, test, non_exhaustive_changed(i, j));
-    let items = Items {
-        of: Owner::Enum(i, j),
-        old: decl_items(old, i),
-        new: decl_items(new, j),
-    };
-    let t = unmatched_items(walk, old, new, out, t, Side::Old, items);
-    unmatched_items(walk, old, new, out, t, Side::New, items)
+    let was = old.decl;
+    let is = new.decl;
+    compare_openness(r, was, is);
+    let pair = Pair::new(
+        Owner::Enum(was.name(), enum_bump(is)),
+        old.variants(),
+        new.variants(),
+    );
+    unmatched_items(r, Side::Old, pair);
+    unmatched_items(r, Side::New, pair);
 }

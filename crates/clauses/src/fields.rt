@@ -1,143 +1,135 @@
 // 4. Field sets, by ordinal.
 ghost use Rattle.std.specs.Prelude.{◌≡◌};
-ghost use Rattle.parts.specs.Promise.{ItemHere, field_in, coding_of};
-ghost use Rattle.rules.specs.Clauses.{same_encoding};
+ghost use Rattle.members.specs.Handles.{field_of};
 ghost use Rattle.parts.specs.declared.Shape.{Shape};
-ghost use Rattle.tally.specs.Reporting.{Ready, Ran};
-ghost use Rattle.items.specs.Pairs.{same_coding, FieldPair, of_fields};
-ghost use Rattle.items.specs.Items.{FieldsIn, kept_fields, field_changes, FieldAsked, FieldTold, FieldsTold};
+ghost use Rattle.rules.specs.Clauses.{compare_field_names, compare_encodings, compare_fields, compare_field_sets};
+ghost use Rattle.survivors.specs.Answers.{Among};
+ghost use Rattle.survivors.specs.Runs.{items_of};
+ghost use Rattle.details.specs.Details.{declaration_of};
+ghost use Rattle.lines.specs.Reports.{Reports};
+ghost use Rattle.items.specs.Items.{context_of, kept_at, kept_items};
+ghost use Rattle.items.specs.declared.Owner.{Owner};
+ghost use Rattle.clauses.specs.Fields.{same_coding};
 
-use crate::reporting::{compare_deprecated, compare_types, emit_if};
-use details::Scope;
-use items::sides::{found_off, next_on};
+use crate::shared::{compare_deprecated, compare_types};
+use details::{Detail, Scope, Subject, Value, Verb, Word};
+use items::pairs::Pair;
 use items::unmatched::unmatched_items;
-use items::{Items, Owner, Side, Walk};
-use lines::sites::{field_deprecated, field_encoding_changed, field_renamed, field_type_changed};
-use members::fields;
-use members::fields::{field_encoding, field_limit, field_type};
-use members::items::item_name;
-use parts::{Encoding, Run};
-use tally::Tally;
+use items::{Owner, Side};
+use lines::{Report, Site};
+use members::handles::{Field, Item, Items};
+use survivors::items::{next_item, survivor_item};
+use tally::{Bump, ChangeKind};
 use types::names::same_name;
 
-#[tactic(auto, unfolding(rules::specs::Clauses::same_encoding))]
-fn encoding_equal(a: Encoding, b: Encoding) -> bool
-    ensures { result ≡ same_encoding (coding_of a) (coding_of b) }
+// Another name.
+fn compare_names<'a>(r: &mut Report<'_>, scope: Scope<'a>, old: Field<'a>, new: Field<'a>)
+    ensures { Reports r.old (compare_field_names (declaration_of scope.entry) (field_of old.entry) (field_of new.entry)) r.new }
 {
-    a.deltas == b.deltas && a.base == b.base
+    let was = old.name();
+    let is = new.name();
+    if same_name(was, is) {
+        return;
+    }
+    r.emit(Site {
+        kind: ChangeKind::FieldRenamed,
+        bump: Bump::PATCH,
+        scope,
+        field: Some(is),
+        detail: Detail {
+            subject: Subject::FieldOrdinal(new.ordinal()),
+            verb: Verb::Renamed,
+            values: Some((Value::Name(was), Value::Name(is))),
+        },
+    });
 }
 
 // Whether two fields have the same encoding and the same limit.
-fn encodings_equal(old: &[u8], i: usize, new: &[u8], j: usize) -> bool
-    requires { ItemHere Shape.Field old.now i × ItemHere Shape.Field new.now j }
-    ensures { result ≡ same_coding (field_in old.now i) (field_in new.now j) }
+fn is_same_coding(old: Field<'_>, new: Field<'_>) -> bool
+    ensures { result ≡ same_coding (field_of old.entry) (field_of new.entry) }
 {
-    encoding_equal(field_encoding(old, i), field_encoding(new, j))
-        && field_limit(old, i) == field_limit(new, j)
+    old.encoding() == new.encoding() && old.limit() == new.limit()
+}
+
+// Another encoding or limit.
+fn compare_encodings<'a>(r: &mut Report<'_>, scope: Scope<'a>, old: Field<'a>, new: Field<'a>)
+    ensures { Reports r.old (compare_encodings (declaration_of scope.entry) (field_of old.entry) (field_of new.entry)) r.new }
+{
+    if is_same_coding(old, new) {
+        return;
+    }
+    let name = new.name();
+    r.emit(Site {
+        kind: ChangeKind::FieldEncodingChanged,
+        bump: Bump::MAJOR,
+        scope,
+        field: Some(name),
+        detail: Detail {
+            subject: Subject::Item(Word::Field, name, new.ordinal()),
+            verb: Verb::EncodingChanged,
+            values: Some((
+                Value::Encoding(old.encoding()),
+                Value::Encoding(new.encoding()),
+            )),
+        },
+    });
 }
 
 // Two fields under one ordinal.
-fn compare_fields(
-    walk: Walk,
-    old: &[u8],
-    new: &[u8],
-    out: &mut [u8],
-    t: Tally,
-    scope: Scope,
-    i: usize,
-    j: usize,
-) -> Tally
-    requires { FieldPair old.now new.now scope i j × Ready walk.mode out.old t (of_fields walk.reading old.now new.now scope i j) }
-    ensures { Ran walk.mode out.old t (of_fields walk.reading old.now new.now scope i j) result out.new }
+fn compare_fields<'a>(r: &mut Report<'_>, scope: Scope<'a>, old: Field<'a>, new: Field<'a>)
+    ensures { Reports r.old (compare_fields (context_of r.old.reading old.entry.item.image new.entry.item.image) (declaration_of scope.entry) (field_of old.entry) (field_of new.entry)) r.new }
 {
-    let renamed = !same_name(item_name(old, i), item_name(new, j));
-    let t = emit_if(walk, old, new, out, t, renamed, field_renamed(scope, i, j));
-    let a = field_type(old, i);
-    let b = field_type(new, j);
-    let site = field_type_changed(scope, j, a, b);
-    let t = compare_types(walk, old, new, out, t, a, b, site);
-    let coded = !encodings_equal(old, i, new, j);
-    let site = field_encoding_changed(scope, i, j);
-    let t = emit_if(walk, old, new, out, t, coded, site);
-    let was = fields::field_deprecated(old, i);
-    let is = fields::field_deprecated(new, j);
-    compare_deprecated(walk, old, new, out, t, was, is, field_deprecated(scope, j))
+    let name = new.name();
+    compare_names(r, scope, old, new);
+    let subject = Subject::Item(Word::Field, name, new.ordinal());
+    compare_types(r, scope, Some(name), subject, old.ty(), new.ty());
+    compare_encodings(r, scope, old, new);
+    let subject = Subject::FieldName(name);
+    compare_deprecated(
+        r,
+        scope,
+        Some(name),
+        subject,
+        old.deprecated(),
+        new.deprecated(),
+    );
 }
 
-// The old field at a place, under its ordinal: compared, if a new field stands under it too.
-fn kept_field(
-    walk: Walk,
-    old: &[u8],
-    new: &[u8],
-    out: &mut [u8],
-    t: Tally,
-    scope: Scope,
-    a: Run,
-    b: Run,
-    ordinal: u32,
-    i: usize,
-) -> Tally
-    requires { FieldAsked walk old.now new.now out.old t scope a b ordinal i }
-    ensures { FieldTold walk old.now new.now out.old t result out.new scope a b ordinal i }
+// An old field: compared, if a new one stands under its ordinal too.
+fn kept_field<'a>(r: &mut Report<'_>, scope: Scope<'a>, pair: Pair<'a>, old: Item<'a>)
+    requires { (pair.of ≡ Owner.Fields scope) × Among pair.old old }
+    ensures { Reports r.old (kept_at r.old.reading pair.entry old.entry) r.new }
 {
-    let items = Items {
-        of: Owner::Fields(scope),
-        old: a,
-        new: b,
+    let Some(new) = survivor_item(pair.new, old.ordinal()) else {
+        return;
     };
-    let Some(j) = found_off(Side::Old, old, new, items, ordinal) else {
-        return t;
-    };
-    compare_fields(walk, old, new, out, t, scope, i, j)
+    compare_fields(r, scope, Field { item: old }, Field { item: new });
 }
 
-fn kept_fields(
-    walk: Walk,
-    old: &[u8],
-    new: &[u8],
-    out: &mut [u8],
-    t: Tally,
-    scope: Scope,
-    a: Run,
-    b: Run,
-) -> Tally
-    requires { FieldsIn old.now new.now scope a b × Ready walk.mode out.old t (kept_fields walk.reading old.now new.now scope a b) }
-    ensures { Ran walk.mode out.old t (kept_fields walk.reading old.now new.now scope a b) result out.new }
+// The old fields that stand in the new image too.
+fn kept_fields<'a>(r: &mut Report<'_>, scope: Scope<'a>, pair: Pair<'a>)
+    requires { pair.of ≡ Owner.Fields scope }
+    ensures { Reports r.old (kept_items r.old.reading pair.entry) r.new }
 {
-    let items = Items {
-        of: Owner::Fields(scope),
-        old: a,
-        new: b,
-    };
-    let mut tally = t;
     let mut after = None;
-    while let Some((ordinal, i)) = next_on(Side::Old, old, new, items, after) {
-        tally = kept_field(walk, old, new, out, tally, scope, a, b, ordinal, i);
-        after = Some(ordinal);
+    while let Some(old) = next_item(pair.old, after) {
+        kept_field(r, scope, pair, old);
+        after = Some(old.ordinal());
     }
-    tally
 }
 
 // The fields of what a scope names: removed, added, kept.
-pub fn compare_field_sets(
-    walk: Walk,
-    old: &[u8],
-    new: &[u8],
-    out: &mut [u8],
-    t: Tally,
-    scope: Scope,
-    a: Run,
-    b: Run,
-) -> Tally
-    requires { FieldsIn old.now new.now scope a b × Ready walk.mode out.old t (field_changes walk.reading old.now new.now scope a b) }
-    ensures { FieldsTold walk old.now new.now out.old t result out.new scope a b }
+pub(crate) fn compare_field_sets<'a>(
+    r: &mut Report<'_>,
+    scope: Scope<'a>,
+    old: Items<'a>,
+    new: Items<'a>,
+)
+    requires { (old.shape ≡ Shape.Field) × (new.shape ≡ Shape.Field) }
+    ensures { Reports r.old (compare_field_sets (context_of r.old.reading old.entry.image new.entry.image) (declaration_of scope.entry) (items_of Shape.Field old.entry) (items_of Shape.Field new.entry)) r.new }
 {
-    let items = Items {
-        of: Owner::Fields(scope),
-        old: a,
-        new: b,
-    };
-    let t = unmatched_items(walk, old, new, out, t, Side::Old, items);
-    let t = unmatched_items(walk, old, new, out, t, Side::New, items);
-    kept_fields(walk, old, new, out, t, scope, a, b)
+    let pair = Pair::new(Owner::Fields(scope), old, new);
+    unmatched_items(r, Side::Old, pair);
+    unmatched_items(r, Side::New, pair);
+    kept_fields(r, scope, pair);
 }

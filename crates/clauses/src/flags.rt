@@ -1,30 +1,19 @@
 // 6. Flags.
-ghost use Rattle.tally.specs.Reporting.{Ready, Ran};
-ghost use Rattle.items.specs.Pairs.{KindPair, of_flags};
+ghost use Rattle.lines.specs.Reports.{Reports};
+ghost use Rattle.clauses.specs.Pairs.{of_flags};
 
+use items::pairs::Pair;
 use items::unmatched::unmatched_items;
-use items::{Items, Owner, Side, Walk};
-use members::items::decl_items;
-use tally::Tally;
+use items::{Owner, Side};
+use lines::Report;
+use members::kinds::Flags;
 
 // Two flags: bits removed, bits added.
-pub fn compare_flags(
-    walk: Walk,
-    old: &[u8],
-    new: &[u8],
-    out: &mut [u8],
-    t: Tally,
-    i: usize,
-    j: usize,
-) -> Tally
-    requires { KindPair 2 old.now new.now i j × Ready walk.mode out.old t (of_flags walk.reading old.now new.now i j) }
-    ensures { Ran walk.mode out.old t (of_flags walk.reading old.now new.now i j) result out.new }
+pub fn compare_flags(r: &mut Report<'_>, old: Flags<'_>, new: Flags<'_>)
+    ensures { Reports r.old (of_flags r.old.reading old.entry.decl new.entry.decl) r.new }
 {
-    let items = Items {
-        of: Owner::Flags(i),
-        old: decl_items(old, i),
-        new: decl_items(new, j),
-    };
-    let t = unmatched_items(walk, old, new, out, t, Side::Old, items);
-    unmatched_items(walk, old, new, out, t, Side::New, items)
+    let was = old.decl;
+    let pair = Pair::new(Owner::Flags(was.name()), old.bits(), new.bits());
+    unmatched_items(r, Side::Old, pair);
+    unmatched_items(r, Side::New, pair);
 }

@@ -6,6 +6,6 @@ mod fields;
 pub mod flags;
 pub mod messages;
 pub mod newtypes;
-pub mod reporting;
+mod shared;
 pub mod unions;
 pub mod widths;

@@ -1,94 +1,60 @@
-// 7. Unions: shared ordinals compare fields, under the declaration's name, two colons and the old variant's name.
-ghost use Rattle.tally.specs.Reporting.{Ready, Ran};
-ghost use Rattle.items.specs.Pairs.{KindPair, of_unions};
-ghost use Rattle.items.specs.Items.{VariantsIn, kept_variants, VariantAsked, VariantTold};
+// 7. Unions. Fields of a variant that was kept are compared under the union's name and the old variant's.
+ghost use Rattle.std.specs.Prelude.{◌≡◌};
+ghost use Rattle.parts.specs.Handles.{decl_of};
+ghost use Rattle.survivors.specs.Answers.{Among};
+ghost use Rattle.lines.specs.Reports.{Reports};
+ghost use Rattle.items.specs.Items.{kept_at, kept_items};
+ghost use Rattle.items.specs.declared.Owner.{Owner};
+ghost use Rattle.clauses.specs.Pairs.{of_unions};
 
 use crate::fields::compare_field_sets;
 use details::Scope;
-use items::sides::{found_off, next_on};
+use items::pairs::Pair;
 use items::unmatched::unmatched_items;
-use items::{Items, Owner, Side, Walk};
-use members::items::{decl_items, variant_items};
-use parts::Run;
-use tally::Tally;
+use items::{Owner, Side};
+use lines::Report;
+use members::handles::{Item, Variant};
+use members::kinds::Union;
+use survivors::items::{next_item, survivor_item};
 
-// The old variant at a place, under its ordinal: the fields are compared, if a new variant stands under it too.
-fn kept_variant(
-    walk: Walk,
-    old: &[u8],
-    new: &[u8],
-    out: &mut [u8],
-    t: Tally,
-    decl: usize,
-    a: Run,
-    b: Run,
-    ordinal: u32,
-    i: usize,
-) -> Tally
-    requires { VariantAsked walk old.now new.now out.old t decl a b ordinal i }
-    ensures { VariantTold walk old.now new.now out.old t result out.new decl a b ordinal i }
+// An old variant of the union of a name: its fields are compared, if a new one stands under its ordinal too.
+fn kept_variant<'a>(r: &mut Report<'_>, union: &'a [u8], pair: Pair<'a>, item: Item<'a>)
+    requires { (pair.of ≡ Owner.Union union) × Among pair.old item }
+    ensures { Reports r.old (kept_at r.old.reading pair.entry item.entry) r.new }
 {
-    let items = Items {
-        of: Owner::Union(decl),
-        old: a,
-        new: b,
+    let Some(found) = survivor_item(pair.new, item.ordinal()) else {
+        return;
     };
-    let Some(j) = found_off(Side::Old, old, new, items, ordinal) else {
-        return t;
-    };
-    let m = variant_items(old, i);
-    let n = variant_items(new, j);
-    compare_field_sets(walk, old, new, out, t, Scope::Variant(decl, i), m, n)
+    let old = Variant { item };
+    let new = Variant { item: found };
+    compare_field_sets(
+        r,
+        Scope::Variant(union, old.name()),
+        old.fields(),
+        new.fields(),
+    );
 }
 
-fn kept_variants(
-    walk: Walk,
-    old: &[u8],
-    new: &[u8],
-    out: &mut [u8],
-    t: Tally,
-    decl: usize,
-    a: Run,
-    b: Run,
-) -> Tally
-    requires { VariantsIn old.now new.now decl a b × Ready walk.mode out.old t (kept_variants walk.reading old.now new.now decl a b) }
-    ensures { Ran walk.mode out.old t (kept_variants walk.reading old.now new.now decl a b) result out.new }
+// The old variants that stand in the new image too.
+fn kept_variants<'a>(r: &mut Report<'_>, union: &'a [u8], pair: Pair<'a>)
+    requires { pair.of ≡ Owner.Union union }
+    ensures { Reports r.old (kept_items r.old.reading pair.entry) r.new }
 {
-    let items = Items {
-        of: Owner::Union(decl),
-        old: a,
-        new: b,
-    };
-    let mut tally = t;
     let mut after = None;
-    while let Some((ordinal, i)) = next_on(Side::Old, old, new, items, after) {
-        tally = kept_variant(walk, old, new, out, tally, decl, a, b, ordinal, i);
-        after = Some(ordinal);
+    while let Some(old) = next_item(pair.old, after) {
+        kept_variant(r, union, pair, old);
+        after = Some(old.ordinal());
     }
-    tally
 }
 
 // Two unions: variants removed, added, kept.
-pub fn compare_unions(
-    walk: Walk,
-    old: &[u8],
-    new: &[u8],
-    out: &mut [u8],
-    t: Tally,
-    i: usize,
-    j: usize,
-) -> Tally
-    requires { KindPair 3 old.now new.now i j × Ready walk.mode out.old t (of_unions walk.reading old.now new.now i j) }
-    ensures { Ran walk.mode out.old t (of_unions walk.reading old.now new.now i j) result out.new }
+pub fn compare_unions(r: &mut Report<'_>, old: Union<'_>, new: Union<'_>)
+    ensures { Reports r.old (of_unions r.old.reading old.entry.decl new.entry.decl) r.new }
 {
-    let a = decl_items(old, i);
-    let b = decl_items(new, j);
-    let items = Items {
-        of: Owner::Union(i),
-        old: a,
-        new: b,
-    };
-    let t = unmatched_items(walk, old, new, out, t, Side::Old, items);
-    let t = unmatched_items(walk, old, new, out, t, Side::New, items);
-    kept_variants(walk, old, new, out, t, i, a, b)
+    let was = old.decl;
+    let name = was.name();
+    let pair = Pair::new(Owner::Union(name), old.variants(), new.variants());
+    unmatched_items(r, Side::Old, pair);
+    unmatched_items(r, Side::New, pair);
+    kept_variants(r, name, pair);
 }

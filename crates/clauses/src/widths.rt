@@ -1,43 +1,43 @@
 // Widths of enums and flags: no clause compares them, and the mended reading reports them first.
-ghost use Rattle.std.specs.Prelude.{◌≡◌, not, eqb};
-ghost use Rattle.parts.specs.Promise.{DeclHere, decl_in};
-ghost use Rattle.rules.specs.Equal.{same_option};
-ghost use Rattle.tally.specs.Reporting.{Ready, Ran};
-ghost use Rattle.items.specs.Pairs.{DeclPair, of_first};
+ghost use Rattle.parts.specs.Handles.{decl_of};
+ghost use Rattle.rules.specs.Widths.{compare_widths};
+ghost use Rattle.lines.specs.Reports.{Reports};
+ghost use Rattle.clauses.specs.Pairs.{of_first};
 
-use crate::reporting::emit_if;
-use items::Walk;
-use lines::sites::width_changed;
-use parts::decls::width;
-use tally::Tally;
+use details::{Detail, Scope, Subject, Value, Verb};
+use lines::{Report, Site};
+use parts::handles::Decl;
+use tally::{Bump, ChangeKind};
 use types::Reading;
 
-// Whether the widths of two declarations differ: as they are stored, or one has none.
-fn widths_differ(old: &[u8], i: usize, new: &[u8], j: usize) -> bool
-    requires { DeclHere old.now i × DeclHere new.now j }
-    ensures { result ≡ not (same_option eqb (decl_in old.now i).width (decl_in new.now j).width) }
+// Two widths: as they are stored, or one has none.
+fn compare_stored(r: &mut Report<'_>, old: Decl<'_>, new: Decl<'_>)
+    ensures { Reports r.old (compare_widths (decl_of old.entry) (decl_of new.entry)) r.new }
 {
-    width(old, i) != width(new, j)
+    let was = old.width();
+    let is = new.width();
+    if was == is {
+        return;
+    }
+    r.emit(Site {
+        kind: ChangeKind::WidthChanged,
+        bump: Bump::MAJOR,
+        scope: Scope::Decl(old.name()),
+        field: None,
+        detail: Detail {
+            subject: Subject::Width,
+            verb: Verb::Changed,
+            values: Some((Value::Width(was), Value::Width(is))),
+        },
+    });
 }
 
 // Two declarations of one kind, before their clause.
-pub fn compare_widths(
-    walk: Walk,
-    old: &[u8],
-    new: &[u8],
-    out: &mut [u8],
-    t: Tally,
-    i: usize,
-    j: usize,
-) -> Tally
-    requires { DeclPair old.now new.now i j × Ready walk.mode out.old t (of_first walk.reading old.now new.now i j) }
-    ensures { Ran walk.mode out.old t (of_first walk.reading old.now new.now i j) result out.new }
+pub fn compare_widths(r: &mut Report<'_>, old: Decl<'_>, new: Decl<'_>)
+    ensures { Reports r.old (of_first r.old.reading old.entry new.entry) r.new }
 {
-    match walk.reading {
-        Reading::Plain => t,
-        Reading::Mended => {
-            let test = widths_differ(old, i, new, j);
-            emit_if(walk, old, new, out, t, test, width_changed(i, j))
-        }
+    match r.reading {
+        Reading::Plain => {}
+        Reading::Mended => compare_stored(r, old, new),
     }
 }

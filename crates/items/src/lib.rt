@@ -2,21 +2,12 @@
 // added.
 #![tactic(auto)]
 
-pub mod sides;
-mod sites;
+mod lone;
+pub mod pairs;
 pub mod unmatched;
 
 use details::Scope;
-use parts::Run;
-use text::Mode;
-use types::Reading;
-
-// How a walk goes: whether its lines are written or only measured, how types are read, and whether widths are reported.
-#[derive(Clone, Copy)]
-pub struct Walk {
-    pub mode: Mode,
-    pub reading: Reading,
-}
+use tally::Bump;
 
 #[derive(Clone, Copy)]
 pub enum Side {
@@ -24,19 +15,12 @@ pub enum Side {
     New,
 }
 
-// Whose items are compared: the fields of what a scope names; the variants of an enum, by its places in the old and in the new image; the
-// bits of flags and the variants of a union, by the place in the old image.
+// Whose items are compared: the fields of what a scope names; the variants of an enum, by its name and the weight of an added one; the bits of
+// flags and the variants of a union, by its name.
 #[derive(Clone, Copy)]
-pub enum Owner {
-    Fields(Scope),
-    Enum(usize, usize),
-    Flags(usize),
-    Union(usize),
-}
-
-#[derive(Clone, Copy)]
-pub struct Items {
-    pub of: Owner,
-    pub old: Run,
-    pub new: Run,
+pub enum Owner<'a> {
+    Fields(Scope<'a>),
+    Enum(&'a [u8], Bump),
+    Flags(&'a [u8]),
+    Union(&'a [u8]),
 }

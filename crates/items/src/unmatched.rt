@@ -1,57 +1,36 @@
 // The walk over what stands on one side only.
-ghost use Rattle.tally.specs.Reporting.{Ready};
-ghost use Rattle.items.specs.Items.{ItemsIn, unmatched_items, UnmatchedAsked, UnmatchedTold, ItemsTold};
+ghost use Rattle.survivors.specs.Answers.{Among};
+ghost use Rattle.lines.specs.Reports.{Reports};
+ghost use Rattle.items.specs.Items.{unmatched_items, unmatched_at};
+ghost use Rattle.items.specs.Sides.{on};
 
-use crate::sides::{has_off, next_on};
-use crate::sites::{came_site, gone_site};
-use crate::{Items, Side, Walk};
-use lines::reporting::emit;
-use tally::Tally;
+use crate::Side;
+use crate::lone::lone;
+use crate::pairs::Pair;
+use lines::Report;
+use members::handles::Item;
+use survivors::items::{has_item, next_item};
 
-// The item at a place, under its ordinal: a change, if none stands under it on the other side.
-fn unmatched_item(
-    walk: Walk,
-    old: &[u8],
-    new: &[u8],
-    out: &mut [u8],
-    t: Tally,
-    side: Side,
-    items: Items,
-    ordinal: u32,
-    at: usize,
-) -> Tally
-    requires { UnmatchedAsked walk old.now new.now out.old t items side ordinal at }
-    ensures { UnmatchedTold walk old.now new.now out.old t result out.new items side ordinal at }
+// An item of a side: a change, if none stands under its ordinal on the other.
+#[tactic(auto, using(crate::proofs::Standing::lone_items))]
+fn unmatched_item(r: &mut Report<'_>, side: Side, pair: Pair<'_>, item: Item<'_>)
+    requires { Among (on side pair.old pair.new) item }
+    ensures { Reports r.old (unmatched_at r.old.reading pair.entry side item.entry) r.new }
 {
-    if has_off(side, old, new, items, ordinal) {
-        return t;
+    if has_item(pair.off(side), item.ordinal()) {
+        return;
     }
-    let mode = walk.mode;
-    let of = items.of;
-    match side {
-        Side::Old => emit(mode, old, new, out, t, gone_site(of, at)),
-        Side::New => emit(mode, old, new, out, t, came_site(old, new, of, at)),
-    }
+    r.emit(lone(pair.of, side, item));
 }
 
 // The items of a side that do not stand on the other.
-pub fn unmatched_items(
-    walk: Walk,
-    old: &[u8],
-    new: &[u8],
-    out: &mut [u8],
-    t: Tally,
-    side: Side,
-    items: Items,
-) -> Tally
-    requires { ItemsIn old.now new.now items × Ready walk.mode out.old t (unmatched_items walk.reading old.now new.now items side) }
-    ensures { ItemsTold walk old.now new.now out.old t result out.new items side }
+pub fn unmatched_items(r: &mut Report<'_>, side: Side, pair: Pair<'_>)
+    ensures { Reports r.old (unmatched_items r.old.reading pair.entry side) r.new }
 {
-    let mut tally = t;
+    let own = pair.on(side);
     let mut after = None;
-    while let Some((ordinal, at)) = next_on(side, old, new, items, after) {
-        tally = unmatched_item(walk, old, new, out, tally, side, items, ordinal, at);
-        after = Some(ordinal);
+    while let Some(item) = next_item(own, after) {
+        unmatched_item(r, side, pair, item);
+        after = Some(item.ordinal());
     }
-    tally
 }

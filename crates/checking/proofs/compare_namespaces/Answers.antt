@@ -1,13 +1,15 @@
 -- `checking::compare_namespaces` meets its contract. Assumes nothing.
-use Rattle.std.proofs.Common.{ap, not}
-use Rattle.lines.proofs.Clauses.{namespace_changed_lem}
-use Rattle.clauses.proofs.Tests.{test_asks, test_ran}
+use Rattle.std.proofs.Common.{not, refl, sym, ap, ◌∙◌}
+use Rattle.image.specs.Words.{bytes}
+use Rattle.rules.specs.Clauses.{compare_namespaces}
+use Rattle.details.specs.Details.{detail_text}
+use Rattle.clauses.proofs.Told.{silent, told}
 use Rattle.checking.proofs.compare_namespaces.Goals as goal
 
-pub emit_if-requires : goal.emit_if-requires
-emit_if-requires c =
-    test_asks (namespace_changed_lem _ _ c.requires.0.0 c.requires.0.1) c.namespace_changed.ensures (ap not c.namespaces_equal-test.ensures) c.requires.1
+pub returns-then-namespaces_equal : goal.returns-then-namespaces_equal
+unfolding compare_namespaces
+returns-then-namespaces_equal c = silent _ (ap not (sym c.namespaces_equal.ensures ∙ c.if-namespaces_equal.true))
 
 pub returns : goal.returns
-returns c =
-    test_ran (namespace_changed_lem _ _ c.requires.0.0 c.requires.0.1) c.namespace_changed.ensures (ap not c.namespaces_equal-test.ensures) c.emit_if.ensures
+unfolding compare_namespaces detail_text bytes
+returns c = told _ (ap not (sym c.namespaces_equal.ensures ∙ c.if-namespaces_equal.false)) refl c.emit.ensures

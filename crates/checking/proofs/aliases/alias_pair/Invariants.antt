@@ -5,4 +5,4 @@ use Rattle.checking.proofs.Pairs.{aliases_from}
 use Rattle.checking.proofs.aliases.alias_pair.Given as goal
 
 abbrev pub invariant-loop-i : goal.invariant-loop-i
-invariant-loop-i l = aliases_from l.old l.new l.old_reached l.new_reached l.i ≡ both_aliases l.old l.new l.old_reached l.new_reached
+invariant-loop-i l = aliases_from l.old l.new l.i ≡ both_aliases l.old l.new

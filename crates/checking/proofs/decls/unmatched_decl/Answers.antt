@@ -1,26 +1,10 @@
--- `checking::decls::unmatched_decl` meets its contract: nothing is reported if a declaration stands on the other side, else that on this
--- side is, as removed or as added. Assumes nothing.
-use Rattle.std.proofs.Common.{refl, sym, ◌∙◌}
-use Rattle.tally.proofs.Running.{ran_none}
-use Rattle.lines.proofs.Clauses.{emit_asks, emit_ran}
-use Rattle.checking.proofs.Names.{stands_off, removed, added}
+-- `checking::decls::unmatched_decl` meets its contract: nothing is reported if a declaration stands on the other side, else the change of a
+-- site. Assumes nothing.
+use Rattle.checking.proofs.Names.{stands_off, stands_alone}
 use Rattle.checking.proofs.decls.unmatched_decl.Goals as goal
 
 pub returns-then-is_some : goal.returns-then-is_some
-returns-then-is_some c = ran_none (stands_off _ c.requires.0 c.namesake_off.ensures (sym c.is_some.ensures ∙ c.if-is_some.true)) c.requires.1
+returns-then-is_some c = stands_off c.args.old c.args.new c.args.side c.off-other.ensures c.args.decl c.name.ensures c.survivor.ensures c.is_some.ensures c.if-is_some.true
 
-pub emit-requires : goal.emit-requires
-emit-requires c =
-    emit_asks (removed _ c.requires.0 c.namesake_off.ensures (sym c.is_some.ensures ∙ c.if-is_some.false) c.in-Old.is) refl c.decl_removed.ensures c.requires.1
-
-pub emit-requires-in-New : goal.emit-requires-in-New
-emit-requires-in-New c =
-    emit_asks (added _ c.requires.0 c.namesake_off.ensures (sym c.is_some.ensures ∙ c.if-is_some.false) c.in-New.is) refl c.decl_added.ensures c.requires.1
-
-pub returns-in-Old : goal.returns-in-Old
-returns-in-Old c =
-    emit_ran (removed _ c.requires.0 c.namesake_off.ensures (sym c.is_some.ensures ∙ c.if-is_some.false) c.in-Old.is) refl c.decl_removed.ensures c.emit.ensures
-
-pub returns-in-New : goal.returns-in-New
-returns-in-New c =
-    emit_ran (added _ c.requires.0 c.namesake_off.ensures (sym c.is_some.ensures ∙ c.if-is_some.false) c.in-New.is) refl c.decl_added.ensures c.emit-in-New.ensures
+pub returns : goal.returns
+returns c = stands_alone c.args.old c.args.new c.args.side c.off-other.ensures c.args.decl c.name.ensures c.survivor.ensures c.is_some.ensures c.if-is_some.false c.lone.result c.lone.ensures c.emit.ensures

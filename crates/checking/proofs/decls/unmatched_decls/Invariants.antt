@@ -1,15 +1,13 @@
--- The walk stands after a declaration of the side, and owes what is left. The measure is how many declarations are left.
-use Rattle.maps.specs.Compare.{unmatched}
+-- What is left is what the walk has yet to report after the last declaration. The measure is how many declarations are left.
+use Rattle.lines.proofs.Reports.{Left}
+use Rattle.survivors.specs.Answers.{standing_of}
 use Rattle.survivors.proofs.Walks.{decls_left}
-use Rattle.items.specs.Sides.{on}
-use Rattle.checking.specs.Decls.{standing, standing_off, lone}
-use Rattle.checking.proofs.Turns.{Walked}
+use Rattle.checking.specs.Decls.{unmatched_decls}
+use Rattle.checking.proofs.Turns.{rest_unmatched}
 use Rattle.checking.proofs.decls.unmatched_decls.Given as goal
 
-abbrev pub invariant-loop-at : goal.invariant-loop-at
-invariant-loop-at l =
-    Walked (unmatched (lone l.walk.reading l.old l.new l.side)) (standing l.old l.new l.old_reached l.new_reached l.side) (on l.side l.old l.new)
-    (standing_off l.old l.new l.old_reached l.new_reached l.side) l.walk.mode l.fn.out l.fn.t l.after l.tally l.out
+abbrev pub invariant-loop-decl : goal.invariant-loop-decl
+invariant-loop-decl l = Left l.fn.r (unmatched_decls l.fn.r.reading l.old l.new l.side) l.r (rest_unmatched l.fn.r.reading l.old l.new l.side l.after)
 
-abbrev pub decreases-loop-at : goal.decreases-loop-at
-decreases-loop-at l = decls_left (standing l.old l.new l.old_reached l.new_reached l.side) (on l.side l.old l.new) l.after
+abbrev pub decreases-loop-decl : goal.decreases-loop-decl
+decreases-loop-decl l = decls_left (standing_of l.own) l.after

@@ -1,33 +1,13 @@
 -- `clauses::fields::compare_field_sets` meets its contract, part by part. Assumes nothing.
-use Rattle.tally.proofs.Running.{owed_start, owed_room, owed_next, owed_end}
-use Rattle.items.specs.Items.{field_items}
-use Rattle.clauses.proofs.Sets.{all_parts_lem}
+use Rattle.std.proofs.Common.{sym}
+use Rattle.rules.specs.Clauses.{compare_field_sets}
+use Rattle.lines.proofs.Reports.{reports_as}
+use Rattle.items.proofs.Owned.{changes_owned}
+use Rattle.clauses.proofs.Sets.{all_reported}
 use Rattle.clauses.proofs.fields.compare_field_sets.Goals as goal
 
-pub unmatched_items-t-requires : goal.unmatched_items-t-requires
-unmatched_items-t-requires c =
-    (c.requires.0, owed_room (owed_start (all_parts_lem _ _ _ (field_items c.args.scope c.args.a c.args.b)) c.requires.1))
-
-pub unmatched_items-t-requires-2 : goal.unmatched_items-t-requires-2
-unmatched_items-t-requires-2 c = (
-  c.requires.0,
-  owed_room (owed_next (owed_start (all_parts_lem _ _ _ (field_items c.args.scope c.args.a c.args.b)) c.requires.1) c.unmatched_items-t.ensures),
-)
-
-pub kept_fields-requires : goal.kept_fields-requires
-kept_fields-requires c = (
-  c.requires.0,
-  owed_room
-      (owed_next
-      (owed_next (owed_start (all_parts_lem _ _ _ (field_items c.args.scope c.args.a c.args.b)) c.requires.1) c.unmatched_items-t.ensures)
-      c.unmatched_items-t-2.ensures),
-)
-
 pub returns : goal.returns
+unfolding compare_field_sets
 returns c =
-    owed_end
-    (owed_next
-    (owed_next
-    (owed_next (owed_start (all_parts_lem _ _ _ (field_items c.args.scope c.args.a c.args.b)) c.requires.1) c.unmatched_items-t.ensures)
-    c.unmatched_items-t-2.ensures)
-    c.kept_fields.ensures)
+    let p = c.new-pair.ensures in
+    reports_as (sym (changes_owned _ _ p.of p.old p.new)) (all_reported _ c.unmatched_items.ensures c.unmatched_items-2.ensures c.kept_fields.ensures)

@@ -1,17 +1,18 @@
 -- `clauses::fields::kept_field` meets its contract. Assumes nothing.
-use Rattle.tally.proofs.Running.{ran_none}
-use Rattle.items.proofs.Standing.{kept_none}
-use Rattle.clauses.proofs.Pairs.{both_stand, field_pair, field_kept}
+use Rattle.std.proofs.Common.{◌∙◌}
+use Rattle.survivors.proofs.Runs.{found_among}
+use Rattle.lines.proofs.Reports.{reports_none, reports_as}
+use Rattle.items.specs.declared.Side.{Side}
+use Rattle.items.proofs.Standing.{on_holds, kept_none, kept_item}
+use Rattle.clauses.proofs.Kept.{field_kept}
 use Rattle.clauses.proofs.fields.kept_field.Goals as goal
 
 pub returns-in_default : goal.returns-in_default
-returns-in_default c = ran_none (kept_none c.requires.0.items _ _ _ c.found_off.ensures c.in_default.is) c.requires.1
-
-pub compare_fields-requires : goal.compare_fields-requires
-compare_fields-requires c =
-    let k = both_stand {reading = c.args.walk.reading} c.requires.0 c.found_off.ensures c.in-Some.is in
-    (field_pair k, rw (field_kept k) at c.requires.1)
+returns-in_default c = reports_none (kept_none _ _ _ c.ordinal.ensures c.survivor_item.ensures c.in_default.is)
 
 pub returns : goal.returns
 returns c =
-    rw (field_kept (both_stand {reading = c.args.walk.reading} c.requires.0 c.found_off.ensures c.in-Some.is)) c.compare_fields.ensures
+    let found = found_among (on_holds c.args.pair Side.New) c.survivor_item.ensures c.in-Some.is in
+    reports_as
+    (kept_item _ _ _ c.ordinal.ensures c.survivor_item.ensures c.in-Some.is ∙ field_kept _ c.args.pair c.requires.1 found _ c.requires.0)
+    c.compare_fields.ensures

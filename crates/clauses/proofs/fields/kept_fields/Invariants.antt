@@ -1,14 +1,11 @@
--- What is owed is what the walk over the fields has yet to report. The measure is how many of them it has yet to meet.
-use Rattle.std.proofs.Common.{[], ◌∷◌}
-use Rattle.tally.proofs.Running.{Owed}
-use Rattle.items.specs.Items.{field_items, kept_items}
-use Rattle.clauses.proofs.Sets.{rest_kept, left_kept}
+-- What is left is what the walk over the fields has yet to report. The measure is how many of them it has yet to meet.
+use Rattle.lines.proofs.Reports.{Left}
+use Rattle.items.specs.Items.{kept_items}
+use Rattle.items.proofs.Walks.{rest_kept, left_kept}
 use Rattle.clauses.proofs.fields.kept_fields.Given as goal
 
-abbrev pub invariant-loop-ordinal : goal.invariant-loop-ordinal
-invariant-loop-ordinal l =
-    Owed l.walk.mode l.fn.out l.fn.t (kept_items l.walk.reading l.old l.new (field_items l.scope l.a l.b)) l.tally l.out
-    (rest_kept l.walk.reading l.old l.new (field_items l.scope l.a l.b) l.after ∷ [])
+abbrev pub invariant-loop-old : goal.invariant-loop-old
+invariant-loop-old l = Left l.fn.r (kept_items l.fn.r.reading l.pair) l.r (rest_kept l.fn.r.reading l.pair l.after)
 
-abbrev pub decreases-loop-ordinal : goal.decreases-loop-ordinal
-decreases-loop-ordinal l = left_kept l.old l.new (field_items l.scope l.a l.b) l.after
+abbrev pub decreases-loop-old : goal.decreases-loop-old
+decreases-loop-old l = left_kept l.pair l.after

@@ -1,25 +1,23 @@
 -- `clauses::unions::kept_variant` meets its contract. Assumes nothing.
-use Rattle.tally.proofs.Running.{ran_none}
-use Rattle.items.proofs.Standing.{kept_none}
-use Rattle.clauses.proofs.Pairs.{both_stand, variant_kept}
+use Rattle.std.proofs.Common.{ap, ◌∙◌, ◌++◌}
+use Rattle.image.specs.Words.{bytes}
+use Rattle.rules.specs.Clauses.{variant_decl}
+use Rattle.survivors.proofs.Runs.{found_among, among_shape}
+use Rattle.lines.proofs.Reports.{reports_none, reports_as}
+use Rattle.items.specs.declared.Side.{Side}
+use Rattle.items.proofs.Standing.{on_holds, kept_none, kept_item}
+use Rattle.clauses.proofs.Kept.{variant_kept, variant_fields, union_shape, sets_told}
 use Rattle.clauses.proofs.unions.kept_variant.Goals as goal
 
 pub returns-in_default : goal.returns-in_default
-returns-in_default c = ran_none (kept_none c.requires.0.items _ _ _ c.found_off.ensures c.in_default.is) c.requires.1
-
-pub variant_items-n-requires : goal.variant_items-n-requires
-variant_items-n-requires c = (both_stand {reading = c.args.walk.reading} c.requires.0 c.found_off.ensures c.in-Some.is).here.1
-
-pub compare_field_sets-requires : goal.compare_field_sets-requires
-compare_field_sets-requires c =
-    let w =
-    variant_kept (both_stand {reading = c.args.walk.reading} c.requires.0 c.found_off.ensures c.in-Some.is)
-    c.variant_items-m.ensures c.variant_items-n.ensures in
-    (w.inside, rw w.are at c.requires.1)
+returns-in_default c = reports_none (kept_none _ _ _ c.ordinal.ensures c.survivor_item.ensures c.in_default.is)
 
 pub returns : goal.returns
+unfolding variant_decl
 returns c =
-    let w =
-    variant_kept (both_stand {reading = c.args.walk.reading} c.requires.0 c.found_off.ensures c.in-Some.is)
-    c.variant_items-m.ensures c.variant_items-n.ensures in
-    rw w.are c.compare_field_sets.ensures
+    let found = found_among (on_holds c.args.pair Side.New) c.survivor_item.ensures c.in-Some.is in
+    let was = variant_fields c.args.item (among_shape (on_holds c.args.pair Side.Old) c.requires.1 ∙ union_shape c.requires.0) c.fields.ensures in
+    let is = variant_fields c.in-Some.found (among_shape (on_holds c.args.pair Side.New) found ∙ union_shape c.requires.0) c.fields-2.ensures in
+    reports_as
+    (kept_item _ _ _ c.ordinal.ensures c.survivor_item.ensures c.in-Some.is ∙ variant_kept _ c.args.pair c.requires.1 found _ c.requires.0)
+    (sets_told c.fields.ensures.image c.fields-2.ensures.image (ap (λ n. c.args.union.now ++ (bytes "::" ++ n)) c.name.ensures) _ _ was is c.compare_field_sets.ensures)

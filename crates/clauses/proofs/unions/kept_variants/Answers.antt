@@ -1,23 +1,22 @@
 -- `clauses::unions::kept_variants` meets its contract. Assumes nothing.
-use Rattle.tally.proofs.Running.{owed_room, owed_next}
-use Rattle.clauses.proofs.Sets.{kept_less, kept_met, kept_start, kept_turn, kept_done}
+use Rattle.std.proofs.Common.{refl}
+use Rattle.survivors.proofs.Runs.{next_among}
+use Rattle.items.specs.declared.Side.{Side}
+use Rattle.items.proofs.Standing.{on_holds}
+use Rattle.items.proofs.Walks.{walk_less, kept_start, kept_turn, kept_done}
 use Rattle.clauses.proofs.unions.kept_variants.Goals as goal
 
-pub loop-ordinal-init : goal.loop-ordinal-init
-loop-ordinal-init c = kept_start c.requires.0 _ c.requires.1
+pub loop-old-init : goal.loop-old-init
+loop-old-init c = kept_start _
+
+pub kept_variant-requires : goal.kept_variant-requires
+kept_variant-requires c = (c.requires, next_among (on_holds c.args.pair Side.Old) c.next_item.ensures c.in-Some.is)
+
+pub loop-old-smaller : goal.loop-old-smaller
+loop-old-smaller c = walk_less _ Side.Old refl c.next_item.ensures c.in-Some.is c.ordinal.ensures
+
+pub loop-old-preserved : goal.loop-old-preserved
+loop-old-preserved c = kept_turn _ c.loop-old.invariant c.next_item.ensures c.in-Some.is c.ordinal.ensures c.kept_variant.ensures
 
 pub returns : goal.returns
-returns c = kept_done c.requires.0 _ _ c.loop-ordinal.invariant c.next_on.ensures c.in_default.is
-
-pub kept_variant-tally-requires : goal.kept_variant-tally-requires
-kept_variant-tally-requires c = (
-  kept_met c.requires.0 _ c.next_on.ensures c.in-Some.is,
-  owed_room (kept_turn c.requires.0 _ _ c.loop-ordinal.invariant c.next_on.ensures c.in-Some.is),
-)
-
-pub loop-ordinal-smaller : goal.loop-ordinal-smaller
-loop-ordinal-smaller c = kept_less c.requires.0 _ c.next_on.ensures c.in-Some.is
-
-pub loop-ordinal-preserved : goal.loop-ordinal-preserved
-loop-ordinal-preserved c =
-    owed_next (kept_turn c.requires.0 _ _ c.loop-ordinal.invariant c.next_on.ensures c.in-Some.is) c.kept_variant-tally.ensures
+returns c = kept_done _ c.loop-old.invariant c.next_item.ensures c.in_default.is

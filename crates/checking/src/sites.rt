@@ -1,0 +1,77 @@
+// The changes of declarations: one that is gone, one that came, one of another kind.
+ghost use Rattle.std.specs.Prelude.{◌≡◌, [], ◌∷◌};
+ghost use Rattle.parts.specs.Handles.{decl_of};
+ghost use Rattle.rules.specs.Clauses.{kind_changed};
+ghost use Rattle.lines.specs.Sites.{change_of};
+ghost use Rattle.items.specs.declared.Side.{Side};
+ghost use Rattle.checking.specs.Decls.{lone_of};
+
+use details::{Detail, Scope, Subject, Value, Verb};
+use items::Side;
+use lines::Site;
+use parts::handles::Decl;
+use tally::{Bump, ChangeKind};
+
+// 2. A declaration that only the old image has.
+#[tactic(auto, unfolding(details::specs::Details::detail_text, rules::specs::Clauses::decl_text, image::specs::Words::bytes))]
+fn decl_removed<'a>(decl: Decl<'a>) -> Site<'a>
+    ensures { change_of result ≡ lone_of Side.Old (decl_of decl.entry) }
+{
+    Site {
+        kind: ChangeKind::DeclarationRemoved,
+        bump: Bump::MAJOR,
+        scope: Scope::Decl(decl.name()),
+        field: None,
+        detail: Detail {
+            subject: Subject::Decl(decl.kind(), decl.name()),
+            verb: Verb::Removed,
+            values: None,
+        },
+    }
+}
+
+// And one that only the new image has.
+#[tactic(auto, unfolding(details::specs::Details::detail_text, rules::specs::Clauses::decl_text, image::specs::Words::bytes))]
+fn decl_added<'a>(decl: Decl<'a>) -> Site<'a>
+    ensures { change_of result ≡ lone_of Side.New (decl_of decl.entry) }
+{
+    Site {
+        kind: ChangeKind::DeclarationAdded,
+        bump: Bump::MINOR,
+        scope: Scope::Decl(decl.name()),
+        field: None,
+        detail: Detail {
+            subject: Subject::Decl(decl.kind(), decl.name()),
+            verb: Verb::Added,
+            values: None,
+        },
+    }
+}
+
+// One that only a side has.
+pub(crate) fn lone<'a>(side: Side, decl: Decl<'a>) -> Site<'a>
+    ensures { change_of result ≡ lone_of side (decl_of decl.entry) }
+{
+    match side {
+        Side::Old => decl_removed(decl),
+        Side::New => decl_added(decl),
+    }
+}
+
+// 3. A declaration of another kind.
+#[tactic(auto, unfolding(rules::specs::Clauses::kind_changed, details::specs::Details::detail_text, image::specs::Words::bytes))]
+pub(crate) fn kind_changed<'a>(old: Decl<'a>, new: Decl<'a>) -> Site<'a>
+    ensures { change_of result ∷ [] ≡ kind_changed (decl_of old.entry) (decl_of new.entry) }
+{
+    Site {
+        kind: ChangeKind::DeclarationKindChanged,
+        bump: Bump::MAJOR,
+        scope: Scope::Decl(old.name()),
+        field: None,
+        detail: Detail {
+            subject: Subject::DeclName(old.name()),
+            verb: Verb::Changed,
+            values: Some((Value::Kind(old.kind()), Value::Kind(new.kind()))),
+        },
+    }
+}
