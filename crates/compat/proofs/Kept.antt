@@ -3,14 +3,12 @@ use mathlib.Core.Path.{◌≡◌, refl, sym, ap, ◌∙◌}
 use mathlib.Core.Bool.{Bool, true, false}
 use Rattle.std.specs.Prelude.{Option, None}
 use Rattle.std.specs.Option.{option_or}
-use mathlib.Core.List.{List, [], ◌∷◌}
-use Prim.Native.Nat.{ℕ}
+use mathlib.Core.List.{[], ◌∷◌}
 use Rattle.image.specs.Schema.{Schema}
-use Rattle.parts.specs.Promise.{schema_of}
+use Rattle.parts.specs.Handles.{schema_in}
 use Rattle.rules.specs.Survivors.{View, view_of}
 use Rattle.rules.specs.Verdict.{alias_pair}
 use Rattle.rules.specs.Answer.{Fault, first_fault, alias_check}
-use Rattle.rules.specs.Reached.{IdSet}
 use Rattle.rules.specs.Imports.{view_with, imports_view}
 use Rattle.rules.specs.Widths.{mixed_check}
 use Rattle.rules.specs.Refusals.{Numbered}
@@ -21,7 +19,8 @@ use Rattle.rules.proofs.Imports.{imports_numbered, imports_bounded}
 use Rattle.rules.proofs.MendedRefusals.{mended_numbered}
 use Rattle.rules.proofs.Mended.{mended_bounded}
 use Rattle.types.specs.Readings.{reading_of}
-use Rattle.checking.specs.Decls.{both_aliases, all_changes}
+use Rattle.survivors.specs.declared.decls.Declarations.{Declarations}
+use Rattle.checking.specs.Decls.{view_in, both_aliases, all_changes}
 use Rattle.compat.specs.Policies.{policy_of, reading_in, ids_by, changes_by, Prepared, format_fault, alias_fault}
 use Rattle.compat.specs.declared.policies.Policy.{Policy}
 use Rattle.compat.specs.declared.policies.Policy.TheVariants as policy
@@ -64,7 +63,7 @@ policy_pair policy.Plain x y = last_check view_of x y
 policy_pair policy.Imports x y = last_check imports_view x y
 policy_pair policy.Mended x y = ap (option_or (mixed_check x y)) (last_check view_of x y)
 
--- how its walk reads
+-- how it reads types
 pub policy_reading : (p : Policy) → reading_of (reading_in p) ≡ (policy_of p).reading
 unfolding policy_of reading_in reading_of
 policy_reading policy.Plain = refl
@@ -73,20 +72,20 @@ policy_reading policy.Mended = refl
 
 -- ---- with the sets of ids that go with the images
 
-module _ (p : Policy) {old new : List ℕ} {a b : IdSet} (h : Prepared p old new a b) where
-  old_view : view_with a (schema_of old) ≡ (policy_of p).view (schema_of old)
-  old_view = ap (λ m. view_with m (schema_of old)) h.old_ids ∙ sym (policy_view p (schema_of old))
+module _ (p : Policy) {old new : Declarations} (h : Prepared p old new) where
+  old_view : view_in old ≡ (policy_of p).view (schema_in old.image)
+  old_view = ap (λ m. view_with m (schema_in old.image)) h.old_ids ∙ sym (policy_view p (schema_in old.image))
 
-  new_view : view_with b (schema_of new) ≡ (policy_of p).view (schema_of new)
-  new_view = ap (λ m. view_with m (schema_of new)) h.new_ids ∙ sym (policy_view p (schema_of new))
+  new_view : view_in new ≡ (policy_of p).view (schema_in new.image)
+  new_view = ap (λ m. view_with m (schema_in new.image)) h.new_ids ∙ sym (policy_view p (schema_in new.image))
 
-  -- what its walk reports are the changes of its views
-  pub policy_changes : all_changes (reading_in p) old new a b ≡ changes_by p old new
+  -- what is reported by its reading are the changes of its views
+  pub policy_changes : all_changes (reading_in p) old new ≡ changes_by p old.image new.image
   unfolding all_changes changes_by
   policy_changes = rw (old_view, new_view, policy_reading p)
 
   -- and 11, after what comes before it, is told by them
-  pub policy_aliases : {f : Option Fault} → f ≡ format_fault p (schema_of old) (schema_of new)
-      → option_or f (alias_fault (both_aliases old new a b)) ≡ first_fault (policy_of p).pair (schema_of old) (schema_of new)
+  pub policy_aliases : {f : Option Fault} → f ≡ format_fault p (schema_in old.image) (schema_in new.image)
+      → option_or f (alias_fault (both_aliases old new)) ≡ first_fault (policy_of p).pair (schema_in old.image) (schema_in new.image)
   unfolding both_aliases
-  policy_aliases e = rw (e, old_view, new_view) (policy_pair p (schema_of old) (schema_of new))
+  policy_aliases e = rw (e, old_view, new_view) (policy_pair p (schema_in old.image) (schema_in new.image))

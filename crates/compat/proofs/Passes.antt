@@ -1,56 +1,86 @@
 -- One pass over changes: their lines and the last line are the report, and the tally of the lines gives the verdict. Assumes nothing.
-use mathlib.Core.Path.{◌≡◌, refl, ◌∙◌}
-use mathlib.Core.List.{List, [], ◌∷◌}
-use Prim.Native.Nat.{ℕ, ◌≤◌}
+use mathlib.Core.Path.{◌≡◌, sym, ap, ◌∙◌}
+use mathlib.Core.List.{List}
+use Rattle.std.specs.Prelude.{Ok}
+use Prim.Native.Nat.{ℕ, ◌^◌, ◌<◌}
 use native.Mathlib.Omega.{arith}
-use lib.ListN.{length}
-use Rattle.text.specs.Text.{Space, Puts}
-use Rattle.text.specs.declared.Mode.{Mode}
-use Rattle.text.proofs.Pieces.{together, Owes, owes_start, owes_room, owes_next, owes_end}
+use lib.ListN.{length, length-append}
+use Rattle.text.specs.Writers.{after, Adds}
+use Rattle.text.proofs.Writers.{adds_more, adds_at, adds_name, fills}
 use Rattle.rules.specs.Changes.{Change}
-use Rattle.rules.specs.Verdict.{bump_of, result_of}
+use Rattle.rules.specs.Verdict.{result_of}
 use Rattle.rules.specs.Report.{last_line, report}
 use Rattle.rules.specs.Answer.{compared}
-use Rattle.rules.proofs.Chain.{largest_two}
 use Rattle.tally.specs.Tallies.{no_change, lines_of, TallyOf}
-use Rattle.tally.specs.Reporting.{Ready, Ran}
 use Rattle.tally.specs.declared.Tally.{Tally}
-use Rattle.tally.proofs.Running.{ready_start, ran_tally, ran_lines}
-use Rattle.lines.specs.Last.{last_line_of}
+use Rattle.tally.proofs.Totals.{lines_many, tally_of}
+use Rattle.types.specs.declared.Reading.{Reading}
+use Rattle.lines.specs.Reports.{writer_of, with_text, reported, Reports, Ends}
+use Rattle.lines.specs.declared.Report.{Report}
 use Rattle.lines.proofs.Lines.{last_line_lem}
-use Rattle.verdicts.specs.Verdicts.{of_tally, verdict_is}
+use Rattle.lines.proofs.Reports.{reports_as}
+use Rattle.survivors.specs.declared.decls.Declarations.{Declarations}
+use Rattle.checking.specs.Decls.{all_changes}
+use Rattle.verdicts.specs.Verdicts.{answer_values, of_tally, outcome_values}
 use Rattle.verdicts.specs.declared.Verdict.{Verdict}
+use Rattle.compat.specs.Policies.{reading_in, changes_by, Prepared}
 use Rattle.compat.specs.Passes.{Passed}
+use Rattle.compat.specs.declared.policies.Policy.{Policy}
+use Rattle.compat.proofs.Kept.{policy_changes}
+use Rattle.compat.proofs.Outcomes.{report_small}
 
 -- a tally's verdict, with the report's length, is that of its changes
-tally_verdict : (cs : List Change) (t : Tally) (n : ℕ) → TallyOf cs t → n ≡ length (report cs) → of_tally t n ≡ verdict_is (compared cs)
-unfolding of_tally verdict_is result_of
+tally_verdict : (cs : List Change) (t : Tally) (n : ℕ) → TallyOf cs t → n ≡ length (report cs) → of_tally t n ≡ outcome_values (compared cs)
+unfolding of_tally outcome_values result_of
 tally_verdict cs t n o e = rw (o.bump, o.kinds, e)
 
-module _ {m : Mode} {d : List ℕ} (cs : List Change) (s : Space m d 0 (length (report cs))) where
-  whole : Owes m d 0 (report cs) 0 d (lines_of cs ∷ last_line cs ∷ [])
-  unfolding report lines_of together
-  whole = owes_start refl s
+-- ---- a report of no change, the report of the changes, and it with its last line
 
-  -- what `check` asks
-  pub pass_ready : Ready m d no_change cs
-  pass_ready = ready_start refl (owes_room whole)
+module _ {a b : Report} {cs : List Change} (none : a.tally ≡ no_change) (small : length (report cs) < 2 ^ 62) (h : Reports a cs b) where
+  few : length cs < 2 ^ 64
+  unfolding report lines_of
+  few = omega (arith, small, lines_many cs, length-append (lines_of cs) (last_line cs))
 
-  module _ {t : Tally} {d' : List ℕ} (a : Ran m d no_change cs t d') where
-    after : Owes m d 0 (report cs) t.length d' (last_line cs ∷ [])
-    after = owes_next whole (ran_lines a refl)
+  told : TallyOf cs b.tally
+  unfolding reported with_text
+  told = rw (ap (λ (r : Report). r.tally) h.is, none) (tally_of cs few)
 
-    last_is : last_line_of t ≡ last_line cs
-    last_is = last_line_lem cs t (ran_tally a refl)
+  module _ {c : Report} (k : Ends b c) where
+    same_tally : c.tally ≡ b.tally
+    unfolding with_text
+    same_tally = ap (λ (r : Report). r.tally) k.is
 
-    -- what the last line's writer asks
-    pub last_ready : (t.bump.level ≤ 2) × Space m d' t.length (length (last_line_of t))
-    unfolding bump_of
-    last_ready = (omega (arith, (ran_tally a refl).bump, largest_two cs), rw last_is (owes_room after))
+    first : Adds (writer_of a) (lines_of cs) (writer_of b)
+    unfolding reported with_text
+    first = record { is = ap (λ (r : Report). writer_of r) h.is }
 
-    module _ {n : ℕ} {d'' : List ℕ} (w : Puts m d' t.length (last_line_of t) n d'') where
-      done : Puts m d 0 (report cs) n d''
-      done = owes_end (owes_next after (rw last_is at w))
+    last : Adds (writer_of b) (last_line cs) (writer_of c)
+    unfolding with_text
+    last = record { is = ap (λ (r : Report). writer_of r) k.is ∙ ap (after (writer_of b)) (last_line_lem cs b.tally told) }
 
-      pub passed : {v : Verdict} → v ≡ of_tally t n → Passed m d cs v d''
-      passed e = record { verdict = e ∙ tally_verdict cs t n (ran_tally a refl) (omega (arith, done.end)); bytes = done.bytes }
+    whole : Adds (writer_of a) (report cs) (writer_of c)
+    unfolding report lines_of
+    whole = adds_more first last
+
+-- ---- by the reading of a policy
+
+module _ (p : Policy) {old new : Declarations} (k : Prepared p old new) {a b c : Report}
+    (e : a.reading ≡ reading_in p) (none : a.tally ≡ no_change) (h : Reports a (all_changes a.reading old new) b) (l : Ends b c) where
+  by_policy : Reports a (changes_by p old.image new.image) b
+  by_policy = reports_as (sym (policy_changes p k) ∙ ap (λ (r : Reading). all_changes r old new) (sym e)) h
+
+  small : length (report (changes_by p old.image new.image)) < 2 ^ 62
+  small = report_small p old.image new.image
+
+  pub pass_name : c.out.ghost_name ≡ a.out.ghost_name
+  pass_name = adds_name (whole none small by_policy l)
+
+  pub passed : a.length ≡ 0 → {d : List ℕ} → a.out.now ≡ d → length d < 2 ^ 64 → {d' : List ℕ} → d' ≡ c.out.now
+      → {v : Verdict} → answer_values (Ok v) ≡ of_tally c.tally c.length → Passed d (changes_by p old.image new.image) v d'
+  passed z f s q g =
+      let adds = whole none small by_policy l in
+      let long : c.length ≡ length (report (changes_by p old.image new.image)) = adds_at adds z ∙ omega (arith, small) in
+      record {
+        verdict = g ∙ ap (λ (t : Tally). of_tally t c.length) (same_tally none small by_policy l) ∙ tally_verdict _ b.tally c.length (told none small by_policy) long;
+        bytes = (fills adds z f s q).bytes;
+      }

@@ -1,26 +1,28 @@
 -- One pass over changes, and the report call. Assumes nothing.
-use Rattle.std.specs.Prelude.{◌≡◌, List, ℕ, length}
-use Rattle.text.specs.Text.{Space, put_in}
-use Rattle.text.specs.declared.Mode.{Mode}
+use Rattle.std.specs.Prelude.{◌≡◌, List, ℕ, length, take, Result, Ok}
+use Rattle.text.specs.Text.{put}
 use Rattle.rules.specs.Changes.{Change}
 use Rattle.rules.specs.Report.{report}
-use Rattle.rules.specs.Outcome.{written}
+use Rattle.parts.specs.Codes.{number, both_sides}
+use Rattle.rules.specs.Outcome.{Outcome, fit, written}
 use Rattle.rules.specs.Answer.{compared, report_by}
-use Rattle.verdicts.specs.Verdicts.{verdict_is}
+use Rattle.verdicts.specs.Verdicts.{answer_values, outcome_values}
+use Rattle.verdicts.specs.declared.Fault.{Fault}
 use Rattle.verdicts.specs.declared.Verdict.{Verdict}
 use Rattle.compat.specs.Policies.{policy_of}
 use Rattle.compat.specs.declared.policies.Policy.{Policy}
 
--- there is room for the whole report
-abbrev pub ReportSpace : Mode → List ℕ → List Change → Type 0
-ReportSpace mode d cs = Space mode d 0 (length (report cs))
+-- one pass over the changes cs with the buffer d: the verdict, and the buffer, which has as much of the report as it reaches
+pub record Passed (d : List ℕ) (cs : List Change) (r : Verdict) (d' : List ℕ) : Type 0 where
+  pub verdict : answer_values (Ok r) ≡ outcome_values (compared cs)
+  pub bytes : d' ≡ put d 0 (take (length d) (report cs))
 
--- one pass over the changes cs: the verdict, and the buffer
-pub record Passed (mode : Mode) (d : List ℕ) (cs : List Change) (r : Verdict) (d' : List ℕ) : Type 0 where
-  pub verdict : r ≡ verdict_is (compared cs)
-  pub bytes : d' ≡ put_in mode d 0 (report cs)
+-- an outcome with its text in the buffer d, if that has room: the answer, and the buffer
+pub record Written (o : Outcome) (d : List ℕ) (r : Result Verdict Fault) (d' : List ℕ) : Type 0 where
+  pub verdict : answer_values r ≡ outcome_values (fit (number both_sides) (length d) o)
+  pub bytes : d' ≡ written (fit (number both_sides) (length d) o) d
 
--- the report call on two images with the buffer d: the verdict, and the buffer
-pub record Reported (p : Policy) (old new d : List ℕ) (r : Verdict) (d' : List ℕ) : Type 0 where
-  pub verdict : r ≡ verdict_is (report_by (policy_of p) old new (length d))
+-- the report call on two images with the buffer d: the answer, and the buffer
+pub record Reported (p : Policy) (old new d : List ℕ) (r : Result Verdict Fault) (d' : List ℕ) : Type 0 where
+  pub verdict : answer_values r ≡ outcome_values (report_by (policy_of p) old new (length d))
   pub bytes : d' ≡ written (report_by (policy_of p) old new (length d)) d

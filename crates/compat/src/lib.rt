@@ -4,98 +4,100 @@
 
 pub mod policies;
 
-ghost use Rattle.std.specs.Prelude.{◌≡◌};
-ghost use Rattle.parts.specs.Promise.{schema_of};
-ghost use Rattle.parts.specs.Codes.{number, old_side};
+ghost use Rattle.std.specs.Prelude.{◌≡◌, ◌≤◌, length, take, Ok};
 ghost use Rattle.parts.specs.Numbers.{side_number};
-ghost use Rattle.rules.specs.Answer.{compared, fault_in, compare_pair, outcome};
-ghost use Rattle.items.specs.Pairs.{BothAccepted};
-ghost use Rattle.checking.specs.Decls.{BothSearchable, all_changes};
-ghost use Rattle.verdicts.specs.Verdicts.{verdict_is};
-ghost use Rattle.compat.specs.Policies.{policy_of, changes_by, Prepared, fault_of, Passing};
-ghost use Rattle.compat.specs.Passes.{ReportSpace, Passed, Reported};
+ghost use Rattle.rules.specs.Answer.{compared, outcome};
+ghost use Rattle.verdicts.specs.Verdicts.{answer_values, outcome_values};
+ghost use Rattle.compat.specs.Policies.{policy_of, changes_by, pair_outcome, outcome_by, Prepared, Accepts};
+ghost use Rattle.compat.specs.Passes.{Passed, Written, Reported};
 
-use crate::policies::{Fault, Policy, ids_of, judge_alone, judge_pair, walk_of};
+use crate::policies::{Policy, ids_of, judge_alone, judge_pair, reading_of};
 use checking::check;
-use items::Walk;
-use lines::reporting::put_last_line;
+use lines::Report;
+use parts::handles::Image;
 use parts::refusals::Refusal;
 use parts::sides::Side;
-use reader::read_image;
-use text::Mode;
-use verdicts::Verdict;
+use survivors::decls::Declarations;
+use verdicts::{Fault, Verdict};
 
-// One image: 1 to 10, and then the check of one image.
-fn accept(policy: Policy, image: &[u8], side: Side) -> Result<(), Fault>
-    ensures { fault_of result ≡ fault_in (policy_of policy) (side_number side) image.now }
+const FULL: Fault = Fault {
+    refusal: Refusal::Full,
+    side: Side::Both,
+};
+
+// The image that bytes are: 1 to 10, and then the check of one image.
+fn accept(policy: Policy, bytes: &[u8], side: Side) -> Result<Image<'_>, Fault>
+    ensures { Accepts policy (side_number side) bytes.now result }
 {
-    match read_image(image) {
-        Ok(()) => judge_alone(policy, image, side),
+    match Image::read(bytes) {
+        Ok(image) => {
+            judge_alone(policy, image, side)?;
+            Ok(image)
+        }
         Err(refusal) => Err(Fault { refusal, side }),
     }
 }
 
-// One pass over two accepted images: the lines of the changes, and the last.
-fn pass(
-    walk: Walk,
-    old: &[u8],
-    new: &[u8],
-    old_reached: &[bool],
-    new_reached: &[bool],
-    out: &mut [u8],
-) -> Verdict
-    requires { BothSearchable old.now new.now old_reached.now new_reached.now × ReportSpace walk.mode out.old (all_changes walk.reading old.now new.now old_reached.now new_reached.now) }
-    ensures { Passed walk.mode out.old (all_changes walk.reading old.now new.now old_reached.now new_reached.now) result out.new }
-{
-    let t = check(walk, old, new, old_reached, new_reached, out);
-    let mode = walk.mode;
-    let length = put_last_line(mode, out, t);
-    Verdict::of_tally(t, length)
-}
-
-// The verdict of the changes. Nothing is written.
-fn measure(
+// The two images: "old before new".
+fn accept_both<'a>(
     policy: Policy,
-    old: &[u8],
-    new: &[u8],
-    old_reached: &[bool],
-    new_reached: &[bool],
-) -> Verdict
-    requires { Prepared policy old.now new.now old_reached.now new_reached.now }
-    ensures { result ≡ verdict_is (compared (changes_by policy old.now new.now)) }
+    old: &'a [u8],
+    new: &'a [u8],
+) -> Result<(Image<'a>, Image<'a>), Fault>
+    ensures { outcome_by policy result ≡ outcome (policy_of policy) old.now new.now }
 {
-    let mut none = [0u8; 1];
-    pass(
-        walk_of(policy, Mode::Measure),
-        old,
-        new,
-        old_reached,
-        new_reached,
-        &mut none,
-    )
+    let first = accept(policy, old, Side::Old)?;
+    let second = accept(policy, new, Side::New)?;
+    Ok((first, second))
 }
 
-// Two accepted images, each with its set of ids: the fault of the pair, or the verdict.
+// What may stand in an image, with a mark for each of so many ids.
+fn marked<'a>(image: Image<'a>, marks: &'a [bool], count: usize) -> Declarations<'a>
+    requires { (count ≤ length marks.now) × (count ≤ 512) }
+    ensures image { result.image ≡ image.entry }
+    ensures reached { result.reached.now ≡ take count marks.now }
+{
+    Declarations {
+        image,
+        reached: &marks[..count],
+    }
+}
+
+// One pass over two images: the lines of the changes, and the last.
+fn pass(policy: Policy, old: Declarations<'_>, new: Declarations<'_>, out: &mut [u8]) -> Verdict
+    requires { Prepared policy old new }
+    ensures { Passed out.old (changes_by policy old.entry.image new.entry.image) result out.new }
+{
+    let mut r = Report::new(out, reading_of(policy));
+    check(&mut r, old, new);
+    r.put_last_line();
+    Verdict::of_tally(r.tally, r.length)
+}
+
+// The verdict of the changes. Nothing is written: the buffer is empty.
+fn measure(policy: Policy, old: Declarations<'_>, new: Declarations<'_>) -> Verdict
+    requires { Prepared policy old new }
+    ensures { answer_values (Ok result) ≡ outcome_values (compared (changes_by policy old.entry.image new.entry.image)) }
+{
+    pass(policy, old, new, &mut [])
+}
+
+// Two images, each with its set of ids: the fault of the pair, or the verdict.
 fn compare_with(
     policy: Policy,
-    old: &[u8],
-    new: &[u8],
-    old_reached: &[bool],
-    new_reached: &[bool],
-) -> Verdict
-    requires { Prepared policy old.now new.now old_reached.now new_reached.now }
-    ensures { result ≡ verdict_is (compare_pair (policy_of policy) (schema_of old.now) (schema_of new.now)) }
+    old: Declarations<'_>,
+    new: Declarations<'_>,
+) -> Result<Verdict, Fault>
+    requires { Prepared policy old new }
+    ensures { answer_values result ≡ outcome_values (pair_outcome policy old.entry.image new.entry.image) }
 {
-    match judge_pair(policy, old, new, old_reached, new_reached) {
-        Ok(()) => measure(policy, old, new, old_reached, new_reached),
-        Err(fault) => Verdict::refused(fault.refusal, fault.side),
-    }
+    judge_pair(policy, old, new)?;
+    Ok(measure(policy, old, new))
 }
 
-// Two accepted images.
-fn compare(policy: Policy, old: &[u8], new: &[u8]) -> Verdict
-    requires { BothAccepted old.now new.now }
-    ensures { result ≡ verdict_is (compare_pair (policy_of policy) (schema_of old.now) (schema_of new.now)) }
+// Two images.
+fn compare(policy: Policy, old: Image<'_>, new: Image<'_>) -> Result<Verdict, Fault>
+    ensures { answer_values result ≡ outcome_values (pair_outcome policy old.entry new.entry) }
 {
     let a = ids_of(policy, old);
     let b = ids_of(policy, new);
@@ -103,34 +105,38 @@ fn compare(policy: Policy, old: &[u8], new: &[u8]) -> Verdict
     let n = b.marks;
     let i = a.count;
     let j = b.count;
-    compare_with(policy, old, new, &m[..i], &n[..j])
+    compare_with(policy, marked(old, &m, i), marked(new, &n, j))
 }
 
-// The new image, after the old one is accepted.
-fn verdict_new(policy: Policy, old: &[u8], new: &[u8]) -> Verdict
-    requires { Passing policy (number old_side) old.now }
-    ensures { result ≡ verdict_is (outcome (policy_of policy) old.now new.now) }
+// The verdict on two images.
+pub fn verdict(policy: Policy, old: &[u8], new: &[u8]) -> Result<Verdict, Fault>
+    ensures { answer_values result ≡ outcome_values (outcome (policy_of policy) old.now new.now) }
 {
-    match accept(policy, new, Side::New) {
-        Ok(()) => compare(policy, old, new),
-        Err(fault) => Verdict::refused(fault.refusal, fault.side),
-    }
+    let (first, second) = accept_both(policy, old, new)?;
+    compare(policy, first, second)
 }
 
-// The verdict on two images: "old before new".
-pub fn verdict(policy: Policy, old: &[u8], new: &[u8]) -> Verdict
-    ensures { result ≡ verdict_is (outcome (policy_of policy) old.now new.now) }
+// Two images, each with its set of ids: the verdict with its report in a buffer. 12 if the report is longer than the buffer.
+fn write_with(
+    policy: Policy,
+    old: Declarations<'_>,
+    new: Declarations<'_>,
+    out: &mut [u8],
+) -> Result<Verdict, Fault>
+    requires { Prepared policy old new }
+    ensures { Written (pair_outcome policy old.entry.image new.entry.image) out.old result out.new }
 {
-    match accept(policy, old, Side::Old) {
-        Ok(()) => verdict_new(policy, old, new),
-        Err(fault) => Verdict::refused(fault.refusal, fault.side),
+    judge_pair(policy, old, new)?;
+    let v = measure(policy, old, new);
+    if out.len() < v.length {
+        return Err(FULL);
     }
+    Ok(pass(policy, old, new, out))
 }
 
-// The report of two accepted images into a buffer that holds it, with the verdict.
-fn write(policy: Policy, old: &[u8], new: &[u8], out: &mut [u8]) -> Verdict
-    requires { BothAccepted old.now new.now × ReportSpace Mode.Write out.old (changes_by policy old.now new.now) }
-    ensures { Passed Mode.Write out.old (changes_by policy old.now new.now) result out.new }
+// Two images.
+fn write(policy: Policy, old: Image<'_>, new: Image<'_>, out: &mut [u8]) -> Result<Verdict, Fault>
+    ensures { Written (pair_outcome policy old.entry new.entry) out.old result out.new }
 {
     let a = ids_of(policy, old);
     let b = ids_of(policy, new);
@@ -138,26 +144,13 @@ fn write(policy: Policy, old: &[u8], new: &[u8], out: &mut [u8]) -> Verdict
     let n = b.marks;
     let i = a.count;
     let j = b.count;
-    pass(
-        walk_of(policy, Mode::Write),
-        old,
-        new,
-        &m[..i],
-        &n[..j],
-        out,
-    )
+    write_with(policy, marked(old, &m, i), marked(new, &n, j), out)
 }
 
-// The verdict with its report: 12 if the report is longer than the buffer. A refusal leaves the buffer as it was.
-pub fn report(policy: Policy, old: &[u8], new: &[u8], out: &mut [u8]) -> Verdict
+// The verdict with its report. A refusal leaves the buffer as it was.
+pub fn report(policy: Policy, old: &[u8], new: &[u8], out: &mut [u8]) -> Result<Verdict, Fault>
     ensures { Reported policy old.now new.now out.old result out.new }
 {
-    let v = verdict(policy, old, new);
-    if v.number != 0 {
-        return v;
-    }
-    if out.len() < v.length {
-        return Verdict::refused(Refusal::Full, Side::Both);
-    }
-    write(policy, old, new, out)
+    let (first, second) = accept_both(policy, old, new)?;
+    write(policy, first, second, out)
 }

@@ -18,16 +18,16 @@ const ROOM: usize = 65536;
 // The report of two images.
 fn compare(rt: &(impl Print + Eprint), old: &[u8], new: &[u8]) {
     let mut out = [0; ROOM];
-    let verdict = compat::report(Policy::Plain, old, new, &mut out);
-    printing::print_answer(rt, verdict, &out);
+    let answer = compat::report(Policy::Plain, old, new, &mut out);
+    printing::print_answer(rt, answer, &out);
 }
 
 // The contents listing of one image.
 fn list(rt: &(impl Print + Eprint), image: &[u8]) {
     let mut out = [0; ROOM];
-    let verdict = checked(image, out.len());
+    let answer = checked(image, out.len());
     write_listing(image, &mut out);
-    printing::print_answer(rt, verdict, &out);
+    printing::print_answer(rt, answer, &out);
 }
 
 fn compare_files<R: Print + Eprint + Files>(rt: &R, old_path: &[u8], new_path: &[u8]) {

@@ -1,6 +1,7 @@
 // What the program prints: the report, the listing or the refusal on standard output, all else on standard error.
+use parts::sides::Side;
 use std::io::{self, Write};
-use verdicts::Verdict;
+use verdicts::{Fault, Verdict};
 
 // How the program is called, and that its status is no answer.
 const USAGE: &str =
@@ -13,21 +14,24 @@ fn warn_unless(rt: &impl Eprint, written: io::Result<()>) {
     }
 }
 
-// The side of a refusal, which `Verdict` has as a number.
-fn side_word(side: u8) -> &'static str {
+fn side_word(side: Side) -> &'static str {
     match side {
-        1 => "old",
-        2 => "new",
-        _ => "both",
+        Side::Old => "old",
+        Side::New => "new",
+        Side::Both => "both",
     }
 }
 
 // The text at the start of a buffer, or the refusal, as `refused 9 old`.
-pub fn print_answer(rt: &(impl Print + Eprint), verdict: Verdict, buffer: &[u8]) {
-    let written = match verdict.number {
+pub fn print_answer(rt: &(impl Print + Eprint), answer: Result<Verdict, Fault>, buffer: &[u8]) {
+    let written = match answer {
         // The text always fits its buffer; the other case saves the proof of that.
-        0 => io::writer(rt).write_all(buffer.get(..verdict.length).unwrap_or(buffer)),
-        number => println!(rt; "refused {number} {}", side_word(verdict.side)),
+        Ok(verdict) => io::writer(rt).write_all(buffer.get(..verdict.length).unwrap_or(buffer)),
+        Err(fault) => println!(rt;
+            "refused {} {}",
+            fault.refusal.number(),
+            side_word(fault.side)
+        ),
     };
     warn_unless(rt, written);
 }

@@ -11,8 +11,8 @@ use lib.Dec.{leb}
 use lib.ListN.{length, get_or, take, set, length-set, length-append, get_or-append}
 use lib.Seq.{take-suc-set, take-length, get_or_at}
 use Rattle.rules.specs.Answer.{Policy, outcome, verdict_by}
-use Rattle.verdicts.specs.Verdicts.{verdict_is, select_in}
-use Rattle.verdicts.specs.declared.Verdict.{Verdict}
+use Rattle.verdicts.specs.Verdicts.{outcome_values, select_in}
+use Rattle.verdicts.specs.declared.Values.{Values}
 use Rattle.verdicts.proofs.Selectors.{outcome_selected}
 use Rattle.vexil_compat.specs.Calls.{values_of, Valued}
 
@@ -47,27 +47,27 @@ module _ (f : ℕ → ℕ) where
     unfolding values_of
     filled_start = record { size = refl; below = omega arith; first = refl }
 
-    pub filled_next : {i : ℕ} {d' : List ℕ} {x : ℕ} → Filled d i d' → i < length d' → x ≡ f i → Filled d (i + 1) (set d' i x)
+    pub filled_next : {i : ℕ} {d' : List ℕ} {x : ℕ} → Filled d i d' → i < length d → x ≡ f i → Filled d (i + 1) (set d' i x)
     unfolding values_of
     filled_next {i} {d'} {x} p l e =
         record {
           size = length-set d' i x ∙ p.size;
           below = omega (arith, p.size);
-          first = ap (λ (k : ℕ). take k (set d' i x)) (add-one i) ∙ take-suc-set d' i x l ∙ rw (p.first, e, add-one i);
+          first = ap (λ (k : ℕ). take k (set d' i x)) (add-one i) ∙ take-suc-set d' i x (omega (arith, p.size)) ∙ rw (p.first, e, add-one i);
         }
 
-    pub filled_end : {i : ℕ} {d' : List ℕ} → Filled d i d' → length d' ≤ i → d' ≡ values_of f (length d)
+    pub filled_end : {i : ℕ} {d' : List ℕ} → Filled d i d' → length d ≤ i → d' ≡ values_of f (length d)
     filled_end {i} {d'} p l =
-        let e : i ≡ length d = omega (arith, p.size, p.below) in
+        let e : i ≡ length d = omega (arith, p.below) in
         let q : length d' ≡ i = omega (arith, p.size, p.below) in
         sym (take-length d') ∙ ap (λ (k : ℕ). take k d') q ∙ p.first ∙ ap (values_of f) e
 
 -- ---- of two images
 
-module _ (p : Policy) (old new : List ℕ) {v : Verdict} (e : v ≡ verdict_is (outcome p old new)) where
+module _ (p : Policy) (old new : List ℕ) {v : Values} (e : v ≡ outcome_values (outcome p old new)) where
   pub verdict_selected : (n : ℕ) → select_in v n ≡ verdict_by p old new n
   unfolding verdict_by
-  verdict_selected n = ap (λ (u : Verdict). select_in u n) e ∙ outcome_selected (outcome p old new) n
+  verdict_selected n = ap (λ (u : Values). select_in u n) e ∙ outcome_selected (outcome p old new) n
 
   pub verdict_valued : (d : List ℕ) {d' : List ℕ} → d' ≡ values_of (select_in v) (length d) → Valued (verdict_by p old new) d v.number d'
   unfolding select_in

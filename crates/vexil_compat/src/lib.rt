@@ -14,24 +14,22 @@ ghost use Rattle.vexil_compat.specs.Calls.{values_of, Valued, Reported};
 use compat::policies::Policy;
 use compat::{report, verdict};
 use listing::{checked, write_listing};
-use verdicts::Verdict;
+use verdicts::Values;
 
 // One value of the verdict, by its selector.
 #[unsafe(no_mangle)]
 pub extern "C" fn vexil_compat_verdict(old: &[u8], new: &[u8], selector: u64) -> u64
     ensures { result ≡ verdict_of old.now new.now selector }
 {
-    verdict(Policy::Plain, old, new).select(selector)
+    Values::of(verdict(Policy::Plain, old, new)).select(selector)
 }
 
 // The values of a verdict, from selector 0 on, one for each place of a buffer.
-fn put_values(v: Verdict, values: &mut [u64])
+fn put_values(v: Values, values: &mut [u64])
     ensures { values.new ≡ values_of (select_in v) (length values.old) }
 {
-    let mut i: usize = 0;
-    while i < values.len() {
+    for i in 0..values.len() {
         values[i] = v.select(i as u64);
-        i += 1;
     }
 }
 
@@ -39,7 +37,7 @@ fn put_values(v: Verdict, values: &mut [u64])
 fn values_by(policy: Policy, old: &[u8], new: &[u8], values: &mut [u64]) -> u64
     ensures { Valued (verdict_by (policy_of policy) old.now new.now) values.old result values.new }
 {
-    let v = verdict(policy, old, new);
+    let v = Values::of(verdict(policy, old, new));
     put_values(v, values);
     v.number as u64
 }
@@ -56,7 +54,7 @@ pub extern "C" fn vexil_compat_values(old: &[u8], new: &[u8], values: &mut [u64]
 fn report_by(policy: Policy, old: &[u8], new: &[u8], out: &mut [u8]) -> u64
     ensures { Reported (policy_of policy) old.now new.now out.old result out.new }
 {
-    let v = report(policy, old, new, out);
+    let v = Values::of(report(policy, old, new, out));
     v.length as u64
 }
 
@@ -72,7 +70,7 @@ pub extern "C" fn vexil_compat_report(old: &[u8], new: &[u8], out: &mut [u8]) ->
 pub extern "C" fn vexil_compat_imports_verdict(old: &[u8], new: &[u8], selector: u64) -> u64
     ensures { result ≡ verdict_by imports old.now new.now selector }
 {
-    verdict(Policy::Imports, old, new).select(selector)
+    Values::of(verdict(Policy::Imports, old, new)).select(selector)
 }
 
 #[unsafe(no_mangle)]
@@ -94,7 +92,7 @@ pub extern "C" fn vexil_compat_imports_report(old: &[u8], new: &[u8], out: &mut 
 pub extern "C" fn vexil_compat_mended_verdict(old: &[u8], new: &[u8], selector: u64) -> u64
     ensures { result ≡ verdict_by mended old.now new.now selector }
 {
-    verdict(Policy::Mended, old, new).select(selector)
+    Values::of(verdict(Policy::Mended, old, new)).select(selector)
 }
 
 #[unsafe(no_mangle)]
@@ -124,5 +122,5 @@ pub extern "C" fn vexil_compat_listing(image: &[u8], out: &mut [u8]) -> u64
 pub extern "C" fn vexil_compat_listing_verdict(image: &[u8], out_len: u64, selector: u64) -> u64
     ensures { result ≡ listing_verdict image.now out_len selector }
 {
-    checked(image, out_len as usize).select(selector)
+    Values::of(checked(image, out_len as usize)).select(selector)
 }

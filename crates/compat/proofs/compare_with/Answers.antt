@@ -1,11 +1,14 @@
 -- `compat::compare_with` meets its contract: the fault of the pair, or what is measured. Assumes nothing.
 use Rattle.std.proofs.Common.{ap, ◌∙◌}
-use Rattle.verdicts.specs.Verdicts.{verdict_is}
+use Rattle.std.proofs.lemmas.Result.{err_from_is_err_and}
+use Rattle.verdicts.specs.Verdicts.{outcome_values}
 use Rattle.compat.proofs.Outcomes.{pair_passes, pair_refused_lem}
 use Rattle.compat.proofs.compare_with.Goals as goal
 
-pub returns-in-Ok : goal.returns-in-Ok
-returns-in-Ok c = c.measure.ensures ∙ ap verdict_is (pair_passes _ _ _ c.judge_pair.ensures c.in-Ok.is)
+pub returns : goal.returns
+returns c = c.measure.ensures ∙ ap outcome_values (pair_passes _ c.args.old.image c.args.new.image c.judge_pair.ensures c.in_ok-judge_pair.was)
 
-pub returns-in-Err : goal.returns-in-Err
-returns-in-Err c = c.refused.ensures ∙ pair_refused_lem _ _ _ c.judge_pair.ensures c.in-Err.is
+pub returns-in_err-judge_pair : goal.returns-in_err-judge_pair
+returns-in_err-judge_pair c =
+    let p = err_from_is_err_and c.from_residual.result c.from_residual.ensures.1 in
+    rw (p.1, p.2) (pair_refused_lem _ c.args.old.image c.args.new.image c.judge_pair.ensures c.in_err-judge_pair.was)

@@ -1,12 +1,10 @@
 -- `compat::pass` meets its contract: the lines, and the last one after them. Assumes nothing.
-use Rattle.compat.proofs.Passes.{pass_ready, last_ready, passed}
+use Rattle.std.proofs.Common.{sym, ◌∙◌, arith, rules}
+use Rattle.compat.proofs.Passes.{pass_name, passed}
 use Rattle.compat.proofs.pass.Goals as goal
 
-pub check-t-requires : goal.check-t-requires
-check-t-requires c = (c.requires.0, pass_ready _ c.requires.1)
-
-pub put_last_line-length-requires : goal.put_last_line-length-requires
-put_last_line-length-requires c = last_ready _ c.requires.1 c.check-t.ensures
-
 pub returns : goal.returns
-returns c = passed _ c.requires.1 c.check-t.ensures c.put_last_line-length.ensures c.of_tally.ensures
+returns c =
+    let n = sym (pass_name c.args.policy c.requires (c.new-r.ensures.reading ∙ c.reading_of.ensures) c.new-r.ensures.tally c.check.ensures c.put_last_line.ensures ∙ c.new-r.ensures.same_reference) in
+    passed c.args.policy c.requires (c.new-r.ensures.reading ∙ c.reading_of.ensures) c.new-r.ensures.tally c.check.ensures c.put_last_line.ensures
+    c.new-r.ensures.start c.new-r.ensures.bytes (omega arith) (search rules) c.of_tally.ensures

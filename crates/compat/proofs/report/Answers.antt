@@ -1,15 +1,12 @@
--- `compat::report` meets its contract: a refusal of the verdict, refusal 12, or the pass that writes. Assumes nothing.
-use Rattle.compat.proofs.Outcomes.{report_refused, report_full, report_ready, report_passed}
+-- `compat::report` meets its contract: the fault of an image, or what is written of the pair. Assumes nothing.
+use Rattle.std.proofs.lemmas.Result.{err_from_is_err_and}
+use Rattle.compat.proofs.Outcomes.{report_refused, report_told}
 use Rattle.compat.proofs.report.Goals as goal
 
-pub returns-then-v-ne0 : goal.returns-then-v-ne0
-returns-then-v-ne0 c = report_refused _ _ _ _ c.verdict-v.ensures c.if-v-ne0.true
-
-pub returns-then-out-v : goal.returns-then-out-v
-returns-then-out-v c = report_full _ _ _ _ c.verdict-v.ensures c.if-v-ne0.false c.if-out-v.true c.refused.ensures
-
-pub write-requires : goal.write-requires
-write-requires c = report_ready _ _ _ _ c.verdict-v.ensures c.if-v-ne0.false c.if-out-v.false
+pub returns-in_err-first : goal.returns-in_err-first
+returns-in_err-first c =
+    let p = err_from_is_err_and c.from_residual.result c.from_residual.ensures.1 in
+    rw (p.1, p.2) (report_refused c.args.policy c.args.old.now c.args.new.now c.accept_both.ensures _ c.in_err-first.was)
 
 pub returns : goal.returns
-returns c = report_passed _ _ _ _ c.verdict-v.ensures c.if-v-ne0.false c.if-out-v.false c.write.ensures
+returns c = report_told c.args.policy c.args.old.now c.args.new.now c.accept_both.ensures c.in_ok-first.was c.write.ensures

@@ -1,12 +1,8 @@
-use Rattle.std.proofs.Common.{arith}
 use Rattle.vexil_compat.proofs.Values.{filled_start, filled_next, filled_end}
 use Rattle.vexil_compat.proofs.put_values.Goals as goal
 
 pub loop-i-init : goal.loop-i-init
 loop-i-init c = filled_start _ _
-
-pub loop-i-smaller : goal.loop-i-smaller
-loop-i-smaller c = omega (arith, c.loop-i.invariant.size)
 
 pub loop-i-preserved : goal.loop-i-preserved
 loop-i-preserved c = filled_next _ _ c.loop-i.invariant c.loop-i-test.true c.select.ensures

@@ -5,4 +5,4 @@ use Rattle.vexil_compat.proofs.vexil_compat_verdict.Goals as goal
 
 pub returns : goal.returns
 unfolding policy_of
-returns c = c.select.ensures ∙ verdict_selected _ _ _ c.verdict.ensures c.args.selector
+returns c = c.select.ensures ∙ verdict_selected _ _ _ (c.of.ensures ∙ c.verdict.ensures) c.args.selector

@@ -1,6 +1,7 @@
 -- `compat::policies::ids_of` meets its contract, policy by policy. Assumes nothing.
-use Rattle.std.proofs.Common.{◌≡◌, sym, List, [], ℕ, arith}
-use Rattle.parts.specs.Promise.{schema_of}
+use Rattle.std.proofs.Common.{◌≡◌, sym, [], arith}
+use Rattle.parts.specs.Handles.{schema_in}
+use Rattle.parts.specs.declared.handles.Image.{Image}
 use Rattle.reached.specs.Marks.{ReachedIn}
 use Rattle.reached.specs.declared.Reached.{Reached}
 use Rattle.compat.specs.Policies.{ids_by, HasIds}
@@ -8,11 +9,11 @@ use Rattle.compat.specs.declared.policies.Policy.{Policy}
 use Rattle.compat.specs.declared.policies.Policy.TheVariants as policy
 use Rattle.compat.proofs.policies.ids_of.Goals as goal
 
-module _ {p : Policy} {s : List ℕ} {r : Reached} where
-  no_ids : ids_by p (schema_of s) ≡ [] → r.count ≡ 0 → HasIds p s r
+module _ {p : Policy} {i : Image} {r : Reached} where
+  no_ids : ids_by p (schema_in i) ≡ [] → r.count ≡ 0 → HasIds p i r
   no_ids e z = record { marks = rw z (sym e); few = omega arith; room = omega arith }
 
-  reached_ids : p ≡ policy.Imports → ReachedIn s r → HasIds p s r
+  reached_ids : p ≡ policy.Imports → ReachedIn i r → HasIds p i r
   unfolding ids_by
   reached_ids e h = rw e (record { marks = h.marks; few = h.few; room = h.room })
 

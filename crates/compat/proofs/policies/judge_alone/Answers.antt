@@ -1,6 +1,6 @@
 -- `compat::policies::judge_alone` meets its contract, policy by policy. Assumes nothing.
 use Rattle.std.proofs.Common.{◌≡◌, refl, ℕ}
-use Rattle.std.specs.Prelude.{Ok}
+use Rattle.std.specs.Prelude.{Ok, ⊤}
 use Rattle.parts.specs.Numbers.{side_number}
 use Rattle.image.specs.Schema.{Schema}
 use Rattle.rules.specs.Answer.{on_side}
@@ -9,7 +9,7 @@ use Rattle.compat.specs.declared.policies.Policy.{Policy}
 use Rattle.compat.specs.declared.policies.Policy.TheVariants as policy
 use Rattle.compat.proofs.policies.judge_alone.Goals as goal
 
-plainly : (p : Policy) (side : ℕ) (x : Schema) → fault_of (Ok tt) ≡ on_side side ((policy_of p).alone x)
+plainly : (p : Policy) (side : ℕ) (x : Schema) → fault_of {A = ⊤} (Ok tt) ≡ on_side side ((policy_of p).alone x)
 unfolding fault_of policy_of on_side
 plainly policy.Plain side x = refl
 plainly policy.Imports side x = refl

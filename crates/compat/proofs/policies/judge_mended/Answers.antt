@@ -3,9 +3,6 @@ use Rattle.std.proofs.lemmas.Result.{err_from_is_err_and}
 use Rattle.compat.proofs.Outcomes.{first_passes, first_told}
 use Rattle.compat.proofs.policies.judge_mended.Goals as goal
 
-pub judge_formats-requires : goal.judge_formats-requires
-judge_formats-requires c = (c.requires.0.accepted, c.requires.1.accepted)
-
 pub returns-in_err-judge_formats : goal.returns-in_err-judge_formats
 returns-in_err-judge_formats c =
     let p = err_from_is_err_and c.from_residual.result c.from_residual.ensures.1 in
