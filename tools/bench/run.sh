@@ -20,15 +20,13 @@ reader() (
     printf 'image:\nreader: image\nexports staticlib: image reader\n' > "$work/crates.txt"
     cat > "$work/crates/exports/src/lib.rt" <<'RATTLE'
 // The reader of images for a caller in another language.
-use reader::Acceptance;
 
 // 0 for an image that is accepted, else its refusal.
 #[unsafe(no_mangle)]
 pub extern "C" fn read_image_number(bytes: &[u8]) -> u8 {
-    let answer = reader::read_image(bytes);
-    match answer {
-        Acceptance::Accepted => 0,
-        Acceptance::Rejected(number) => number,
+    match reader::read_image(bytes) {
+        Ok(()) => 0,
+        Err(refusal) => refusal.number(),
     }
 }
 RATTLE

@@ -114,7 +114,7 @@ def unfolded(root: Path) -> list[str]:
         for name in crates
         if "parts" in reached(name, crates) and name not in INSIDE and is_library(root, name)
         for path in sorted((root / "crates" / name).rglob("*"))
-        if path.suffix in (".rt", ".antt") and not (name in DEFINE and path.parent.name == "specs")
+        if path.suffix in (".rt", ".antt") and "out" not in path.relative_to(root).parts and not (name in DEFINE and path.parent.name == "specs")
         for named in named_behind(path)
     ]
 
