@@ -19,7 +19,7 @@
  *   - Every call, of one image too, uses less than 28 KiB of stack: measured on all recorded pairs, and not proved.
  *   - A comparison takes microseconds for small images, and grows with the square of what one declaration holds. The longest that were found,
  *     on a virtual machine, of images of 32,768 bytes: 2,700 fields of which the last differs, 0.2 s for the values and 0.4 s for the report;
- *     1,259 fields of `bits`, none of them kept, 0.4 s and 0.9 s; 2,762 fields of mixed types, none of them kept, 1.3 s and 2.5 s. With imports
+ *     1,259 fields of `bits`, none of them kept, 0.4 s and 0.9 s; 2,762 fields of mixed types, none of them kept, 1.5 s and 3.0 s. With imports
  *     they take up to three quarters more; the mended verdict takes about as long as the first. docs/BENCHMARKS.md has the table. Nothing is
  *     waited for, and longer ones may be found.
  *   - Nothing is allocated and nothing is kept from one call to the next, so that threads may call at the same time.
