@@ -1,11 +1,13 @@
-// Words by their number or tag, from one text, in which a space stands after each word. A table of references to words would be memory that
-// is written to when the library is loaded.
+// Words by their code or tag. Where there are many they stand in one text, a space after each: a table of references to words would be memory
+// that is written to when the library is loaded.
 ghost use Rattle.std.specs.Prelude.{[], ◌∷◌, ◌≡◌};
 ghost use Rattle.parts.specs.Numbers.{tag_number};
+ghost use Rattle.parts.specs.Promise.{coding_number};
 ghost use Rattle.rules.specs.Text.{word, primitive_word, semantic_word, opening};
 ghost use Rattle.text.specs.Writers.{Adds};
 ghost use Rattle.display.specs.Words.{word_in};
 
+use parts::Coding;
 use parts::tags::Tag;
 use text::Writer;
 
@@ -49,11 +51,15 @@ pub(crate) fn put_sign(w: &mut Writer<'_>, sign: u8)
     put_word(w, b"u i ", sign as usize);
 }
 
-// A coding without its deltas, by its code.
-pub(crate) fn put_coding(w: &mut Writer<'_>, base: u8)
-    ensures { Adds w.old (word ("default" ∷ "varint" ∷ "zigzag" ∷ []) base) w.new }
+// A coding, each by its own arm.
+pub(crate) fn put_coding(w: &mut Writer<'_>, coding: Coding)
+    ensures { Adds w.old (word ("default" ∷ "varint" ∷ "zigzag" ∷ []) (coding_number coding)) w.new }
 {
-    put_word(w, b"default varint zigzag ", base as usize);
+    match coding {
+        Coding::Default => w.text(b"default"),
+        Coding::Varint => w.text(b"varint"),
+        Coding::Zigzag => w.text(b"zigzag"),
+    }
 }
 
 // A tag's number.

@@ -16,6 +16,7 @@ use crate::types::read_type_at;
 const NARROW: usize = 65535;
 
 // Bit 0 deprecated, bit 1 non-exhaustive, others 0.
+#[tactic(auto, using(crate::proofs::Laws::Fields::marks_code))]
 pub fn read_marks(s: &[u8], at: usize) -> Read
     ensures { read_of result ≡ skip (marks_at s.now at) }
 {
@@ -136,7 +137,7 @@ fn read_variant<P: Position>(s: &[u8], at: P) -> Read
     read_counted(s, fields_at, read_field)
 }
 
-// The same from a position, with positions held narrow where a u16 carries all of them.
+// Items from a position, after their count: positions are held narrow where a u16 carries all of them.
 fn read_items<N: Fn(&[u8], u16) -> Read, W: Fn(&[u8], usize) -> Read>(
     s: &[u8],
     at: usize,

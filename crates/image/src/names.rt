@@ -11,10 +11,11 @@ use crate::refusals::Refusal;
 fn is_name_byte(b: u8) -> bool
     ensures { result ≡ name_byte b }
 {
-    matches!(b, b'a'..=b'z' | b'A'..=b'Z' | b'0'..=b'9' | b'_')
+    b.is_ascii_lowercase() || b.is_ascii_uppercase() || b.is_ascii_digit() || b == b'_'
 }
 
 // The length is judged before the bytes. `short` is the refusal where the list ends before the name does.
+#[tactic(auto, using(crate::proofs::Laws::Names::naming))]
 pub fn read_name(s: &[u8], at: usize, short: Refusal) -> Read
     ensures { read_of result ≡ skip (name_at (refusal_number short) s.now at) }
 {
@@ -36,6 +37,7 @@ pub fn read_name(s: &[u8], at: usize, short: Refusal) -> Read
 }
 
 // So many names, one after the other.
+#[tactic(auto, using(crate::proofs::Laws::Repeats::rests), unfolding(crate::specs::Names::names_at))]
 pub fn read_names(s: &[u8], at: usize, count: usize, short: Refusal) -> Read
     ensures { read_of result ≡ skip (names_at (refusal_number short) count s.now at) }
 {

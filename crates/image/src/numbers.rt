@@ -1,5 +1,5 @@
 // Bytes, coded bytes and little-endian numbers.
-ghost use Rattle.std.specs.Prelude.{◌≡◌, ◌+◌, ◌^◌, ◌≤◌, ◌<◌, length, drop};
+ghost use Rattle.std.specs.Prelude.{◌≡◌, ◌+◌, ◌≤◌, ◌<◌, length, drop};
 ghost use Rattle.image.specs.Codes.{number, body_refusal};
 ghost use Rattle.image.specs.Parse.{byte_at, code_at, number_at, little_endian};
 ghost use Rattle.image.specs.Reads.{read_of, skip};
@@ -50,30 +50,38 @@ pub(crate) fn read_number(s: &[u8], at: usize, w: usize) -> Read
     Ok(at + w)
 }
 
-// The number of W bytes that are there, the lowest first. The loop counts to W, so that it is unrolled.
-pub fn number<const W: usize>(s: &[u8], at: usize) -> u64
-    requires { (W ≤ 8) × (at + W ≤ length s.now) }
-    ensures { (result ≡ little_endian W (drop at s.now)) × (result < 256 ^ W) }
-{
-    let mut value: u64 = 0;
-    for i in 0..W {
-        value = value * 256 + s[at + (W - 1 - i)] as u64;
-    }
-    value
-}
-
-// Of two bytes.
+// The number of two bytes that are there, the lowest first.
+#[tactic(auto, using(crate::proofs::Laws::Numbers::lowest_first))]
 pub fn u16_at(s: &[u8], at: usize) -> usize
     requires { at + 2 ≤ length s.now }
     ensures { (result ≡ little_endian 2 (drop at s.now)) × (result < 65536) }
 {
-    number::<2>(s, at) as usize
+    u16::from_le_bytes([s[at], s[at + 1]]) as usize
 }
 
-// And of four.
+// Of four.
+#[tactic(auto, using(crate::proofs::Laws::Numbers::lowest_first))]
 pub fn u32_at(s: &[u8], at: usize) -> u32
     requires { at + 4 ≤ length s.now }
     ensures { result ≡ little_endian 4 (drop at s.now) }
 {
-    number::<4>(s, at) as u32
+    u32::from_le_bytes([s[at], s[at + 1], s[at + 2], s[at + 3]])
+}
+
+// And of eight.
+#[tactic(auto, using(crate::proofs::Laws::Numbers::lowest_first))]
+pub fn u64_at(s: &[u8], at: usize) -> u64
+    requires { at + 8 ≤ length s.now }
+    ensures { result ≡ little_endian 8 (drop at s.now) }
+{
+    u64::from_le_bytes([
+        s[at],
+        s[at + 1],
+        s[at + 2],
+        s[at + 3],
+        s[at + 4],
+        s[at + 5],
+        s[at + 6],
+        s[at + 7],
+    ])
 }

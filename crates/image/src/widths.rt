@@ -10,6 +10,7 @@ use crate::numbers::read_byte;
 use crate::refusals::Refusal;
 
 // The wire bits of an enum: any byte.
+#[tactic(auto, using(crate::proofs::Laws::Widths::width_none, crate::proofs::Laws::Widths::width_read), unfolding(crate::specs::Widths::wire_bits_at))]
 pub fn read_wire_bits(format: Format, s: &[u8], at: usize) -> Read
     ensures { read_of result ≡ skip (width_at (format_number format) wire_bits_at s.now at) }
 {

@@ -5,9 +5,10 @@ ghost use Rattle.image.specs.WellFormed.{Good};
 ghost use Rattle.parts.specs.declared.Shape.{Shape};
 ghost use Rattle.parts.specs.Promise.{ItemHere, item_end, field_in, encoding_in, limit_place, type_place, coding_of};
 
-use parts::Encoding;
+use image::numbers::u64_at;
 use parts::names::name_end;
 use parts::types::type_end;
+use parts::{Coding, Encoding};
 
 // Whether a field is marked as deprecated.
 #[tactic(auto, using(parts::proofs::Laws::Items::field_parts_lem, parts::proofs::Laws::Fields::marks_there), unfolding(image::specs::Fields::marks_of, parts::specs::Promise::marks_place))]
@@ -40,10 +41,13 @@ pub fn field_encoding(image: &[u8], at: usize) -> Encoding
 {
     let start = name_end(image, at + 4) + 1;
     let n = deltas(image, start);
-    Encoding {
-        deltas: n,
-        base: image[start + n],
-    }
+    let base = match image[start + n] {
+        0 => Coding::Default,
+        1 => Coding::Varint,
+        2 => Coding::Zigzag,
+        _ => unreachable!(),
+    };
+    Encoding { deltas: n, base }
 }
 
 // Where a field's limit stands.
@@ -66,7 +70,7 @@ pub fn field_limit(image: &[u8], at: usize) -> Option<u64>
     if image[place] == 0 {
         return None;
     }
-    Some(image::numbers::number::<8>(image, place + 1))
+    Some(u64_at(image, place + 1))
 }
 
 // Whether an encoding at a place is the default, and no limit follows.

@@ -7,7 +7,7 @@ use Rattle.image.specs.Codes.{number, body_refusal, enum_kind, flags_kind, impl_
 use Rattle.image.specs.Kinds.{kind_of}
 use Rattle.image.specs.Schema.{Name, unmarked, Label, label, Ty, no_type, Field, Variant, Decl, decl, Schema, no_schema}
 use Rattle.image.specs.Formats.{has_widths}
-use Rattle.image.specs.Schema.{Encoding as Coding}
+use Rattle.image.specs.Schema.{Encoding as Encoded}
 use Rattle.image.specs.Parse.{Parsed, bind, little_endian, byte_at, many}
 use Rattle.image.specs.Names.{name_at, names_at}
 use Rattle.image.specs.Types.{label_of, type_of}
@@ -19,6 +19,8 @@ use Rattle.parts.specs.declared.Shape.{Shape}
 use Rattle.parts.specs.declared.Shape.TheVariants as shape
 use Rattle.parts.specs.declared.Run.{Run}
 use Rattle.parts.specs.declared.Encoding.{Encoding}
+use Rattle.parts.specs.declared.Coding.{Coding}
+use Rattle.parts.specs.declared.Coding.TheVariants as coding
 
 -- the image is accepted, and holds this schema
 unfoldable pub Accepted : List ℕ → Type 0
@@ -178,7 +180,7 @@ marks_place s at = name_end s (at + 4)
 unfoldable pub encoding_place : List ℕ → ℕ → ℕ
 encoding_place s at = marks_place s at + 1
 
-unfoldable pub encoding_in : List ℕ → ℕ → Coding
+unfoldable pub encoding_in : List ℕ → ℕ → Encoded
 encoding_in s at = value_or (plain 0) (encoding_at s at)
 
 unfoldable pub limit_place : List ℕ → ℕ → ℕ
@@ -187,9 +189,15 @@ limit_place s at = end_of (encoding_at s (encoding_place s at))
 unfoldable pub type_place : List ℕ → ℕ → ℕ
 type_place s at = end_of (limit_at s (limit_place s at))
 
+-- the code of a coding
+abbrev pub coding_number : Coding → ℕ
+coding_number coding.Default = 0
+coding_number coding.Varint = 1
+coding_number coding.Zigzag = 2
+
 -- the value of the code's answer
-abbrev pub coding_of : Encoding → Coding
-coding_of e = record { deltas = e.deltas; base = e.base }
+abbrev pub coding_of : Encoding → Encoded
+coding_of e = record { deltas = e.deltas; base = coding_number e.base }
 
 -- Declarations, in the image's format.
 unfoldable pub body_at : List ℕ → ℕ → Parsed Decl

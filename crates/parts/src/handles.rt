@@ -4,15 +4,16 @@ ghost use Rattle.std.specs.Prelude.{◌≡◌, ◌<◌, ◌≤◌, ◌-◌, leng
 ghost use Rattle.std.specs.Iterator.{YieldsFirstBy, item_count};
 ghost use Rattle.image.specs.Codes.{number, newtype_kind, sub_byte_tag, semantic_tag, named_tag, fixed_array_tag};
 ghost use Rattle.image.specs.Numbers.{kind_number, tag_number, format_number};
-ghost use Rattle.image.specs.Types.{inner_types};
-ghost use Rattle.parts.specs.Promise.{Accepted, NamesIn, DeclHere, TypeHere, label_end, type_end};
+ghost use Rattle.parts.specs.Promise.{Accepted, NamesIn, DeclHere, TypeHere, label_end};
 ghost use Rattle.parts.specs.Props.{accepted_prop, names_prop, decl_prop, type_prop};
 
-use crate::{Run, decls, entries, names, types};
+use crate::{Run, decls, names, types};
 use image::formats::Format;
 use image::kinds::Kind;
+use image::numbers::u32_at;
 use image::refusals::Refusal;
 use image::tags::Tag;
+use reader::contents::Head;
 
 // An accepted image.
 #[derive(Clone, Copy)]
@@ -48,22 +49,60 @@ pub struct TypeRef<'a> {
 
 impl<'a> Image<'a> {
     ghost use Rattle.parts.specs.Handles.{schema_in, names_of, Reads, Resolves};
+    ghost use Rattle.parts.specs.Promise.{Resolved, BodyOf, segments_in};
 
     // The image that bytes are, or the first refusal.
     pub fn read(bytes: &'a [u8]) -> Result<Image<'a>, Refusal>
         ensures { Reads bytes.now result }
     {
-        match reader::read_image(bytes) {
-            Ok(()) => Ok(Image { bytes }),
-            Err(refusal) => Err(refusal),
-        }
+        reader::read_image(bytes)?;
+        Ok(Image { bytes })
+    }
+
+    // Its head.
+    #[tactic(auto, using(crate::proofs::Laws::Contents::head_there))]
+    fn head(self) -> Head<'a>
+        ensures { result.bytes ≡ self.entry.bytes }
+    {
+        Head { bytes: self.bytes }
     }
 
     // The head's format.
+    #[tactic(auto, using(crate::proofs::Laws::Contents::heads))]
     pub fn format(self) -> Format
         ensures { format_number result ≡ (schema_in self.entry).format }
     {
-        entries::format(self.bytes)
+        Format::of(self.head().format())
+    }
+
+    // How many registry entries there are.
+    #[tactic(auto, using(crate::proofs::Laws::Contents::heads))]
+    pub fn entry_count(self) -> usize
+        ensures { result ≡ length (schema_in self.entry).registry }
+    {
+        self.head().entry_count()
+    }
+
+    // How many declaration ids are listed.
+    #[tactic(auto, using(crate::proofs::Laws::Contents::heads))]
+    pub fn id_count(self) -> usize
+        ensures { result ≡ length (schema_in self.entry).ids }
+    {
+        self.head().id_count()
+    }
+
+    // The namespace's run.
+    #[tactic(auto, using(crate::proofs::Laws::Contents::heads), unfolding(crate::specs::Promise::segments_in, image::specs::Image::segments_at, image::specs::Image::ids_at))]
+    fn segments(self) -> Run
+        ensures { result ≡ segments_in self.entry.bytes.now }
+    {
+        let head = self.head();
+        let n = head.entry_count();
+        let m = head.id_count();
+        Run {
+            start: 8 + 4 * n + 4 * m,
+            count: head.segment_count(),
+        }
     }
 
     // The namespace.
@@ -73,38 +112,55 @@ impl<'a> Image<'a> {
     {
         Names {
             bytes: self.bytes,
-            run: entries::segments(self.bytes),
+            run: self.segments(),
         }
     }
 
-    // How many registry entries there are.
-    pub fn entry_count(self) -> usize
-        ensures { result ≡ length (schema_in self.entry).registry }
-    {
-        entries::entry_count(self.bytes)
-    }
-
-    // How many declaration ids are listed.
-    pub fn id_count(self) -> usize
-        ensures { result ≡ length (schema_in self.entry).ids }
-    {
-        entries::id_count(self.bytes)
-    }
-
     // The k-th declaration id.
+    #[tactic(auto, using(crate::proofs::Laws::Contents::ids))]
     pub fn id_at(self, k: usize) -> u32
         requires { k < length (schema_in self).ids }
         ensures { result ≡ get_or (schema_in self.entry).ids k 0 }
     {
-        entries::id_at(self.bytes, k)
+        let ids = 8 + 4 * self.head().entry_count();
+        u32_at(self.bytes, ids + 4 * k)
+    }
+
+    // The place of the declaration that an id stands for. "An id that is N or more, or whose entry is empty, is unresolvable".
+    #[tactic(auto, using(crate::proofs::Laws::Contents::entries))]
+    fn place(self, id: u32) -> Option<usize>
+        ensures { Resolved self.entry.bytes.now id result }
+    {
+        let i = id as usize;
+        let head = self.head();
+        if head.entry_count() <= i {
+            return None;
+        }
+        if head.entry_length(i) == 0 {
+            return None;
+        }
+        Some(head.entry_offset(i))
     }
 
     // The declaration that an id stands for: an id that is out of the registry, or whose entry is empty, stands for none.
     pub fn entry(self, id: u32) -> Option<Decl<'a>>
         ensures { Resolves self.entry id result }
     {
-        let at = entries::entry(self.bytes, id)?;
+        let at = self.place(id)?;
         Some(Decl { image: self, at })
+    }
+
+    // Where the body of an entry lies; no bytes, if the entry is empty.
+    #[tactic(auto, using(crate::proofs::Laws::Bodies::bodies))]
+    pub fn body(self, id: usize) -> Run
+        requires { id < length (schema_in self).registry }
+        ensures { BodyOf self.entry.bytes.now id result }
+    {
+        let head = self.head();
+        Run {
+            start: head.entry_offset(id),
+            count: head.entry_length(id),
+        }
     }
 }
 

@@ -4,7 +4,6 @@
 #![tactic(auto)]
 
 pub mod decls;
-pub mod entries;
 pub mod handles;
 pub mod names;
 pub mod starts;
@@ -28,9 +27,17 @@ pub struct Run {
     pub count: usize,
 }
 
-// Deltas around a code: 0 default, 1 varint, 2 zigzag.
+// What an encoding without its deltas is, with its code in an image.
+#[derive(Clone, Copy, Debug, PartialEq, Eq)]
+pub enum Coding {
+    Default = 0,
+    Varint = 1,
+    Zigzag = 2,
+}
+
+// Deltas around a coding.
 #[derive(Clone, Copy, Debug, PartialEq, Eq)]
 pub struct Encoding {
     pub deltas: usize,
-    pub base: u8,
+    pub base: Coding,
 }

@@ -7,7 +7,7 @@ ghost use Rattle.parts.specs.Promise.{LabelHere, label_in, label_end, bits_in, T
 
 use crate::Run;
 use crate::names::names_end;
-use image::numbers::u32_at;
+use image::numbers::{u32_at, u64_at};
 use image::tags::Tag;
 
 #[tactic(auto, using(crate::proofs::Laws::Labels::labels))]
@@ -51,7 +51,7 @@ pub fn type_size(image: &[u8], at: usize) -> u64
     requires { LabelHere image.now at × ((label_in image.now at).tag ≡ number fixed_array_tag) }
     ensures { result ≡ (label_in image.now at).first }
 {
-    image::numbers::number::<8>(image, at + 1)
+    u64_at(image, at + 1)
 }
 
 // The names of bits.

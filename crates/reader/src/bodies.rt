@@ -16,6 +16,7 @@ use image::types::read_type_at;
 use image::widths::{read_wire_bits, read_wire_bytes};
 
 // Name, marks, fields.
+#[tactic(auto, using(crate::proofs::Laws::Bodies::messages))]
 fn read_message(s: &[u8], at: usize) -> Read
     ensures { read_of result ≡ skip (message_at s.now at) }
 {
@@ -31,6 +32,7 @@ fn read_message(s: &[u8], at: usize) -> Read
 }
 
 // Name, marks, width, variants without fields.
+#[tactic(auto, using(crate::proofs::Laws::Bodies::enums))]
 fn read_enum(format: Format, s: &[u8], at: usize) -> Read
     ensures { read_of result ≡ skip (enum_at (format_number format) s.now at) }
 {
@@ -50,6 +52,7 @@ fn read_enum(format: Format, s: &[u8], at: usize) -> Read
 }
 
 // Name, width, bits.
+#[tactic(auto, using(crate::proofs::Laws::Bodies::flags))]
 fn read_flags(format: Format, s: &[u8], at: usize) -> Read
     ensures { read_of result ≡ skip (flags_at (format_number format) s.now at) }
 {
@@ -65,6 +68,7 @@ fn read_flags(format: Format, s: &[u8], at: usize) -> Read
 }
 
 // Name, variants with fields.
+#[tactic(auto, using(crate::proofs::Laws::Bodies::unions))]
 fn read_union(s: &[u8], at: usize) -> Read
     ensures { read_of result ≡ skip (union_at s.now at) }
 {
@@ -76,6 +80,7 @@ fn read_union(s: &[u8], at: usize) -> Read
 }
 
 // Name, type.
+#[tactic(auto, using(crate::proofs::Laws::Bodies::newtypes))]
 fn read_newtype(s: &[u8], at: usize) -> Read
     ensures { read_of result ≡ skip (newtype_at s.now at) }
 {
@@ -87,6 +92,7 @@ fn read_newtype(s: &[u8], at: usize) -> Read
 }
 
 // What follows the kind: configs, generic aliases and traits have only a name, impls have nothing.
+#[tactic(auto, using(crate::proofs::Laws::Bodies::decl_named), unfolding(image::specs::Kinds::kind_of, image::specs::Bodies::decl_at, image::specs::Bodies::impl_at, image::specs::Reads::read_of, image::specs::Reads::skip))]
 fn read_decl(format: Format, kind: Kind, s: &[u8], at: usize) -> Read
     ensures { read_of result ≡ skip (decl_at (format_number format) (kind_of (kind_number kind)) s.now at) }
 {

@@ -1,7 +1,16 @@
 -- A writer after text. Assumes nothing.
 use Rattle.std.specs.Prelude.{◌≡◌, List, [], ◌∷◌, ℕ, ◌+◌, ◌-◌, ◌^◌, min, length, take, slice_set}
+use denote.Ref.{MutBor}
 use Rattle.text.specs.Text.{put}
 use Rattle.text.specs.declared.Writer.{Writer}
+
+-- the buffer that it was lent: which it is, and what it holds
+abbrev pub buffer_of : Writer → MutBor (List ℕ)
+buffer_of w = w.out
+
+-- the writer of a buffer, from a place on
+abbrev pub writer_at : MutBor (List ℕ) → ℕ → Writer
+writer_at buffer at = record { out = buffer; at = at }
 
 -- after one byte: it stands in its place if the buffer reaches there, and is counted
 abbrev pub after_byte : Writer → ℕ → Writer

@@ -2,45 +2,19 @@
 #![tactic(auto)]
 
 ghost use Rattle.std.specs.Prelude.{◌≡◌, [], ◌∷◌, ◌+◌, ◌≤◌, length};
-ghost use Rattle.text.specs.Decimal.{decimal, Spelled};
+ghost use Rattle.text.specs.Decimal.{decimal};
 ghost use Rattle.text.specs.Text.{put};
-ghost use Rattle.text.specs.Writers.{Adds};
+ghost use Rattle.text.specs.Writers.{Adds, buffer_of};
 
-// The digits of a number, from a place to the end.
-#[derive(Clone, Copy)]
-struct Digits {
-    bytes: [u8; 20],
-    from: usize,
-}
+use itoa::write_digits;
 
 // Text into its place.
 fn copy(out: &mut [u8], at: usize, s: &[u8])
     requires { at + length s.now ≤ length out.old }
     ensures { out.new ≡ put out.old at s.now }
 {
-    for j in 0..s.len() {
-        out[at + j] = s[j];
-    }
-}
-
-// A number in decimal.
-fn spelled(n: u64) -> Digits
-    ensures { Spelled n result.bytes result.from }
-{
-    let mut bytes = [0u8; 20];
-    let mut i: usize = 20;
-    let mut left = n;
-    while 10 <= left {
-        i -= 1;
-        bytes[i] = 48 + (left % 10) as u8;
-        left = left / 10;
-    }
-    i -= 1;
-    bytes[i] = 48 + left as u8;
-    Digits {
-        bytes: bytes,
-        from: i,
-    }
+    let end = at + s.len();
+    out[at..end].copy_from_slice(s);
 }
 
 // Text after text into a buffer, as far as the buffer reaches: what is past its end is only counted, so that an empty buffer measures.
@@ -54,8 +28,8 @@ pub struct Writer<'a> {
 impl Writer<'_> {
     // From the start of a buffer.
     pub fn new(out: &mut [u8]) -> Writer<'_>
-        ensures same_reference { result.out.ghost_name ≡ out.entry.ghost_name }
-        ensures bytes { result.out.now ≡ out.old }
+        ensures same_reference { (buffer_of result).ghost_name ≡ out.entry.ghost_name }
+        ensures bytes { (buffer_of result).now ≡ out.old }
         ensures start { result.at ≡ 0 }
     {
         Writer { out, at: 0 }
@@ -86,12 +60,12 @@ impl Writer<'_> {
     }
 
     // A number in decimal after the text so far.
+    #[tactic(auto, using(crate::proofs::Numbers::showing))]
     pub fn number(&mut self, n: u64)
         ensures { Adds self.old (decimal n) self.new }
     {
-        let d = spelled(n);
-        let from = d.from;
-        let bytes = d.bytes;
+        let mut bytes = [0u8; 20];
+        let from = write_digits(n, &mut bytes, 20);
         self.text(&bytes[from..]);
     }
 }

@@ -14,7 +14,7 @@ use Rattle.image.specs.declared.tags.Tag.TheVariants as tag
 use Rattle.parts.specs.Codes.{number, sub_byte_tag, named_tag}
 use Rattle.parts.specs.Handles.{decl_of, Resolves, TypeAt}
 use Rattle.parts.specs.Numbers.{tag_number}
-use Rattle.parts.specs.Promise.{label_in, label_end, type_end, coding_of}
+use Rattle.parts.specs.Promise.{label_in, label_end, type_end, coding_number, coding_of}
 use Rattle.parts.specs.declared.handles.Image.{Image}
 use Rattle.parts.specs.declared.handles.Decl.{Decl}
 use Rattle.parts.specs.declared.handles.TypeRef.{TypeRef}
@@ -132,7 +132,7 @@ deltas_around_lem (suc n) text =
     ∙ ap (λ (l : List ℕ). d ++ (repeated n d ++ l)) (append_assoc text (repeated n c) c ∙ ap (λ (l : List ℕ). text ++ l) (repeated_last n c))
     ∙ sym (append_assoc d (repeated n d) (text ++ (c ++ repeated n c)))
 
-pub encoding_text : (e : Encoding) → repeated e.deltas (bytes "delta(") ++ (word ("default" ∷ "varint" ∷ "zigzag" ∷ []) e.base ++ repeated e.deltas (bytes ")")) ≡ show_encoding (coding_of e)
+pub encoding_text : (e : Encoding) → repeated e.deltas (bytes "delta(") ++ (word ("default" ∷ "varint" ∷ "zigzag" ∷ []) (coding_number e.base) ++ repeated e.deltas (bytes ")")) ≡ show_encoding (coding_of e)
 unfolding show_encoding
 encoding_text e = sym (deltas_around_lem e.deltas _)
 

@@ -68,3 +68,6 @@ module _ (s : List ℕ) (i e : ℕ) {b : Bool} (h : i < e) (l : e ≤ length s) 
   pub bytes_next : b ≡ true → name_bytes (part i (e - i) s) ≡ name_bytes (part (i + 1) (e - (i + 1)) s)
   unfolding name_bytes
   bytes_next t = rw (part_cons i e s h l, ← q, t)
+
+-- what the code needs
+pub ruleset naming = (name_past, name_long, name_bad, name_good, bytes_first, bytes_bad, bytes_next, bytes_done)

@@ -2,9 +2,8 @@
 use mathlib.Core.Path.{◌≡◌, refl, ap, ◌∙◌}
 use mathlib.Core.Bool.{and-false}
 use mathlib.Core.List.{List}
-use Prim.Native.Nat.{ℕ, suc, ◌+◌, ◌-◌, ◌*◌, ◌^◌, ◌≤◌, ◌<◌}
+use Prim.Native.Nat.{ℕ, suc, ◌+◌, ◌*◌, ◌≤◌, ◌<◌}
 use native.Mathlib.Omega.{arith}
-use native.Mathlib.Nat.{pow-suc, pow-le-pow_right}
 use borrow.Author.Tests.{le-leb, lt-leb, lt-ltb, le-ltb}
 use lib.ListN.{length, get_or, drop}
 use lib.Seq.{drop-drop, get_or-drop}
@@ -90,42 +89,42 @@ module _ (w : ℕ) (s : List ℕ) (at : ℕ) where
 -- what the tests of a read of a byte, a code or a number say of it
 pub ruleset told = (byte_past, byte_at_lem, code_past, code_low, code_high, code_at_lem, number_short, number_at_lem)
 
--- the next byte in front
-le_front : (s : List ℕ) (i k : ℕ) → little_endian (suc k) (drop i s) ≡ little_endian k (drop (i + 1) s) * 256 + get_or s i 0
+-- the number of the bytes from a place on: its lowest byte, and those after it
+next_byte : (s : List ℕ) (k i j : ℕ) → j ≡ i + 1 → little_endian (suc k) (drop i s) ≡ get_or s i 0 + little_endian k (drop j s) * 256
 unfolding little_endian
-le_front s i k =
+next_byte s k i j e =
     let z : i + 0 ≡ i = omega arith in
-    rw (drop-drop 1 i s, get_or-drop i s 0 0, z) (omega arith)
+    rw (e, drop-drop 1 i s, get_or-drop i s 0 0, z) (omega arith)
 
--- the number of the bytes from i to e: none; one more in front; all
-pub number_none : (xs : List ℕ) → 0 ≡ little_endian 0 xs
+no_byte : (s : List ℕ) (i : ℕ) → little_endian 0 (drop i s) ≡ 0
 unfolding little_endian
-number_none xs = refl
+no_byte s i = refl
 
--- the last i of the w bytes from a place on, and the one before them
-pub number_more : (s : List ℕ) (at w i v : ℕ) → i < w → v ≡ little_endian i (drop (at + w - i) s)
-    → v * 256 + get_or s (at + (w - 1 - i)) 0 ≡ little_endian (i + 1) (drop (at + w - (i + 1)) s)
-number_more s at w i v l h =
-    let k : i + 1 ≡ suc i = omega arith in
-    let j : at + w - (i + 1) ≡ at + (w - 1 - i) = omega arith in
-    let n : at + (w - 1 - i) + 1 ≡ at + w - i = omega arith in
-    rw (j, k, le_front s (at + (w - 1 - i)) i, n, h)
+module _ (s : List ℕ) (at : ℕ) where
+  pub two_bytes : get_or s at 0 + get_or s (at + 1) 0 * 256 ≡ little_endian 2 (drop at s)
+  two_bytes = omega (arith, next_byte s 1 at (at + 1) refl, next_byte s 0 (at + 1) (at + 2) (omega arith), no_byte s (at + 2))
 
-pub number_all : (s : List ℕ) (at w i : ℕ) → i ≡ w → little_endian i (drop (at + w - i) s) ≡ little_endian w (drop at s)
-number_all s at w i h =
-    let k : at + w - w ≡ at = omega arith in
-    rw (h, k)
+  pub four_bytes : get_or s at 0 + get_or s (at + 1) 0 * 256 + get_or s (at + 2) 0 * 65536 + get_or s (at + 3) 0 * 16777216 ≡ little_endian 4 (drop at s)
+  four_bytes =
+      omega (arith, next_byte s 3 at (at + 1) refl, next_byte s 2 (at + 1) (at + 2) (omega arith), next_byte s 1 (at + 2) (at + 3) (omega arith), next_byte s 0 (at + 3) (at + 4) (omega arith), no_byte s (at + 4))
 
--- and how large it can be
-pub below_more : (i v b : ℕ) → v < 256 ^ i → b < 256 → v * 256 + b < 256 ^ (i + 1)
-below_more i v b h g =
-    let k : i + 1 ≡ suc i = omega arith in
-    rw (k, pow-suc 256 i) (omega arith)
+  pub eight_bytes : get_or s at 0 + get_or s (at + 1) 0 * 256 + get_or s (at + 2) 0 * 65536 + get_or s (at + 3) 0 * 16777216
+      + get_or s (at + 4) 0 * 4294967296 + get_or s (at + 5) 0 * 1099511627776 + get_or s (at + 6) 0 * 281474976710656 + get_or s (at + 7) 0 * 72057594037927936
+      ≡ little_endian 8 (drop at s)
+  eight_bytes =
+      omega (
+        arith,
+        four_bytes,
+        next_byte s 7 at (at + 1) refl,
+        next_byte s 6 (at + 1) (at + 2) (omega arith),
+        next_byte s 5 (at + 2) (at + 3) (omega arith),
+        next_byte s 4 (at + 3) (at + 4) (omega arith),
+        next_byte s 3 (at + 4) (at + 5) (omega arith),
+        next_byte s 2 (at + 5) (at + 6) (omega arith),
+        next_byte s 1 (at + 6) (at + 7) (omega arith),
+        next_byte s 0 (at + 7) (at + 8) (omega arith),
+        no_byte s (at + 8),
+      )
 
-pub below_all : (w i v : ℕ) → i ≡ w → v < 256 ^ i → v < 256 ^ w
-below_all w i v h l = rw h at l
-
-pub below_seven : (k v : ℕ) → k ≤ 7 → v < 256 ^ k → v < 72057594037927936
-below_seven k v h l =
-    let z : 256 ^ k ≤ 256 ^ 7 = pow-le-pow_right (omega arith) h in
-    omega arith
+-- what the code needs
+pub ruleset lowest_first = (two_bytes, four_bytes, eight_bytes)

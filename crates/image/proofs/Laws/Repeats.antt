@@ -104,3 +104,6 @@ pub ids_length : (count : ℕ) (s : List ℕ) (at : ℕ) → length (ids_from co
 unfolding ids_from
 ids_length zero s at = refl
 ids_length (suc count) s at = ap suc (ids_length count s (at + 4))
+
+-- what the code needs
+pub ruleset rests = (rest_start, rest_more, rest_stop, rest_none)

@@ -14,7 +14,7 @@ use Rattle.image.specs.Fields.{plain, delta, encoding_of, encoding_at, limit_at}
 use Rattle.image.specs.WellFormed.{Good, value_or, end_of}
 use Rattle.image.proofs.Laws.Sure.{Sure, sure_ok, sure_no, sure_bind, sure_pick, Byte, Coded, code_sure}
 use Rattle.image.proofs.Laws.Good.{sure_good, good_first}
-use Rattle.parts.specs.Promise.{name_end, ItemHere, field_in, marks_place, encoding_place, encoding_in, limit_place, type_place, coding_of}
+use Rattle.parts.specs.Promise.{name_end, ItemHere, field_in, marks_place, encoding_place, encoding_in, limit_place, type_place}
 use Rattle.parts.specs.declared.Shape.TheVariants as shape
 use Rattle.parts.proofs.Laws.Steps.{then_is, code_is, number_is}
 use Rattle.parts.proofs.Laws.Items.{field_parts_lem}
@@ -144,11 +144,18 @@ module _ (s : List ℕ) (at : ℕ) (g : ItemHere shape.Field s at) where
           let h = (encoding_stands s (e + 1) encoding_good).next in
           ap (λ (k : ℕ). e + 1 + k + 1) d ∙ sym h ∙ ap (λ (k : ℕ). end_of (encoding_at s (k + 1))) q
 
-      pub coded : coding_of (record { deltas = n; base = get_or s (e + 1 + n) 0 }) ≡ (field_in s at).encoding
+      pub base_low : get_or s (e + 1 + n) 0 ≤ 2
+      base_low =
+          let h = encoding_stands s (e + 1) encoding_good in
+          let b : (encoding_in s (e + 1)).base ≡ get_or s (e + 1 + n) 0 = h.base ∙ ap (λ (k : ℕ). get_or s (e + 1 + k) 0) (sym d) in
+          let low = h.low in
+          omega arith
+
+      pub coded : (b : ℕ) → get_or s (e + 1 + n) 0 ≡ b → ◌≡◌ {A = Encoding} (record { deltas = n; base = b }) (field_in s at).encoding
       unfolding coding encoding_in encoding_place marks_place
-      coded =
+      coded b k =
           let h = (encoding_stands s (e + 1) encoding_good).base in
-          ap₂ coding d (ap (λ (k : ℕ). get_or s (e + 1 + k) 0) d ∙ sym h) ∙ ap (λ (k : ℕ). encoding_in s (k + 1)) q ∙ sym (ap (λ (f : Field). f.encoding) (field_parts_lem s at g).value)
+          ap₂ coding d (sym k ∙ ap (λ (k : ℕ). get_or s (e + 1 + k) 0) d ∙ sym h) ∙ ap (λ (k : ℕ). encoding_in s (k + 1)) q ∙ sym (ap (λ (f : Field). f.encoding) (field_parts_lem s at g).value)
 
   -- a default encoding and no limit
   module _ {e : ℕ} (q : e ≡ name_end s (at + 4)) where
@@ -214,7 +221,7 @@ module _ (s : List ℕ) (at : ℕ) (g : ItemHere shape.Field s at) where
 -- what the code needs
 pub ruleset counting = (delta_there, delta_more, delta_done)
 
-pub ruleset encodings = (field_parts_lem, encoding_good, marks_there, base_there, limit_at_lem, coded)
+pub ruleset encodings = (field_parts_lem, encoding_good, marks_there, base_there, base_low, limit_at_lem, coded)
 
 pub ruleset limits = (place_there, unlimited, number_there, limited, type_after)
 

@@ -7,13 +7,14 @@ use native.Mathlib.Omega.{arith}
 use borrow.Author.Tests.{eq-eqb, ne_eqb}
 use lib.ListN.{length, get_or}
 use lib.Dec.{eqb}
-use Rattle.std.specs.Prelude.{Option}
-use Rattle.image.specs.Schema.{Name, Marks, Decl}
-use Rattle.image.specs.Parse.{Parsed, ok, no, bind, pick, byte_at}
+use Rattle.image.specs.Schema.{Decl}
+use Rattle.image.specs.Parse.{Parsed, ok, no, pick, byte_at, counted}
 use Rattle.image.specs.Names.{name_at}
-use Rattle.image.specs.Fields.{marks_at}
+use Rattle.image.specs.Fields.{marks_at, field_at, bare_at, variant_at}
+use Rattle.image.specs.Types.{type_at}
+use Rattle.image.specs.Widths.{wire_bits_at, wire_bytes_at, width_at}
 use Rattle.image.specs.Kinds.{kind_of}
-use Rattle.image.specs.Bodies.{other_at, decl_at, body_of}
+use Rattle.image.specs.Bodies.{message_at, enum_at, flags_at, union_at, newtype_at, other_at, decl_at, body_of}
 use Rattle.std.specs.Prelude.{Ok, Err, ⊤}
 use Rattle.image.specs.Reads.{Read, read_of, skip}
 use Rattle.image.specs.Numbers.{kind_number}
@@ -24,42 +25,85 @@ use Rattle.image.specs.declared.refusals.Refusal.TheVariants as refusal
 use Rattle.image.proofs.Laws.Answers.{got, next, next_is, stop, skip_ok}
 use Rattle.image.proofs.Laws.Numbers.{There}
 
--- a name and what a parser reads after it: the name refused, or the rest's answer
-module _ {A : Type 0} (p : List ℕ → ℕ → Parsed A) (f : Name → A → Decl) (s : List ℕ) (at : ℕ) where
-  abbrev named : Parsed Decl
-  named = bind (name_at 8 s at) (λ x n. bind (p s n) (λ a m. ok (f x a) m))
+-- a message: its name refused, its marks refused, or its fields' answer
+module _ (s : List ℕ) (at : ℕ) where
+  pub message_name : {x : Read} {k : Refusal} → x ≡ Err k → read_of x ≡ skip (name_at 8 s at) → read_of x ≡ skip (message_at s at)
+  unfolding message_at
+  message_name h e = stop _ _ h e
 
-  pub named_stop : {x : Read} {k : Refusal} → x ≡ Err k → read_of x ≡ skip (name_at 8 s at) → read_of x ≡ skip named
-  named_stop h e = stop _ _ h e
+  module _ {x : Read} {n : ℕ} (h : x ≡ Ok n) (e : read_of x ≡ skip (name_at 8 s at)) where
+    pub message_marks : {y : Read} {k : Refusal} → y ≡ Err k → read_of y ≡ skip (marks_at s n) → read_of y ≡ skip (message_at s at)
+    unfolding message_at
+    message_marks i f = next _ (got h e) (λ _. stop _ _ i f)
 
-  pub named_rest : {x : Read} {r : Parsed ⊤} {n : ℕ} → x ≡ Ok n → read_of x ≡ skip (name_at 8 s at) → r ≡ skip (p s n) → r ≡ skip named
-  named_rest {n = n} h e q = next _ (got h e) (λ _. q ∙ sym (skip_ok (p s n) _))
+    pub message_fields : {y : Read} {m : ℕ} {r : Parsed ⊤} → y ≡ Ok m → read_of y ≡ skip (marks_at s n) → r ≡ skip (counted field_at s m) → r ≡ skip (message_at s at)
+    unfolding message_at
+    message_fields i f q = next _ (got h e) (λ _. next _ (got i f) (λ _. q ∙ sym (skip_ok _ _)))
 
--- the same with marks between them: the name refused, the marks refused, or the rest's answer
-module _ {A : Type 0} (p : List ℕ → ℕ → Parsed A) (f : Name → Marks → A → Decl) (s : List ℕ) (at : ℕ) where
-  abbrev marked : Parsed Decl
-  marked = bind (name_at 8 s at) (λ x n₁. bind (marks_at s n₁) (λ m n₂. bind (p s n₂) (λ a n₃. ok (f x m a) n₃)))
+pub ruleset messages = (message_fields, message_marks, message_name)
 
-  pub marked_stop : {x : Read} {k : Refusal} → x ≡ Err k → read_of x ≡ skip (name_at 8 s at) → read_of x ≡ skip marked
-  marked_stop h e = stop _ _ h e
+-- an enum: its name, its marks or its width refused, or its variants' answer
+module _ (format : ℕ) (s : List ℕ) (at : ℕ) where
+  pub enum_name : {x : Read} {k : Refusal} → x ≡ Err k → read_of x ≡ skip (name_at 8 s at) → read_of x ≡ skip (enum_at format s at)
+  unfolding enum_at
+  enum_name h e = stop _ _ h e
 
-  module _ {x₁ : Read} {n₁ : ℕ} (h₁ : x₁ ≡ Ok n₁) (e₁ : read_of x₁ ≡ skip (name_at 8 s at)) where
-    pub marked_marks : {x : Read} {k : Refusal} → x ≡ Err k → read_of x ≡ skip (marks_at s n₁) → read_of x ≡ skip marked
-    marked_marks h e = next _ (got h₁ e₁) (λ _. stop _ _ h e)
+  module _ {x : Read} {n : ℕ} (h : x ≡ Ok n) (e : read_of x ≡ skip (name_at 8 s at)) where
+    pub enum_marks : {y : Read} {k : Refusal} → y ≡ Err k → read_of y ≡ skip (marks_at s n) → read_of y ≡ skip (enum_at format s at)
+    unfolding enum_at
+    enum_marks i f = next _ (got h e) (λ _. stop _ _ i f)
 
-    pub marked_rest : {x : Read} {r : Parsed ⊤} {n : ℕ} → x ≡ Ok n → read_of x ≡ skip (marks_at s n₁) → r ≡ skip (p s n) → r ≡ skip marked
-    marked_rest {n = n} h e q = next _ (got h₁ e₁) (λ _. next _ (got h e) (λ _. q ∙ sym (skip_ok (p s n) _)))
+    module _ {y : Read} {m : ℕ} (i : y ≡ Ok m) (f : read_of y ≡ skip (marks_at s n)) where
+      pub enum_width : {z : Read} {k : Refusal} → z ≡ Err k → read_of z ≡ skip (width_at format wire_bits_at s m) → read_of z ≡ skip (enum_at format s at)
+      unfolding enum_at
+      enum_width j g = next _ (got h e) (λ _. next _ (got i f) (λ _. stop _ _ j g))
 
--- a width, and what a parser reads after it: the width refused, or the rest's answer
-module _ {A : Type 0} (p : List ℕ → ℕ → Parsed A) (f : Option ℕ → A → Decl) (s : List ℕ) (q : Parsed (Option ℕ)) where
-  abbrev sized : Parsed Decl
-  sized = bind q (λ w n. bind (p s n) (λ a m. ok (f w a) m))
+      pub enum_variants : {z : Read} {l : ℕ} {r : Parsed ⊤} → z ≡ Ok l → read_of z ≡ skip (width_at format wire_bits_at s m) → r ≡ skip (counted bare_at s l)
+          → r ≡ skip (enum_at format s at)
+      unfolding enum_at
+      enum_variants j g q = next _ (got h e) (λ _. next _ (got i f) (λ _. next _ (got j g) (λ _. q ∙ sym (skip_ok _ _))))
 
-  pub sized_stop : {x : Read} {k : Refusal} → x ≡ Err k → read_of x ≡ skip q → read_of x ≡ skip sized
-  sized_stop h e = stop _ _ h e
+pub ruleset enums = (enum_variants, enum_width, enum_marks, enum_name)
 
-  pub sized_rest : {x : Read} {r : Parsed ⊤} {n : ℕ} → x ≡ Ok n → read_of x ≡ skip q → r ≡ skip (p s n) → r ≡ skip sized
-  sized_rest {n = n} h e r = next _ (got h e) (λ _. r ∙ sym (skip_ok (p s n) _))
+-- flags: their name or their width refused, or their bits' answer
+module _ (format : ℕ) (s : List ℕ) (at : ℕ) where
+  pub flags_name : {x : Read} {k : Refusal} → x ≡ Err k → read_of x ≡ skip (name_at 8 s at) → read_of x ≡ skip (flags_at format s at)
+  unfolding flags_at
+  flags_name h e = stop _ _ h e
+
+  module _ {x : Read} {n : ℕ} (h : x ≡ Ok n) (e : read_of x ≡ skip (name_at 8 s at)) where
+    pub flags_width : {y : Read} {k : Refusal} → y ≡ Err k → read_of y ≡ skip (width_at format wire_bytes_at s n) → read_of y ≡ skip (flags_at format s at)
+    unfolding flags_at
+    flags_width i f = next _ (got h e) (λ _. stop _ _ i f)
+
+    pub flags_bits : {y : Read} {m : ℕ} {r : Parsed ⊤} → y ≡ Ok m → read_of y ≡ skip (width_at format wire_bytes_at s n) → r ≡ skip (counted bare_at s m)
+        → r ≡ skip (flags_at format s at)
+    unfolding flags_at
+    flags_bits i f q = next _ (got h e) (λ _. next _ (got i f) (λ _. q ∙ sym (skip_ok _ _)))
+
+pub ruleset flags = (flags_bits, flags_width, flags_name)
+
+-- a union and a newtype: the name refused, or the answer of the variants or the type
+module _ (s : List ℕ) (at : ℕ) {x : Read} where
+  pub union_name : {k : Refusal} → x ≡ Err k → read_of x ≡ skip (name_at 8 s at) → read_of x ≡ skip (union_at s at)
+  unfolding union_at
+  union_name h e = stop _ _ h e
+
+  pub union_variants : {n : ℕ} {r : Parsed ⊤} → x ≡ Ok n → read_of x ≡ skip (name_at 8 s at) → r ≡ skip (counted variant_at s n) → r ≡ skip (union_at s at)
+  unfolding union_at
+  union_variants h e q = next _ (got h e) (λ _. q ∙ sym (skip_ok _ _))
+
+  pub newtype_name : {k : Refusal} → x ≡ Err k → read_of x ≡ skip (name_at 8 s at) → read_of x ≡ skip (newtype_at s at)
+  unfolding newtype_at
+  newtype_name h e = stop _ _ h e
+
+  pub newtype_type : {n : ℕ} {r : Parsed ⊤} → x ≡ Ok n → read_of x ≡ skip (name_at 8 s at) → r ≡ skip (type_at s n) → r ≡ skip (newtype_at s at)
+  unfolding newtype_at
+  newtype_type h e q = next _ (got h e) (λ _. q ∙ sym (skip_ok _ _))
+
+pub ruleset unions = (union_name, union_variants)
+
+pub ruleset newtypes = (newtype_name, newtype_type)
 
 -- configs, generic aliases and traits have only a name
 pub decl_named : (f : ℕ) (s : List ℕ) (at : ℕ) {k : Kind} → (k ≡ kind.Config) ⊎ ((k ≡ kind.Alias) ⊎ (k ≡ kind.Trait))

@@ -8,6 +8,7 @@ use native.Mathlib.Nat.{add-sub_cancel_left}
 use borrow.Author.Tests.{eq-eqb, ne_eqb, le-leb, lt-leb, eqb-true, leb-true}
 use lib.ListN.{length, take, drop}
 use lib.Dec.{eqb, leb}
+use Rattle.std.proofs.lemmas.Result.{err_from_is_err_and}
 use Rattle.image.specs.Parse.{Parsed, ok, no, part, pick}
 use Rattle.image.specs.Names.{names_at}
 use Rattle.image.specs.Bodies.{body_of}
@@ -258,3 +259,12 @@ module _ (s : List ℕ) where
             next _ (got h₂ e₂) (λ _.
             next _ (got h₃ (names_as e₃)) (λ _.
             pick_true _ _ _ (rw em at l) ((rw em at q) ∙ sym (skip_ok _ _)))))
+
+-- what the code needs
+pub ruleset heads = (err_from_is_err_and, head_long, head_short, head_format, crowded_entries, crowded_ids, crowded_segments, head_good)
+
+pub ruleset tables = (tables_short, tables_there)
+
+pub ruleset layouts = (laid_start, laid_done, laid_empty, laid_nowhere, laid_gap, laid_past, laid_next)
+
+pub ruleset entries = (entry_empty, entry_body)

@@ -1,10 +1,18 @@
--- The text is that of the words, as antt computes.
+-- By cases.
 use Rattle.std.proofs.Common.{refl}
 use Rattle.image.specs.Words.{bytes}
+use Rattle.rules.specs.Text.{word}
 use Rattle.text.proofs.Writers.{adds_as}
-use Rattle.display.proofs.Laws.Words.{words_are, table, whole, whole_words}
 use Rattle.display.proofs.words.put_coding.Goals as goal
 
-pub returns : goal.returns
-unfolding bytes table whole whole_words
-returns c = adds_as (words_are _ _ refl refl _) c.put_word.ensures
+pub returns-in-Default : goal.returns-in-Default
+unfolding bytes word
+returns-in-Default c = adds_as (rw c.in-Default.is refl) c.text.ensures
+
+pub returns-in-Varint : goal.returns-in-Varint
+unfolding bytes word
+returns-in-Varint c = adds_as (rw c.in-Varint.is refl) c.text-in-Varint.ensures
+
+pub returns-in-Zigzag : goal.returns-in-Zigzag
+unfolding bytes word
+returns-in-Zigzag c = adds_as (rw c.in-Zigzag.is refl) c.text-in-Zigzag.ensures

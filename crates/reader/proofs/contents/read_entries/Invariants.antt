@@ -6,4 +6,4 @@ use Rattle.image.specs.Reads.{skip}
 use Rattle.reader.proofs.contents.read_entries.Given as goal
 
 abbrev pub invariant-loop-i : goal.invariant-loop-i
-invariant-loop-i l = skip (entries_of (format_number l.format) (l.n - l.i) l.s l.i) ≡ skip (entries_of (format_number l.format) l.n l.s 0)
+invariant-loop-i l = skip (entries_of (format_number l.format) (l.n - l.i) l.head.bytes.now l.i) ≡ skip (entries_of (format_number l.format) l.n l.head.bytes.now 0)

@@ -1,9 +1,0 @@
-use Rattle.std.proofs.Common.{arith}
-use Rattle.parts.proofs.Laws.Bodies.{entry_pair}
-use Rattle.parts.proofs.entries.body.Goals as goal
-
-pub entry_offset-requires : goal.entry_offset-requires
-entry_offset-requires c = let t = entry_pair _ c.requires.0 _ c.requires.1 in omega arith
-
-pub entry_length-requires : goal.entry_length-requires
-entry_length-requires c = let t = entry_pair _ c.requires.0 _ c.requires.1 in omega arith
