@@ -1,14 +1,12 @@
-// The items of declarations, as values that know what they are: a run of items, an item; and a declaration of a kind, with what it holds.
-ghost use Rattle.std.specs.Prelude.{◌≡◌, ◌+◌};
-ghost use Rattle.image.specs.Codes.{number};
+// The items of declarations, as values that know what they are: a run of items, an item, a field, a union's variant.
+ghost use Rattle.std.specs.Prelude.{◌≡◌};
 ghost use Rattle.parts.specs.declared.Shape.{Shape};
-ghost use Rattle.parts.specs.Promise.{ItemsHere, ItemHere, items_in, variant_items, ordinal_in, item_name, item_end, field_in, coding_of};
+ghost use Rattle.parts.specs.Promise.{ItemsHere, ItemHere, variant_items, ordinal_in, item_name, item_end, coding_of};
 ghost use Rattle.parts.specs.Handles.{tree_of};
 ghost use Rattle.members.specs.Props.{items_prop, item_prop};
 
 use crate::{fields, items};
-use parts::handles::{Decl, Image, TypeRef};
-use parts::kinds::Kind;
+use parts::handles::{Image, TypeRef};
 use parts::{Encoding, Run, Shape};
 
 // So many items of a shape in an image, one after the other.
@@ -27,6 +25,38 @@ pub struct Item<'a> {
     pub shape: Shape,
     pub at: usize,
     pub ghost here: { ItemHere shape image.bytes.now at } by { item_prop shape image.bytes.now at },
+}
+
+// It gives the items in turn.
+impl<'a> Iterator for Items<'a> {
+    type Item = Item<'a>;
+
+    ghost use Rattle.std.specs.Iterator.{at_most};
+    ghost use Rattle.members.specs.Handles.{Steps};
+
+    ghost next_gives = { Steps };
+
+    ghost remaining = { λ items. at_most items.run.count };
+
+    #[tactic(auto, using(crate::proofs::Runs::stepping))]
+    fn next(&mut self) -> Option<Item<'a>> {
+        if self.run.count == 0 {
+            return None;
+        }
+        let image = self.image;
+        let shape = self.shape;
+        let item = Item {
+            image,
+            shape,
+            at: self.run.start,
+        };
+        let run = Run {
+            start: item.end(),
+            count: self.run.count - 1,
+        };
+        *self = Items { image, shape, run };
+        Some(item)
+    }
 }
 
 impl<'a> Item<'a> {

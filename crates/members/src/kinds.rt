@@ -4,7 +4,7 @@ ghost use Rattle.image.specs.Codes.{number, message_kind, enum_kind, flags_kind,
 ghost use Rattle.parts.specs.declared.Shape.{Shape};
 ghost use Rattle.parts.specs.Promise.{items_in};
 ghost use Rattle.parts.specs.Handles.{decl_of, tree_of};
-ghost use Rattle.members.specs.Handles.{ItemsAt};
+ghost use Rattle.members.specs.Handles.{ItemsAt, HoldsItems};
 
 use crate::handles::Items;
 use crate::items::decl_items;
@@ -42,59 +42,56 @@ pub struct Newtype<'a> {
     pub ghost is: { (decl_of decl).kind ≡ number newtype_kind },
 }
 
+// The items of a declaration that holds items of a shape.
+#[tactic(auto, using(crate::proofs::Runs::held))]
+fn items_of<'a>(decl: Decl<'a>, shape: Shape) -> Items<'a>
+    requires { HoldsItems shape decl }
+    ensures { ItemsAt decl.entry.image shape (items_in decl.entry.image.bytes.now decl.entry.at) result }
+{
+    Items {
+        image: decl.image,
+        shape,
+        run: decl_items(decl.image.bytes, decl.at),
+    }
+}
+
 impl<'a> Message<'a> {
-    #[tactic(auto, using(crate::proofs::Runs::message_fields))]
+    #[tactic(auto, using(crate::proofs::Runs::message_holds))]
     pub fn fields(self) -> Items<'a>
         ensures { ItemsAt self.entry.decl.image Shape.Field (items_in self.entry.decl.image.bytes.now self.entry.decl.at) result }
     {
         let message = self.decl;
-        Items {
-            image: message.image,
-            shape: Shape::Field,
-            run: decl_items(message.image.bytes, message.at),
-        }
+        items_of(message, Shape::Field)
     }
 }
 
 impl<'a> Enum<'a> {
-    #[tactic(auto, using(crate::proofs::Runs::enum_variants))]
+    #[tactic(auto, using(crate::proofs::Runs::enum_holds))]
     pub fn variants(self) -> Items<'a>
         ensures { ItemsAt self.entry.decl.image Shape.Bare (items_in self.entry.decl.image.bytes.now self.entry.decl.at) result }
     {
         let enumeration = self.decl;
-        Items {
-            image: enumeration.image,
-            shape: Shape::Bare,
-            run: decl_items(enumeration.image.bytes, enumeration.at),
-        }
+        items_of(enumeration, Shape::Bare)
     }
 }
 
 impl<'a> Flags<'a> {
-    #[tactic(auto, using(crate::proofs::Runs::flags_bits))]
+    #[tactic(auto, using(crate::proofs::Runs::flags_hold))]
     pub fn bits(self) -> Items<'a>
         ensures { ItemsAt self.entry.decl.image Shape.Bare (items_in self.entry.decl.image.bytes.now self.entry.decl.at) result }
     {
         let flags = self.decl;
-        Items {
-            image: flags.image,
-            shape: Shape::Bare,
-            run: decl_items(flags.image.bytes, flags.at),
-        }
+        items_of(flags, Shape::Bare)
     }
 }
 
 impl<'a> Union<'a> {
-    #[tactic(auto, using(crate::proofs::Runs::union_variants))]
+    #[tactic(auto, using(crate::proofs::Runs::union_holds))]
     pub fn variants(self) -> Items<'a>
         ensures { ItemsAt self.entry.decl.image Shape.Variant (items_in self.entry.decl.image.bytes.now self.entry.decl.at) result }
     {
         let union = self.decl;
-        Items {
-            image: union.image,
-            shape: Shape::Variant,
-            run: decl_items(union.image.bytes, union.at),
-        }
+        items_of(union, Shape::Variant)
     }
 }
 

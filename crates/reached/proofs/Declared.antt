@@ -31,15 +31,16 @@ use Rattle.members.specs.declared.kinds.ByKind.TheVariants as by
 use Rattle.rules.specs.Survivors.{stands_for, name_of, declarations, view_of}
 use Rattle.rules.specs.Clauses.{types_of}
 use Rattle.rules.specs.Reached.{named_in, named_of, named_by, named_from, IdSet}
-use Rattle.rules.specs.Imports.{standing_with}
 use Rattle.rules.proofs.ReachedSets.{mark_all_kept}
 use Rattle.rules.proofs.Reached.{named_from_lem, survivor_named}
 use Rattle.rules.proofs.Standing.{standing_none, view_rises}
-use Rattle.survivors.specs.Answers.{Survives, Follows}
+use Rattle.survivors.specs.Answers.{standing_of, Survives, Follows, NextDecl}
+use Rattle.survivors.specs.declared.decls.Declarations.{Declarations}
+use Rattle.survivors.specs.declared.decls.StandingDecls.{StandingDecls}
 use Rattle.survivors.proofs.Declarations.{survives_body, survives_image, follows_image}
 use Rattle.survivors.proofs.Runs.{listed_hold}
-use Rattle.survivors.proofs.Walks.{rest_decls, decls_left, decls_start, decls_done, decls_turn, decls_less}
-use Rattle.reached.specs.Marks.{Started, Marked, StandsAt}
+use Rattle.survivors.proofs.Walks.{rest_decls, decls_start, decls_done, decls_turn}
+use Rattle.reached.specs.Marks.{Started, Marked, StandsAt, Listed, OverSurvivors}
 use Rattle.reached.specs.Named.{named_items}
 use Rattle.reached.proofs.Marking.{ready_in, marked_in, marked_none, marked_as, Owing, owing_start, owing_ready, owing_turn, owing_done}
 use Rattle.reached.proofs.Walks.{fields_named, variants_named, each, listed_marked}
@@ -138,12 +139,13 @@ module _ {i : Image} {id : ℕ} {r : Option Decl} (h : Resolves i id r) where
 
 -- ---- the survivors
 
--- what comes next over the listed ids alone
-pub next_listed : {i : Image} {after r : Option Decl} → Follows (standing_with [] (schema_in i)) i after r → Follows (declarations (schema_in i)) i after r
-next_listed {i} h = rw (← standing_none (schema_in i)) h
+-- over the listed ids alone
+pub listed_survive : {i : Image} (ds : Declarations) → ds.image ≡ i → ds.reached.now ≡ [] → Listed i ds
+listed_survive {i} ds e f = record { image = e; standing = rw (e, f) (standing_none (schema_in i)) }
 
 -- what was found over them under the name of a declaration
-module _ {d : Decl} {name : Name} (q : name ≡ (decl_of d).name) {r : Option Decl} (h : Survives (standing_with [] (schema_in d.image)) d.image name r) where
+module _ {d : Decl} {ds : Declarations} (l : Listed d.image ds) {name : Name} (q : name ≡ (decl_of d).name) {r : Option Decl}
+    (h : Survives (standing_of ds) ds.image name r) where
   pub stands_not : StandsAt d false
   stands_not = record { stands = λ t. absurd (false≢true t) }
 
@@ -153,34 +155,44 @@ module _ {d : Decl} {name : Name} (q : name ≡ (decl_of d).name) {r : Option De
       told : b ≡ true → lookup name_of before (decl_of d).name (declarations (schema_in d.image)) ≡ Some (decl_of d)
       told t =
           let here : f.at ≡ d.at = eqb-true _ _ (sym u ∙ t) in
-          rw (← q, ← standing_none (schema_in d.image)) (survives_body h e)
-          ∙ ap Some (ap (λ i. decl_in i.bytes.now f.at) (survives_image h e) ∙ ap (decl_in d.image.bytes.now) here)
+          rw (← q, ← l.standing) (survives_body h e)
+          ∙ ap Some (ap (λ i. decl_in i.bytes.now f.at) (survives_image h e ∙ l.image) ∙ ap (decl_in d.image.bytes.now) here)
 
 unfoldable pub to_mark_decls : Image → Option Decl → List ℕ
 to_mark_decls i after = rest_decls (each named_of) (declarations (schema_in i)) [] after
 
-unfoldable pub left_decls : Image → Option Decl → ℕ
-left_decls i after = decls_left (declarations (schema_in i)) after
+-- a walk over the survivors: what the marks at its start are yet to have
+pub record Marking (i : Image) (m₀ : IdSet) (whole : List ℕ) (m : IdSet) (w : StandingDecls) : Type 0 where
+  pub listed : Listed i w.declarations
+  pub owing : Owing i m₀ whole m (to_mark_decls i w.after)
 
-pub decls_first : {i : Image} {m : IdSet} → Owing i m (named_from (view_of (schema_in i))) m (to_mark_decls i None)
+pub decls_first : {i : Image} {w : StandingDecls} → OverSurvivors i w → {m : IdSet} → Marking i m (named_from (view_of (schema_in i))) m w
 unfolding view_of to_mark_decls between each
-decls_first {i} = owing_start (named_from_lem (view_of (schema_in i)) ∙ sym (decls_start (each named_of) (declarations (schema_in i)) []))
+decls_first {i} o = record {
+  listed = o.listed;
+  owing = rw o.after (owing_start (named_from_lem (view_of (schema_in i)) ∙ sym (decls_start (each named_of) (declarations (schema_in i)) [])));
+}
 
-module _ {i : Image} {after r : Option Decl} (f : Follows (declarations (schema_in i)) i after r) where
-  pub decls_last : r ≡ None → {m₀ m : IdSet} {whole : List ℕ} → Owing i m₀ whole m (to_mark_decls i after) → Marked i m₀ whole m
+module _ {i : Image} {m₀ m : IdSet} {whole : List ℕ} {w : StandingDecls} (v : Marking i m₀ whole m w) {w' : StandingDecls} where
+  follows_in : {r : Option Decl} → NextDecl w r w' → Follows (declarations (schema_in i)) i w.after r
+  follows_in n = rw (v.listed.standing, v.listed.image) at n.follows
+
+  pub decls_last : NextDecl w None w' → Marked i m₀ whole m
   unfolding to_mark_decls
-  decls_last e w = owing_done w (decls_done (each named_of) (declarations (schema_in i)) [] f e)
+  decls_last n = owing_done v.owing (decls_done (each named_of) (declarations (schema_in i)) [] (follows_in n) refl)
 
-  module _ {d : Decl} (e : r ≡ Some d) where
-    pub decls_go : {m₀ m n : IdSet} {whole : List ℕ} → Owing i m₀ whole m (to_mark_decls i after) → Marked d.image m (named_of (decl_of d)) n
-        → Owing i m₀ whole n (to_mark_decls i (Some d))
+  module _ {d : Decl} (n : NextDecl w (Some d) w') where
+    pub decl_image : d.image ≡ i
+    decl_image = follows_image (follows_in n) refl
+
+    pub decls_go : {m' : IdSet} → Marked d.image m (named_of (decl_of d)) m' → Marking i m₀ whole m' w'
     unfolding to_mark_decls each view_of
-    decls_go w k =
-        owing_turn w (decls_turn (each named_of) (declarations (schema_in i)) [] f (view_rises (schema_in i)) e) (marked_in (follows_image f e) k)
-
-    pub decls_fewer : left_decls i (Some d) < left_decls i after
-    unfolding left_decls view_of
-    decls_fewer = decls_less (view_rises (schema_in i)) f e
+    decls_go k = record {
+      listed = rw (← n.declarations) at v.listed;
+      owing =
+          rw n.after
+          (owing_turn v.owing (decls_turn (each named_of) (declarations (schema_in i)) [] (follows_in n) (view_rises (schema_in i)) refl) (marked_in decl_image k));
+    }
 
 -- what the code needs
 pub ruleset kinds = (message_marked, union_marked, newtype_marked, other_marked, ready_in)
@@ -189,4 +201,4 @@ pub ruleset entries = (entry_none, entry_image, entry_marked, entry_kept, ready_
 
 pub ruleset stands = (stands_not, stands_there)
 
-pub ruleset survivors = (decls_first, decls_last, decls_go, decls_fewer, owing_ready, follows_image, ready_in)
+pub ruleset survivors = (decls_first, decls_last, decl_image, decls_go, owing_ready, ready_in)

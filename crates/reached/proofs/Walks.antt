@@ -1,8 +1,7 @@
--- The items that stand in a run, marked by rising ordinal, for fields and variants alike: what a walk has yet to mark, its turns, its end and
--- its measure. Assumes nothing.
-use mathlib.Core.Path.{◌≡◌, sym, ap, ◌∙◌}
+-- The items that stand in a run, marked by rising ordinal, for fields and variants alike: what a walk has yet to mark, its turns and its end. Assumes nothing.
+use mathlib.Core.Path.{◌≡◌, refl, sym, ap, ◌∙◌}
 use mathlib.Core.List.{List, [], ◌∷◌, flat_map, append-nil}
-use Prim.Native.Nat.{ℕ, ◌<◌}
+use Prim.Native.Nat.{ℕ}
 use Rattle.std.specs.Prelude.{Option, None, Some}
 use Rattle.maps.specs.Compare.{between}
 use Rattle.maps.proofs.Lists.{all, flat_map_same, flat_map_flat_map}
@@ -18,10 +17,11 @@ use Rattle.members.specs.declared.handles.Item.{Item}
 use Rattle.rules.specs.Survivors.{field_map, variant_map}
 use Rattle.rules.specs.Clauses.{field_types, variant_types}
 use Rattle.rules.specs.Reached.{named_in, IdSet}
-use Rattle.survivors.specs.Answers.{ordinal_at, ItemFollows}
+use Rattle.survivors.specs.Answers.{Among, StandsIn, NextItem}
+use Rattle.survivors.specs.declared.items.StandingItems.{StandingItems}
 use Rattle.survivors.specs.Runs.{item_of, item_map, items_of, Holds}
 use Rattle.survivors.proofs.Runs.{items_hold, listed_hold, next_among, among_shape}
-use Rattle.survivors.proofs.Walks.{rest_items, items_left, items_start, items_done, items_turn, items_less}
+use Rattle.survivors.proofs.Walks.{rest_items, items_start, items_done, items_turn}
 use Rattle.reached.specs.Marks.{Marked}
 use Rattle.reached.specs.Named.{item_names, named_items}
 use Rattle.reached.proofs.Marking.{ready_in, marked_in, marked_as, Owing, owing_start, owing_ready, owing_turn, owing_done}
@@ -49,39 +49,46 @@ each f None o = []
 each f (Some a) o = f a
 
 module _ (h : Shape) (x : Items) where
-  -- what is yet to be marked after an ordinal, and how many items are
+  -- what is yet to be marked from an ordinal on
   unfoldable pub to_mark : Option ℕ → List ℕ
   to_mark after = rest_items h (each (item_names h)) (items_of h x) [] after
 
-  unfoldable pub left_in : Option ℕ → ℕ
-  left_in after = items_left h (items_of h x) after
+  -- a walk over the items: what the marks at its start are yet to have
+  pub record Marking (m₀ : IdSet) (whole : List ℕ) (m : IdSet) (w : StandingItems) : Type 0 where
+    pub items : w.items ≡ x
+    pub owing : Owing x.image m₀ whole m (to_mark w.after)
 
-  pub items_first : {m : IdSet} → Owing x.image m (named_items h x) m (to_mark None)
-  unfolding named_items to_mark between each
-  items_first = owing_start (sym (items_start h (each (item_names h)) (items_of h x) []))
+  module _ (e : x.shape ≡ h) where
+    pub items_first : {w : StandingItems} → StandsIn x w → {m : IdSet} → Marking m (named_items h x) m w
+    unfolding named_items to_mark between each
+    items_first s = record {
+      items = s.items;
+      owing = rw s.after (owing_start (sym (items_start h (each (item_names h)) (items_of h x) [])));
+    }
 
-  -- o is the next of them
-  module _ (e : x.shape ≡ h) {after : Option ℕ} {o : Option Item} (a : ItemFollows x after o) where
-    pub items_last : o ≡ None → {m₀ m : IdSet} {whole : List ℕ} → Owing x.image m₀ whole m (to_mark after) → Marked x.image m₀ whole m
-    unfolding to_mark
-    items_last f w = owing_done w (items_done h (each (item_names h)) (items_of h x) [] (items_hold h x e) a f)
+    module _ {m₀ m : IdSet} {whole : List ℕ} {w : StandingItems} (v : Marking m₀ whole m w) {w' : StandingItems} where
+      pub items_last : NextItem w None w' → Marked x.image m₀ whole m
+      unfolding to_mark
+      items_last n = owing_done v.owing (items_done h (each (item_names h)) (items_of h x) [] (items_hold h x e) (rw v.items at n.follows) refl)
 
-    module _ {j : Item} (f : o ≡ Some j) where
-      pub item_shape : j.shape ≡ h
-      item_shape = among_shape (items_hold h x e) (next_among (items_hold h x e) a f)
+      module _ {j : Item} (n : NextItem w (Some j) w') where
+        met : Among x j
+        met = next_among (items_hold h x e) (rw v.items at n.follows) refl
 
-      pub item_image : j.image ≡ x.image
-      item_image = (next_among (items_hold h x e) a f).image
+        pub item_shape : j.shape ≡ h
+        item_shape = among_shape (items_hold h x e) met
 
-      pub items_go : {k : ℕ} → k ≡ ordinal_at j → {m₀ m m' : IdSet} {whole : List ℕ} → Owing x.image m₀ whole m (to_mark after)
-          → Marked j.image m (item_names h (item_of h j)) m' → Owing x.image m₀ whole m' (to_mark (Some k))
-      unfolding to_mark each
-      items_go u w d =
-          owing_turn w (items_turn h (each (item_names h)) (items_of h x) [] (items_hold h x e) a f u) (marked_in item_image d)
+        pub item_image : j.image ≡ x.image
+        item_image = met.image
 
-      pub items_fewer : {k : ℕ} → k ≡ ordinal_at j → left_in (Some k) < left_in after
-      unfolding left_in
-      items_fewer u = items_less (items_hold h x e) a f u
+        pub items_go : {m' : IdSet} → Marked j.image m (item_names h (item_of h j)) m' → Marking m₀ whole m' w'
+        unfolding to_mark each
+        items_go d = record {
+          items = n.items ∙ v.items;
+          owing =
+              rw n.after
+              (owing_turn v.owing (items_turn h (each (item_names h)) (items_of h x) [] (items_hold h x e) (rw v.items at n.follows) refl) (marked_in item_image d));
+        }
 
 -- ---- the items of a declaration or of a variant
 
@@ -104,7 +111,7 @@ module _ (j : Item) where
   variant_marked g f d = rw f.image at (listed_marked (listed_hold f (variant_listed j.image.bytes.now j.at (rw g at j.here))) d)
 
 -- what the code needs
-pub ruleset walked = (items_first, items_last, item_shape, item_image, items_go, items_fewer, owing_ready, ready_in)
+pub ruleset walked = (items_first, items_last, item_shape, item_image, items_go, owing_ready, ready_in)
 
 pub ruleset field_walk = (walked, field_marked)
 

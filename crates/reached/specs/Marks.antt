@@ -8,6 +8,9 @@ use Rattle.parts.specs.declared.handles.Image.{Image}
 use Rattle.parts.specs.declared.handles.Decl.{Decl}
 use Rattle.rules.specs.Survivors.{name_of, declarations, view_of}
 use Rattle.rules.specs.Reached.{named_in, named_from, member, resolvable, IdSet, has, mark_all, reached_set}
+use Rattle.survivors.specs.Answers.{standing_of}
+use Rattle.survivors.specs.declared.decls.Declarations.{Declarations}
+use Rattle.survivors.specs.declared.decls.StandingDecls.{StandingDecls}
 use Rattle.reached.specs.declared.Reached.{Reached}
 
 -- there are marks for all ids of an image
@@ -27,6 +30,16 @@ pub record TypeMarked (i : Image) (at : ℕ) (m : IdSet) (r : ℕ) (n : IdSet) :
 pub record Started (i : Image) (m : IdSet) : Type 0 where
   pub ready : Ready i m
   pub first : (id : ℕ) → member id (named_from (view_of (schema_in i))) ≡ true → resolvable (schema_in i).registry id ≡ true → has m id ≡ true
+
+-- the listed declarations: those that stand among them are the survivors
+pub record Listed (i : Image) (ds : Declarations) : Type 0 where
+  pub image : ds.image ≡ i
+  pub standing : standing_of ds ≡ declarations (schema_in i)
+
+-- a walk over the survivors, at its start
+pub record OverSurvivors (i : Image) (w : StandingDecls) : Type 0 where
+  pub listed : Listed i w.declarations
+  pub after : w.after ≡ None
 
 -- a declaration is the survivor of its name, if the answer is true
 pub record StandsAt (d : Decl) (r : Bool) : Type 0 where

@@ -6,7 +6,7 @@ ghost use Rattle.reached.specs.Marks.{Ready, Started, Marked};
 
 use crate::fields::{mark_fields, mark_variants};
 use crate::nodes::mark_type;
-use crate::standing::{is_survivor, next_survivor};
+use crate::standing::{is_survivor, survivors};
 use members::kinds::ByKind;
 use parts::handles::{Decl, Image};
 
@@ -30,10 +30,8 @@ pub(crate) fn mark_survivors(image: Image<'_>, marks: &mut [bool])
     requires { Ready image marks.old }
     ensures { Marked image.entry marks.old (named_from (view_of (schema_in image.entry))) marks.new }
 {
-    let mut after = None;
-    while let Some(decl) = next_survivor(image, after) {
+    for decl in survivors(image) {
         mark_decl(decl, marks);
-        after = Some(decl);
     }
 }
 

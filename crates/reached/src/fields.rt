@@ -6,7 +6,7 @@ ghost use Rattle.reached.specs.Named.{named_items};
 
 use crate::nodes::mark_type;
 use members::handles::{Field, Items, Variant};
-use survivors::items::next_item;
+use survivors::items::standing_items;
 
 // Fields, by rising ordinal.
 #[tactic(auto, using(crate::proofs::Walks::field_walk))]
@@ -14,11 +14,9 @@ pub(crate) fn mark_fields(fields: Items<'_>, marks: &mut [bool])
     requires { Ready fields.image marks.old × (fields.shape ≡ Shape.Field) }
     ensures { Marked fields.entry.image marks.old (named_items Shape.Field fields.entry) marks.new }
 {
-    let mut after = None;
-    while let Some(field) = next_item(fields, after) {
-        let own = Field { item: field };
-        mark_type(own.ty(), marks);
-        after = Some(field.ordinal());
+    for item in standing_items(fields) {
+        let field = Field { item };
+        mark_type(field.ty(), marks);
     }
 }
 
@@ -28,10 +26,8 @@ pub(crate) fn mark_variants(variants: Items<'_>, marks: &mut [bool])
     requires { Ready variants.image marks.old × (variants.shape ≡ Shape.Variant) }
     ensures { Marked variants.entry.image marks.old (named_items Shape.Variant variants.entry) marks.new }
 {
-    let mut after = None;
-    while let Some(variant) = next_item(variants, after) {
-        let own = Variant { item: variant };
-        mark_fields(own.fields(), marks);
-        after = Some(variant.ordinal());
+    for item in standing_items(variants) {
+        let variant = Variant { item };
+        mark_fields(variant.fields(), marks);
     }
 }

@@ -1,15 +1,14 @@
--- A walk over the declarations, or over the items, that stand: from each answer of a search for what comes next to a turn
--- of the walk, its end and its measure. Assumes nothing.
+-- A walk over the declarations, or over the items, that stand: what it has yet to give at its start, after a step, and at its end. Assumes
+-- nothing.
 use mathlib.Core.Path.{◌≡◌}
 use Rattle.std.specs.Prelude.{Option, None, Some}
 use mathlib.Core.List.{List, [], ◌++◌}
 use Prim.Native.Nat.{ℕ, ◌<◌}
 use lib.Dec.{ltb}
-use lib.ListN.{length}
 use Rattle.maps.specs.Orders.{before}
 use Rattle.maps.specs.Keyed.{lookup}
 use Rattle.maps.specs.Compare.{between}
-use Rattle.maps.specs.Walk.{Rising, above, rest}
+use Rattle.maps.specs.Walk.{Rising, rest}
 use Rattle.maps.proofs.Names.{by_name}
 use Rattle.maps.proofs.Orders.{by_number}
 use Rattle.maps.proofs.Walking.{rest_start, rest_turn, rest_done, left_less}
@@ -22,8 +21,10 @@ use Rattle.parts.specs.declared.Shape.{Shape}
 use Rattle.members.specs.declared.handles.Items.{Items}
 use Rattle.members.specs.declared.handles.Item.{Item}
 use Rattle.rules.specs.Survivors.{name_of}
-use Rattle.survivors.specs.Answers.{ordinal_at, named, Follows, ItemFollows}
+use Rattle.rules.proofs.Standing.{standing_rises}
+use Rattle.survivors.specs.Answers.{ordinal_at, standing_of, named, Follows, decls_left, ItemFollows}
 use Rattle.survivors.specs.Runs.{item_of, item_ordinal, item_map, Holds}
+use Rattle.survivors.specs.declared.decls.Declarations.{Declarations}
 use Rattle.survivors.proofs.Declarations.{follows_none, follows_body}
 use Rattle.survivors.proofs.Runs.{items_rising, next_none, next_item, next_ordinal}
 
@@ -32,10 +33,6 @@ use Rattle.survivors.proofs.Runs.{items_rising, next_none, next_item, next_ordin
 -- what a walk that starts after a declaration has yet to give, with another map beside it
 unfoldable pub rest_decls : {C : Type 0} → (Option Declaration → Option Declaration → List C) → List Declaration → List Declaration → Option Decl → List C
 rest_decls g m n after = rest name_of before g m n (named after)
-
--- how many declarations it has yet to meet
-unfoldable pub decls_left : List Declaration → Option Decl → ℕ
-decls_left m after = length (above name_of before (named after) m)
 
 module _ {C : Type 0} (g : Option Declaration → Option Declaration → List C) (m n : List Declaration) where
   pub decls_start : rest_decls g m n None ≡ between name_of before g m n
@@ -52,18 +49,16 @@ module _ {C : Type 0} (g : Option Declaration → Option Declaration → List C)
     unfolding rest_decls
     decls_turn R {d} e = rest_turn name_of by_name g m n (named after) (decl_of d) R (follows_body f e)
 
-pub decls_less : {m : List Declaration} → Rising name_of before m → {i : Image} {after r : Option Decl} → Follows m i after r
-    → {d : Decl} → r ≡ Some d → decls_left m (Some d) < decls_left m after
+pub decls_less : (ds : Declarations) {i : Image} {after r : Option Decl} → Follows (standing_of ds) i after r → {d : Decl} → r ≡ Some d
+    → decls_left ds (Some d) < decls_left ds after
 unfolding decls_left
-decls_less {m} R {after = after} f {d} e = left_less name_of by_name m (named after) (decl_of d) R (follows_body f e)
+decls_less ds {after = after} f {d} e =
+    left_less name_of by_name (standing_of ds) (named after) (decl_of d) (standing_rises _ _) (follows_body f e)
 
 -- ---- items
 
 unfoldable pub rest_items : {C : Type 0} → (h : Shape) → (Option (ItemOf h) → Option (ItemOf h) → List C) → List (ItemOf h) → List (ItemOf h) → Option ℕ → List C
 rest_items h g xs ys after = rest (item_ordinal h) ltb g (item_map h xs) (item_map h ys) after
-
-unfoldable pub items_left : (h : Shape) → List (ItemOf h) → Option ℕ → ℕ
-items_left h xs after = length (above (item_ordinal h) ltb after (item_map h xs))
 
 module _ {C : Type 0} (h : Shape) (g : Option (ItemOf h) → Option (ItemOf h) → List C) (xs ys : List (ItemOf h)) where
   pub items_start : rest_items h g xs ys None ≡ between (item_ordinal h) ltb g (item_map h xs) (item_map h ys)
@@ -75,17 +70,9 @@ module _ {C : Type 0} (h : Shape) (g : Option (ItemOf h) → Option (ItemOf h) �
     unfolding rest_items
     items_done e = rest_done (item_ordinal h) by_number g (item_map h xs) (item_map h ys) after (next_none r a e)
 
-    -- k is the ordinal of the item i
-    pub items_turn : {i : Item} → o ≡ Some i → {k : ℕ} → k ≡ ordinal_at i
-        → rest_items h g xs ys after ≡ g (Some (item_of h i)) (lookup (item_ordinal h) ltb k (item_map h ys)) ++ rest_items h g xs ys (Some k)
+    pub items_turn : {i : Item} → o ≡ Some i
+        → rest_items h g xs ys after ≡ g (Some (item_of h i)) (lookup (item_ordinal h) ltb (ordinal_at i) (item_map h ys)) ++ rest_items h g xs ys (Some (ordinal_at i))
     unfolding rest_items
-    items_turn {i} e u =
-        rw (u, ← next_ordinal r a e)
+    items_turn {i} e =
+        rw (← next_ordinal r a e)
         (rest_turn (item_ordinal h) by_number g (item_map h xs) (item_map h ys) after (item_of h i) (items_rising h xs) (next_item r a e))
-
-pub items_less : {h : Shape} {x : Items} {xs : List (ItemOf h)} → Holds h x xs → {after : Option ℕ} {o : Option Item} → ItemFollows x after o
-    → {i : Item} → o ≡ Some i → {k : ℕ} → k ≡ ordinal_at i → items_left h xs (Some k) < items_left h xs after
-unfolding items_left
-items_less {h} {x} {xs} r {after} a {i} e u =
-    rw (u, ← next_ordinal r a e)
-    (left_less (item_ordinal h) by_number (item_map h xs) after (item_of h i) (items_rising h xs) (next_item r a e))

@@ -1,9 +1,10 @@
 -- What the searches answer. Assumes nothing.
-use Rattle.std.specs.Prelude.{◌≡◌, Bool, true, false, List, ◌++◌, ℕ, ltb, Option, None, Some, IfSome}
+use Rattle.std.specs.Prelude.{◌≡◌, Bool, true, false, List, ◌++◌, ℕ, ltb, length, Option, None, Some, IfSome}
+use Rattle.std.specs.Borrow.{Bor}
 use Rattle.std.specs.Option.{option_map, is_some}
 use Rattle.maps.specs.Keyed.{survivors, lookup}
 use Rattle.maps.specs.Orders.{before}
-use Rattle.maps.specs.Walk.{following, nearer, covers}
+use Rattle.maps.specs.Walk.{above, following, nearer, covers}
 use Rattle.image.specs.Schema.{Name, Decl as Declaration}
 use Rattle.parts.specs.Promise.{places_from, ordinal_in}
 use Rattle.parts.specs.Handles.{schema_in, decl_of}
@@ -14,6 +15,8 @@ use Rattle.members.specs.declared.handles.Item.{Item}
 use Rattle.rules.specs.Survivors.{listed, name_of}
 use Rattle.rules.specs.Imports.{marked_ids, standing_with}
 use Rattle.survivors.specs.declared.decls.Declarations.{Declarations}
+use Rattle.survivors.specs.declared.decls.StandingDecls.{StandingDecls}
+use Rattle.survivors.specs.declared.items.StandingItems.{StandingItems}
 
 -- ---- declarations: `standing` are those that stand in an image
 
@@ -33,6 +36,32 @@ pub record Survives (standing : List Declaration) (i : Image) (name : Name) (r :
 pub record Follows (standing : List Declaration) (i : Image) (after r : Option Decl) : Type 0 where
   pub value : option_map decl_of r ≡ following name_of before (named after) standing
   pub image : IfSome r (λ d. d.image ≡ i)
+
+-- a walk over the declarations that stand, at its start
+pub record StandsAmong (ds : Declarations) (w : StandingDecls) : Type 0 where
+  pub declarations : w.declarations ≡ ds
+  pub after : w.after ≡ None
+
+-- a step of it: the declaration that stands under the next name, and from there on
+pub record NextDecl (w : StandingDecls) (r : Option Decl) (v : StandingDecls) : Type 0 where
+  pub follows : Follows (standing_of w.declarations) w.declarations.image w.after r
+  pub declarations : v.declarations ≡ w.declarations
+  pub after : IfSome r (λ d. v.after ≡ Some d)
+
+-- how many declarations it has yet to meet
+unfoldable pub decls_left : Declarations → Option Decl → ℕ
+decls_left ds after = length (above name_of before (named after) (standing_of ds))
+
+-- a name that is lent, if there is one; with the declaration that has it
+abbrev pub name_at : Option (Bor Name) → Option Name
+name_at = option_map (λ n. n.now)
+
+abbrev pub name_with : Option (Bor Name × Decl) → Option Name
+name_with = option_map (λ b. b.0.now)
+
+-- whether a name takes the place of the best name so far, if any
+unfoldable pub nearer_name : Option Name → Option Name → Name → Bool
+nearer_name b best k = nearer (λ n. n) before b best k
 
 -- whether an entry more takes the place of the best declaration so far: one that is unresolvable is skipped
 unfoldable pub nearer_decl : Option Name → Option Declaration → Option Declaration → Bool
@@ -74,7 +103,27 @@ pub record ItemSurvives (x : Items) (k : ℕ) (r : Option Item) : Type 0 where
   pub place : option_map place_of r ≡ lookup (ordinal_in x.image.bytes.now) ltb k (place_map x)
   pub among : IfSome r (Among x)
 
+-- the item that stands under the next ordinal, with it
+pub record Nearest (x : Items) (after : Option ℕ) (r : Option (ℕ × Item)) : Type 0 where
+  pub place : option_map (λ b. b.1.at) r ≡ following (ordinal_in x.image.bytes.now) ltb after (place_map x)
+  pub among : IfSome r (λ b. Among x b.1 × (b.0 ≡ ordinal_at b.1))
+
 -- the item that stands under the next ordinal
 pub record ItemFollows (x : Items) (after : Option ℕ) (r : Option Item) : Type 0 where
   pub place : option_map place_of r ≡ following (ordinal_in x.image.bytes.now) ltb after (place_map x)
   pub among : IfSome r (Among x)
+
+-- a walk over the items that stand, at its start
+pub record StandsIn (x : Items) (w : StandingItems) : Type 0 where
+  pub items : w.items ≡ x
+  pub after : w.after ≡ None
+
+-- a step of it: the item that stands under the next ordinal, and from there on
+pub record NextItem (w : StandingItems) (r : Option Item) (v : StandingItems) : Type 0 where
+  pub follows : ItemFollows w.items w.after r
+  pub items : v.items ≡ w.items
+  pub after : IfSome r (λ i. v.after ≡ Some (ordinal_at i))
+
+-- how many items it has yet to meet
+unfoldable pub items_left : Items → Option ℕ → ℕ
+items_left x after = length (above (ordinal_in x.image.bytes.now) ltb after (place_map x))

@@ -2,7 +2,7 @@
 // names: "Of declarations with one name the last listed stands."
 ghost use Rattle.std.specs.Prelude.{◌≤◌, length};
 
-use crate::nearest::is_nearer;
+use crate::nearest::{is_nearer, name_of};
 use parts::handles::{Decl, Image};
 
 // What may stand in an image: with a set of its ids, none for the verdict of document 01, the reached ones for that with imports.
@@ -18,7 +18,7 @@ impl<'a> Declarations<'a> {
     ghost use Rattle.std.specs.Option.{option_map};
     ghost use Rattle.parts.specs.Handles.{decl_of};
     ghost use Rattle.survivors.specs.Candidates.{candidates, Candidate};
-    ghost use Rattle.survivors.specs.Answers.{standing_of, Survives, Follows, namesake_in, names_covered};
+    ghost use Rattle.survivors.specs.Answers.{standing_of, Survives, Follows, StandsAmong, namesake_in, names_covered};
 
     // How many positions there are.
     #[tactic(auto, using(crate::proofs::Laws::Candidates::counts))]
@@ -78,18 +78,32 @@ impl<'a> Declarations<'a> {
     // The declaration that stands under the least name past that of `after`, from the start if that is none: in a pass from the front that goes
     // over to a later one of the same name.
     #[tactic(auto, using(crate::proofs::Laws::Listed::forward))]
-    pub fn following(self, after: Option<Decl<'a>>) -> Option<Decl<'a>>
+    fn following(self, after: Option<Decl<'a>>) -> Option<Decl<'a>>
         ensures { Follows (standing_of self.entry) self.entry.image after.entry result }
     {
         let n = self.count();
+        let bound = name_of(after);
         let mut best = None;
         for i in 0..n {
-            let found = self.candidate(i);
-            if is_nearer(after, best, found) {
-                best = found;
+            if let Some(found) = self.candidate(i) {
+                let name = found.name();
+                if is_nearer(bound, best, name) {
+                    best = Some((name, found));
+                }
             }
         }
-        best
+        let (_, decl) = best?;
+        Some(decl)
+    }
+
+    // The declarations that stand.
+    pub fn standing(self) -> StandingDecls<'a>
+        ensures { StandsAmong self.entry result }
+    {
+        StandingDecls {
+            declarations: self,
+            after: None,
+        }
     }
 
     // Whether a declaration stands under the name of one, if there is one.
@@ -115,5 +129,30 @@ impl<'a> Declarations<'a> {
             }
         }
         true
+    }
+}
+
+// The declarations that stand, by rising name: those past that of `after`, from the start if that is none.
+#[derive(Clone, Copy)]
+pub struct StandingDecls<'a> {
+    pub declarations: Declarations<'a>,
+    pub after: Option<Decl<'a>>,
+}
+
+impl<'a> Iterator for StandingDecls<'a> {
+    type Item = Decl<'a>;
+
+    ghost use Rattle.std.specs.Iterator.{at_most};
+    ghost use Rattle.survivors.specs.Answers.{decls_left, NextDecl};
+
+    ghost next_gives = { NextDecl };
+
+    ghost remaining = { λ w. at_most (decls_left w.declarations w.after) };
+
+    #[tactic(auto, using(crate::proofs::Walks::decls_less))]
+    fn next(&mut self) -> Option<Decl<'a>> {
+        let decl = self.declarations.following(self.after)?;
+        self.after = Some(decl);
+        Some(decl)
     }
 }

@@ -5,7 +5,7 @@ ghost use Rattle.std.specs.Option.{option_map, is_some};
 ghost use Rattle.maps.specs.Keyed.{lookup};
 ghost use Rattle.maps.specs.Walk.{past};
 ghost use Rattle.parts.specs.Promise.{ordinal_in};
-ghost use Rattle.survivors.specs.Answers.{ordinal_at, nearer_ordinal, place_map, ItemSurvives, ItemFollows};
+ghost use Rattle.survivors.specs.Answers.{nearer_ordinal, place_map, ItemSurvives, Nearest, StandsIn};
 
 use members::handles::{Item, Items};
 
@@ -15,14 +15,7 @@ pub fn survivor_item<'a>(items: Items<'a>, ordinal: u32) -> Option<Item<'a>>
     ensures { ItemSurvives items.entry ordinal result }
 {
     let mut found = None;
-    let mut at = items.run.start;
-    for _ in 0..items.run.count {
-        let item = Item {
-            image: items.image,
-            shape: items.shape,
-            at,
-        };
-        at = item.end();
+    for item in items {
         if item.ordinal() == ordinal {
             found = Some(item);
         }
@@ -35,17 +28,10 @@ pub fn survivor_item<'a>(items: Items<'a>, ordinal: u32) -> Option<Item<'a>>
 pub fn has_item(items: Items<'_>, ordinal: u32) -> bool
     ensures { result ≡ is_some (lookup (ordinal_in items.entry.image.bytes.now) ltb ordinal (place_map items.entry)) }
 {
-    let mut at = items.run.start;
-    for _ in 0..items.run.count {
-        let item = Item {
-            image: items.image,
-            shape: items.shape,
-            at,
-        };
+    for item in items {
         if item.ordinal() == ordinal {
             return true;
         }
-        at = item.end();
     }
     false
 }
@@ -55,41 +41,69 @@ pub fn has_item(items: Items<'_>, ordinal: u32) -> bool
 fn is_past(after: Option<u32>, ordinal: u32) -> bool
     ensures { result ≡ past ltb after ordinal }
 {
-    let Some(bound) = after else {
-        return true;
-    };
-    bound < ordinal
+    after.is_none_or(|bound| bound < ordinal)
 }
 
 // Whether an item with an ordinal takes the place of the best one so far: the ordinal is past `after`, and the best one's is not before it.
-#[tactic(auto, using(crate::proofs::Laws::Passed::nearers))]
-fn is_nearer(after: Option<u32>, best: Option<Item<'_>>, ordinal: u32) -> bool
-    ensures { result ≡ nearer_ordinal after (option_map ordinal_at best.entry) ordinal }
+fn is_nearer(after: Option<u32>, best: Option<(u32, usize)>, ordinal: u32) -> bool
+    ensures { result ≡ nearer_ordinal after (option_map (λ b. b.0) best) ordinal }
 {
-    let Some(least) = best else {
+    let Some((least, _)) = best else {
         return is_past(after, ordinal);
     };
-    ordinal <= least.ordinal() && is_past(after, ordinal)
+    ordinal <= least && is_past(after, ordinal)
 }
 
-// The item that stands under the least ordinal past `after`, from the start if that is none.
+// The item that stands under the least ordinal past `after`, from the start if that is none. Of the best one so far its place is kept alone:
+// less to go over to where many are.
 #[tactic(auto, using(crate::proofs::Laws::Passed::nearings))]
-pub fn next_item<'a>(items: Items<'a>, after: Option<u32>) -> Option<Item<'a>>
-    ensures { ItemFollows items.entry after result }
+fn next_item<'a>(items: Items<'a>, after: Option<u32>) -> Option<(u32, Item<'a>)>
+    ensures { Nearest items.entry after result }
 {
     let mut best = None;
-    let mut at = items.run.start;
-    for _ in 0..items.run.count {
-        let item = Item {
-            image: items.image,
-            shape: items.shape,
-            at,
-        };
+    for item in items {
         let ordinal = item.ordinal();
-        at = item.end();
         if is_nearer(after, best, ordinal) {
-            best = Some(item);
+            best = Some((ordinal, item.at));
         }
     }
-    best
+    let (ordinal, at) = best?;
+    let item = Item {
+        image: items.image,
+        shape: items.shape,
+        at,
+    };
+    Some((ordinal, item))
+}
+
+// The items that stand, by rising ordinal: those past `after`, from the start if that is none.
+#[derive(Clone, Copy)]
+pub struct StandingItems<'a> {
+    pub items: Items<'a>,
+    pub after: Option<u32>,
+}
+
+// The items that stand among these.
+pub fn standing_items(items: Items<'_>) -> StandingItems<'_>
+    ensures { StandsIn items.entry result }
+{
+    StandingItems { items, after: None }
+}
+
+impl<'a> Iterator for StandingItems<'a> {
+    type Item = Item<'a>;
+
+    ghost use Rattle.std.specs.Iterator.{at_most};
+    ghost use Rattle.survivors.specs.Answers.{items_left, NextItem};
+
+    ghost next_gives = { NextItem };
+
+    ghost remaining = { λ x. at_most (items_left x.items x.after) };
+
+    #[tactic(auto, using(crate::proofs::Laws::Passed::stepping))]
+    fn next(&mut self) -> Option<Item<'a>> {
+        let (ordinal, item) = next_item(self.items, self.after)?;
+        self.after = Some(ordinal);
+        Some(item)
+    }
 }

@@ -1,47 +1,48 @@
-// Whether a declaration takes the place of the best one so far, on the way to the one that comes next.
+// Whether a declaration takes the place of the best one so far, on the way to the one that comes next, by their names.
 ghost use Rattle.std.specs.Prelude.{◌≡◌};
-ghost use Rattle.std.specs.Option.{option_map};
 ghost use Rattle.maps.specs.Orders.{before};
 ghost use Rattle.maps.specs.Walk.{past};
-ghost use Rattle.parts.specs.Handles.{decl_of};
-ghost use Rattle.survivors.specs.Answers.{named, nearer_decl};
+ghost use Rattle.survivors.specs.Answers.{named, name_at, name_with, nearer_name};
 
 use parts::handles::Decl;
 
-// Whether the name of one declaration stands before that of another.
-#[tactic(auto, using(crate::proofs::Laws::Nearest::names_before))]
-fn is_before(a: Decl<'_>, b: Decl<'_>) -> bool
-    ensures { result ≡ before (decl_of a.entry).name (decl_of b.entry).name }
+// The name of a declaration, if there is one.
+pub(crate) fn name_of<'a>(found: Option<Decl<'a>>) -> Option<&'a [u8]>
+    ensures { name_at result ≡ named found.entry }
 {
-    a.name() < b.name()
+    let decl = found?;
+    Some(decl.name())
 }
 
-// Whether the name of a declaration is past that of another: every name is past that of none.
-#[tactic(auto, using(crate::proofs::Laws::Nearest::passed))]
-fn is_past(after: Option<Decl<'_>>, decl: Decl<'_>) -> bool
-    ensures { result ≡ past before (named after.entry) (decl_of decl.entry).name }
+// Whether one name stands before another.
+#[tactic(auto, using(crate::proofs::Laws::Nearest::names_before))]
+fn is_before(a: &[u8], b: &[u8]) -> bool
+    ensures { result ≡ before a.now b.now }
+{
+    a < b
+}
+
+// Whether a name is past a bound: every name is past none.
+#[tactic(auto, unfolding(maps::specs::Walk::past))]
+fn is_past(after: Option<&[u8]>, name: &[u8]) -> bool
+    ensures { result ≡ past before (name_at after.entry) name.now }
 {
     let Some(bound) = after else {
         return true;
     };
-    is_before(bound, decl)
+    is_before(bound, name)
 }
 
-// Whether a declaration takes the place of the best one so far: its name is past that of `after`, and the best one's is not before it. The best
-// one is looked at first: where names are listed as they rise, that alone decides of all that follow it.
-#[tactic(auto, using(crate::proofs::Laws::Nearest::nearest))]
-pub(crate) fn is_nearer(
-    after: Option<Decl<'_>>,
-    best: Option<Decl<'_>>,
-    found: Option<Decl<'_>>,
-) -> bool
-    ensures { result ≡ nearer_decl (named after.entry) (option_map decl_of best.entry) (option_map decl_of found.entry) }
+// Whether a name takes the place of the best one so far: it is past `after`, and the best one is not before it. The best one is looked at
+// first: where names are listed as they rise, that alone decides of all that follow it.
+pub(crate) fn is_nearer(after: Option<&[u8]>, best: Option<(&[u8], Decl<'_>)>, name: &[u8]) -> bool
+    ensures { result ≡ nearer_name (name_at after.entry) (name_with best.entry) name.now }
 {
-    let Some(decl) = found else {
+    let Some((least, _)) = best else {
+        return is_past(after, name);
+    };
+    if is_before(least, name) {
         return false;
-    };
-    let Some(least) = best else {
-        return is_past(after, decl);
-    };
-    !is_before(least, decl) && is_past(after, decl)
+    }
+    is_past(after, name)
 }

@@ -12,6 +12,7 @@ use Rattle.maps.specs.Lists.{every}
 use Rattle.maps.specs.Orders.{same, before, order_of}
 use Rattle.maps.specs.Keyed.{lookup}
 use Rattle.std.specs.Option.{option_map, is_some}
+use Rattle.std.specs.Borrow.{Bor}
 use Rattle.maps.specs.Walk.{latest, following, better, least, covers}
 use Rattle.maps.proofs.Names.{by_name, same_told, ends_same, finds_other, other_length, goes_on}
 use Rattle.maps.proofs.Searches.{latest_start, latest_nothing, latest_skips, latest_other, latest_found, lookup_latest, least_cons, least_nil}
@@ -22,12 +23,12 @@ use Rattle.parts.specs.declared.handles.Image.{Image}
 use Rattle.parts.specs.declared.handles.Decl.{Decl}
 use Rattle.rules.specs.Survivors.{resolved, name_of}
 use Rattle.rules.specs.Imports.{standing_with}
-use Rattle.survivors.specs.Answers.{standing_of, named, Survives, Follows, nearer_decl, namesake_in, names_covered}
+use Rattle.survivors.specs.Answers.{standing_of, named, Survives, Follows, name_with, nearer_name, nearer_decl, namesake_in, names_covered}
 use Rattle.survivors.specs.Candidates.{candidates, Candidate, present}
 use Rattle.survivors.specs.declared.decls.Declarations.{Declarations}
 use Rattle.survivors.proofs.Laws.Better.{some_map}
 use Rattle.survivors.proofs.Laws.Candidates.{present_candidates}
-use Rattle.survivors.proofs.Laws.Nearest.{decl_none}
+use Rattle.survivors.proofs.Laws.Nearest.{decl_none, Named, by_names}
 
 -- what one entry adds to those that may stand
 unfoldable pub shown : Option Declaration → List Declaration
@@ -160,32 +161,50 @@ module _ (ds : Declarations) (b : Option Name) where
   ahead_turn best o i h e = rw (add-one, drop-cons (candidates ds) i None h, ← e) (least_resolved best o (present (drop (suc i) (candidates ds))))
 
 -- that is the next one
-pub record Met (ds : Declarations) (bound best : Option Decl) (i : ℕ) : Type 0 where
-  pub next : ahead ds (named bound) (option_map decl_of best) i ≡ following name_of before (named bound) (standing_of ds)
-  pub image : IfSome best (λ d. d.image ≡ ds.image)
+pub record Met (ds : Declarations) (bound : Option Decl) (best : Option (Bor Name × Decl)) (i : ℕ) : Type 0 where
+  pub next : ahead ds (named bound) (option_map (λ b. decl_of b.1) best) i ≡ following name_of before (named bound) (standing_of ds)
+  pub image : IfSome best (λ b. b.1.image ≡ ds.image)
+  pub name : Named best
 
 module _ {ds : Declarations} {bound : Option Decl} where
   pub met_start : Met ds bound None 0
-  met_start = record { next = ahead_start ds (named bound); image = tt }
+  met_start = record { next = ahead_start ds (named bound); image = tt; name = tt }
 
-  module _ {best : Option Decl} {i : ℕ} (k : Met ds bound best i) where
-    pub met_end : length (candidates ds) ≤ i → Follows (standing_of ds) ds.image bound best
-    met_end h = record { value = sym (ahead_end ds (named bound) (option_map decl_of best) i h) ∙ k.next; image = k.image }
+  module _ {best : Option (Bor Name × Decl)} {i : ℕ} (k : Met ds bound best i) where
+    module _ (h : length (candidates ds) ≤ i) where
+      met_value : option_map (λ b. decl_of b.1) best ≡ following name_of before (named bound) (standing_of ds)
+      met_value = sym (ahead_end ds (named bound) (option_map (λ b. decl_of b.1) best) i h) ∙ k.next
 
-    -- a turn, at the declaration r of the position; t: it takes the place of the best
-    module _ (h : i < length (candidates ds)) {r : Option Decl} (v : Candidate ds i r)
-        {t : Bool} (q : t ≡ nearer_decl (named bound) (option_map decl_of best) (option_map decl_of r)) where
-      pub met_taken : t ≡ true → Met ds bound r (i + 1)
-      met_taken w = record {
-        next = sym (ahead_turn ds (named bound) (option_map decl_of best) (option_map decl_of r) i h v.value ∙ rw (← q, w)) ∙ k.next;
-        image = v.image;
-      }
+      pub met_none : best ≡ None → Follows (standing_of ds) ds.image bound None
+      met_none e = record { value = rw e at met_value; image = tt }
 
-      pub met_left : t ≡ false → Met ds bound best (i + 1)
-      met_left w = record {
-        next = sym (ahead_turn ds (named bound) (option_map decl_of best) (option_map decl_of r) i h v.value ∙ rw (← q, w)) ∙ k.next;
-        image = k.image;
-      }
+      pub met_some : {b : Bor Name × Decl} → best ≡ Some b → Follows (standing_of ds) ds.image bound (Some b.1)
+      met_some e = record { value = rw e at met_value; image = rw e at k.image }
+
+    -- a turn, at what the position stands for
+    module _ (h : i < length (candidates ds)) {r : Option Decl} (v : Candidate ds i r) where
+      met_turn : (best' : Option (Bor Name × Decl)) {t : Bool}
+          → t ≡ nearer_decl (named bound) (option_map (λ b. decl_of b.1) best) (option_map decl_of r)
+          → option_map (λ b. decl_of b.1) best' ≡ cond t (option_map decl_of r) (option_map (λ b. decl_of b.1) best)
+          → ahead ds (named bound) (option_map (λ b. decl_of b.1) best') (i + 1) ≡ following name_of before (named bound) (standing_of ds)
+      met_turn best' q e =
+          sym (ahead_turn ds (named bound) (option_map (λ b. decl_of b.1) best) (option_map decl_of r) i h v.value ∙ rw (← q, ← e) refl) ∙ k.next
+
+      pub met_skipped : r ≡ None → Met ds bound best (i + 1)
+      unfolding nearer_decl
+      met_skipped e = record { next = met_turn best {t = false} (rw e refl) refl; image = k.image; name = k.name }
+
+      -- t: the declaration takes the place of the best
+      module _ {d : Decl} (e : r ≡ Some d) {b : Option Name} (u : b ≡ named bound) {t : Bool} where
+        told : {n : Name} → n ≡ (decl_of d).name → t ≡ nearer_name b (name_with best) n
+            → t ≡ nearer_decl (named bound) (option_map (λ b. decl_of b.1) best) (option_map decl_of r)
+        told m q = rw (e, ← u) (q ∙ by_names b best k.name d m)
+
+        pub met_taken : {n : Bor Name} → n.now ≡ (decl_of d).name → t ≡ nearer_name b (name_with best) n.now → t ≡ true → Met ds bound (Some (n, d)) (i + 1)
+        met_taken {n} m q w = record { next = met_turn (Some (n, d)) (told m q) (rw (w, e) refl); image = rw e at v.image; name = m }
+
+        pub met_left : {n : Name} → n ≡ (decl_of d).name → t ≡ nearer_name b (name_with best) n → t ≡ false → Met ds bound best (i + 1)
+        met_left m q w = record { next = met_turn best (told m q) (rw w refl); image = k.image; name = k.name }
 
 -- ---- whether n has each name, from the front
 
@@ -243,7 +262,7 @@ pub ruleset backward = (left_start, left_end, left_skips, left_other, left_found
 
 pub ruleset agreeing = (agree_start, agree_end, agree_more, agree_not, other_length)
 
-pub ruleset forward = (met_start, met_taken, met_left, met_end)
+pub ruleset forward = (met_start, met_none, met_some, met_skipped, met_taken, met_left)
 
 pub ruleset covering = (covering_start, covering_end, covering_not, covering_turn)
 

@@ -1,18 +1,18 @@
 -- Whether a declaration more takes the place of the best so far, by the tests of the code. Assumes nothing.
-use mathlib.Core.Path.{◌≡◌, refl, sym}
+use mathlib.Core.Path.{◌≡◌, refl, sym, ap}
 use mathlib.Core.Bool.{Bool, true, false}
-use Rattle.std.specs.Prelude.{Option, None, Some}
+use Rattle.std.specs.Prelude.{Option, None, Some, IfSome}
+use Rattle.std.specs.Borrow.{Bor}
 use Rattle.std.specs.Option.{option_map}
 use Rattle.std.specs.Ordering.{is_lt, is_some_and, nat_cmp}
 use Rattle.std.specs.Cmp.Lexicographic.{slice_partial_cmp}
 use Rattle.maps.specs.Orders.{before}
 use Rattle.maps.proofs.Names.{slice_before}
-use Rattle.maps.specs.Walk.{past}
+use Rattle.maps.specs.Walk.{past, nearer}
 use Rattle.image.specs.Schema.{Name}
 use Rattle.parts.specs.Handles.{decl_of}
 use Rattle.parts.specs.declared.handles.Decl.{Decl}
-use Rattle.rules.specs.Survivors.{name_of}
-use Rattle.survivors.specs.Answers.{named, nearer_decl}
+use Rattle.survivors.specs.Answers.{named, name_with, nearer_name, nearer_decl}
 use Rattle.survivors.proofs.Laws.Better.{nearer_first, nearer_past, nearer_before}
 
 module _ {r : Option Decl} where
@@ -33,37 +33,28 @@ module _ {r : Option Decl} where
 pub names_before : {a b x y : Name} → x ≡ a → y ≡ b → {t : Bool} → t ≡ is_some_and is_lt (slice_partial_cmp (λ i j. Some (nat_cmp i j)) x y) → t ≡ before a b
 names_before {a} {b} e f p = rw (← e, ← f) (slice_before _ _ p)
 
--- a name past that of a declaration
-pub past_none : (k : Name) {r : Option Decl} → r ≡ None → true ≡ past before (named r) k
-unfolding past
-past_none k e = rw (named_none e)
+-- a name against the best so far
+module _ (after : Option Name) (k : Name) {best : Option (Bor Name × Decl)} where
+  pub name_first : best ≡ None → nearer_name after (name_with best) k ≡ past before after k
+  unfolding nearer_name
+  name_first f = sym (nearer_first (λ n. n) before _ _ _ refl (ap name_with f))
 
-pub past_body : (k : Name) {r : Option Decl} {d : Decl} → r ≡ Some d → {t : Bool} → t ≡ before (decl_of d).name k → t ≡ past before (named r) k
-unfolding past
-past_body k e p = rw (named_body e) p
+  module _ {b : Bor Name × Decl} (f : best ≡ Some b) where
+    pub name_past : before b.0.now k ≡ false → nearer_name after (name_with best) k ≡ past before after k
+    unfolding nearer_name
+    name_past w = sym (nearer_past (λ n. n) before _ _ _ refl (ap name_with f) w)
 
-module _ (after best found : Option Decl) where
-  pub nearer_skips : found ≡ None → nearer_decl (named after) (option_map decl_of best) (option_map decl_of found) ≡ false
-  unfolding nearer_decl
-  nearer_skips e = rw (decl_none e)
+    pub name_before : before b.0.now k ≡ true → nearer_name after (name_with best) k ≡ false
+    unfolding nearer_name
+    name_before w = sym (nearer_before (λ n. n) before _ _ _ (ap name_with f) w)
 
-  module _ {d : Decl} (e : found ≡ Some d) where
-    pub nearer_none : best ≡ None → nearer_decl (named after) (option_map decl_of best) (option_map decl_of found) ≡ past before (named after) (decl_of d).name
-    unfolding nearer_decl
-    nearer_none f = rw (decl_body e) (sym (nearer_first name_of before _ _ _ refl (decl_none f)))
+-- the best declaration so far, with its name
+abbrev pub Named : Option (Bor Name × Decl) → Type 0
+Named best = IfSome best (λ b. b.0.now ≡ (decl_of b.1).name)
 
-    module _ {least : Decl} (f : best ≡ Some least) where
-      pub nearer_told : before (decl_of least).name (decl_of d).name ≡ false
-          → nearer_decl (named after) (option_map decl_of best) (option_map decl_of found) ≡ past before (named after) (decl_of d).name
-      unfolding nearer_decl
-      nearer_told w = rw (decl_body e) (sym (nearer_past name_of before _ _ _ refl (decl_body f) w))
-
-      pub nearer_not : before (decl_of least).name (decl_of d).name ≡ true
-          → nearer_decl (named after) (option_map decl_of best) (option_map decl_of found) ≡ false
-      unfolding nearer_decl
-      nearer_not w = rw (decl_body e) (sym (nearer_before name_of before _ _ _ (decl_body f) w))
-
--- what the code needs
-pub ruleset passed = (past_none, past_body)
-
-pub ruleset nearest = (nearer_told, nearer_not, nearer_skips, nearer_none)
+-- the same of the declarations
+pub by_names : (after : Option Name) (best : Option (Bor Name × Decl)) → Named best → (d : Decl) {k : Name} → k ≡ (decl_of d).name
+    → nearer_name after (name_with best) k ≡ nearer_decl after (option_map (λ b. decl_of b.1) best) (Some (decl_of d))
+unfolding nearer_name nearer_decl nearer
+by_names after None n d e = rw e refl
+by_names after (Some b) n d e = rw (e, n) refl

@@ -1,6 +1,7 @@
--- The items that are left are well formed; one of them has the ordinal if one stands under it.
-use Rattle.survivors.proofs.Laws.Passed.{Rest, Having}
+-- One of the items that are left has the ordinal if one stands under it.
+use Rattle.survivors.proofs.Laws.Passed.{Having}
 use Rattle.survivors.proofs.items.has_item.Given as goal
 
-abbrev pub invariant-loop : goal.invariant-loop
-invariant-loop l = Rest l.items l.counter l.at × Having l.items l.ordinal l.counter l.at
+abbrev pub invariant-loop-item : goal.invariant-loop-item
+invariant-loop-item l =
+    (goal.iterator-loop-item).can_next l.item-iterator × (goal.iterator-loop-item).is_finite l.item-iterator × Having l.items l.ordinal l.item-iterator

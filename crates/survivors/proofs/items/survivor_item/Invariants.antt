@@ -1,6 +1,7 @@
--- The items that are left are well formed; what was found so far, and they, come to the item that stands.
-use Rattle.survivors.proofs.Laws.Passed.{Rest, Found}
+-- What was found so far, and the items that are left, come to the item that stands.
+use Rattle.survivors.proofs.Laws.Passed.{Found}
 use Rattle.survivors.proofs.items.survivor_item.Given as goal
 
-abbrev pub invariant-loop : goal.invariant-loop
-invariant-loop l = Rest l.items l.counter l.at × Found l.items l.ordinal l.found l.counter l.at
+abbrev pub invariant-loop-item : goal.invariant-loop-item
+invariant-loop-item l =
+    (goal.iterator-loop-item).can_next l.item-iterator × (goal.iterator-loop-item).is_finite l.item-iterator × Found l.items l.ordinal l.found l.item-iterator
