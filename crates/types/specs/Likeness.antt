@@ -1,5 +1,5 @@
 -- When two sub-bytes are the same, and what the comparison of two types answers. Assumes nothing.
-use Rattle.std.specs.Prelude.{◌≡◌, Bool, ◌&&◌, List, ℕ, eqb}
+use Rattle.std.specs.Prelude.{◌≡◌, Bool, ◌&&◌, List, ℕ, eqb, Option, None, Some, IfSome}
 use Rattle.image.specs.Schema.{Label}
 use Rattle.parts.specs.Promise.{type_end}
 use Rattle.parts.specs.declared.handles.TypeRef.{TypeRef}
@@ -27,21 +27,23 @@ joint alike alike = alike
 joint alike different = different
 joint different b = different
 
-abbrev pub compared : Likeness → ℕ → ℕ → Compared
-compared likeness p q = record { likeness = likeness; old_end = p; new_end = q }
-
 -- after a part, the rest: r is both together
 pub record After (before : Definition) (rest r : Compared) : Type 0 where
   pub likeness : likeness_of r.likeness ≡ joint before (likeness_of rest.likeness)
   pub old_end : r.old_end ≡ rest.old_end
   pub new_end : r.new_end ≡ rest.new_end
 
+-- what a comparison comes to: different, if there is nothing to go on with
+abbrev pub answer_of : Option Compared → Definition
+answer_of None = different
+answer_of (Some c) = likeness_of c.likeness
+
 -- of the types at i in s and at j in t
-pub record ComparedAt (s : List ℕ) (i : ℕ) (t : List ℕ) (j : ℕ) (r : Compared) : Type 0 where
-  pub answer : likeness_of r.likeness ≡ likeness (type_in s i) (type_in t j)
+pub record ComparedAt (s : List ℕ) (i : ℕ) (t : List ℕ) (j : ℕ) (r : Option Compared) : Type 0 where
+  pub answer : answer_of r ≡ likeness (type_in s i) (type_in t j)
   -- types that are not different come with the places after them
-  pub ends : (likeness_of r.likeness ≡ different → ⊥) → (r.old_end ≡ type_end s i) × (r.new_end ≡ type_end t j)
+  pub ends : IfSome r (λ c. (c.old_end ≡ type_end s i) × (c.new_end ≡ type_end t j))
 
 -- the same of two types by their handles
-abbrev pub Compares : TypeRef → TypeRef → Compared → Type 0
+abbrev pub Compares : TypeRef → TypeRef → Option Compared → Type 0
 Compares t u r = ComparedAt t.image.bytes.now t.at u.image.bytes.now u.at r

@@ -16,7 +16,7 @@ use crate::nodes::inner_types;
 use parts::handles::{Image, TypeRef};
 use parts::tags::Tag;
 
-// How alike two types are, and the places after them; if they are different, the places say nothing.
+// Two types that are not different: how alike they are, and the places after them.
 #[derive(Clone, Copy)]
 struct Compared {
     likeness: Likeness,
@@ -75,16 +75,12 @@ fn after(before: Likeness, rest: Compared) -> Compared
 }
 
 // Two types, walked together: it calls itself on inner types, each from the place where the one before it ended, with a node less on a path.
-// It goes on past vectors, and ends where the types are different.
-fn compare_nodes(a: TypeRef<'_>, b: TypeRef<'_>) -> Compared
+// It goes on past vectors, and ends with nothing where the types are different.
+fn compare_nodes(a: TypeRef<'_>, b: TypeRef<'_>) -> Option<Compared>
     ensures { Compares a.entry b.entry result }
 {
     if !labels_equal(a, b) {
-        return Compared {
-            likeness: Likeness::Different,
-            old_end: a.at,
-            new_end: b.at,
-        };
+        return None;
     }
     let tag = a.tag();
     let node = of_tag(tag);
@@ -92,30 +88,30 @@ fn compare_nodes(a: TypeRef<'_>, b: TypeRef<'_>) -> Compared
     let p = a.label_end();
     let q = b.label_end();
     if inner == 0 {
-        return Compared {
+        return Some(Compared {
             likeness: node,
             old_end: p,
             new_end: q,
-        };
+        });
     }
-    let first = after(node, compare_nodes(a.inner_at(p), b.inner_at(q)));
+    let head = compare_nodes(a.inner_at(p), b.inner_at(q))?;
+    let first = after(node, head);
     if inner == 1 {
-        return first;
+        return Some(first);
     }
-    if first.likeness == Likeness::Different {
-        return first;
-    }
-    after(
-        first.likeness,
-        compare_nodes(a.inner_at(first.old_end), b.inner_at(first.new_end)),
-    )
+    let rest = compare_nodes(a.inner_at(first.old_end), b.inner_at(first.new_end))?;
+    Some(after(first.likeness, rest))
 }
 
 // How alike two types are: named types by their names, each from its own registry.
+#[tactic(auto, unfolding(crate::specs::Likeness::likeness_of))]
 pub fn types_likeness(a: TypeRef<'_>, b: TypeRef<'_>) -> Likeness
     ensures { likeness_of result ≡ likeness (resolved a.entry) (resolved b.entry) }
 {
-    compare_nodes(a, b).likeness
+    match compare_nodes(a, b) {
+        Some(compared) => compared.likeness,
+        None => Likeness::Different,
+    }
 }
 
 // How the third answer is read. A reading more is a case more.

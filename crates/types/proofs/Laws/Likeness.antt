@@ -4,9 +4,7 @@ use mathlib.Core.Bool.{Bool, true, false, ◌&&◌, ◌||◌}
 use Rattle.image.specs.Schema.{Label, Ty, leaf, one, two}
 use Rattle.rules.specs.Types.{vector, same_label, same_tree, holds_vector}
 use Rattle.rules.specs.Mended.{Likeness, equal, alike, different, equal_trees, likeness_by, likeness}
-use Rattle.types.specs.Likeness.{likeness_of, joint}
-use Rattle.types.specs.declared.likeness.Likeness.{Likeness as Answer}
-use Rattle.types.specs.declared.likeness.Likeness.TheVariants.{Equal, Alike, Different}
+use Rattle.types.specs.Likeness.{joint}
 
 -- ---- parts together
 
@@ -15,17 +13,6 @@ unfolding joint
 joint_different equal = refl
 joint_different alike = refl
 joint_different different = refl
-
--- the code's word for it
-pub is_different : {l : Answer} → l ≡ Different → likeness_of l ≡ different
-unfolding likeness_of
-is_different e = rw e
-
-pub goes_on : (l : Answer) → (l ≡ Different → ⊥) → likeness_of l ≡ different → ⊥
-unfolding likeness_of
-goes_on Equal n e = let z : ⊥ = cc in z
-goes_on Alike n e = let z : ⊥ = cc in z
-goes_on Different n e = n refl
 
 joint_assoc : (a b c : Likeness) → joint a (joint b c) ≡ joint (joint a b) c
 unfolding joint

@@ -2,6 +2,7 @@
 use mathlib.Core.Path.{◌≡◌, refl, sym, ap, ◌∙◌}
 use mathlib.Core.Bool.{Bool, true, false}
 use mathlib.Core.List.{List}
+use Rattle.std.specs.Prelude.{Option, None, Some}
 use Prim.Native.Nat.{ℕ, zero, suc}
 use native.Mathlib.Omega.{arith}
 use Rattle.image.specs.Schema.{Label, Ty, leaf, one, two}
@@ -16,12 +17,11 @@ use Rattle.parts.specs.declared.handles.Image.{Image}
 use Rattle.parts.specs.declared.handles.TypeRef.{TypeRef}
 use Rattle.types.specs.Nodes.{Leaf, One, Two, Node, Inner}
 use Rattle.types.specs.Resolved.{node_in, type_in}
-use Rattle.types.specs.Likeness.{likeness_of, joint, compared, After, ComparedAt, Compares}
+use Rattle.types.specs.Likeness.{likeness_of, answer_of, joint, After, ComparedAt, Compares}
 use Rattle.types.specs.declared.equal.Compared.{Compared}
 use Rattle.types.specs.declared.likeness.Likeness.{Likeness}
-use Rattle.types.specs.declared.likeness.Likeness.TheVariants.{Different}
 use Rattle.types.proofs.Laws.Labels.{same_tags}
-use Rattle.types.proofs.Laws.Likeness.{label_likeness, joint_different, is_different, goes_on, leaf_likeness, one_likeness, two_likeness}
+use Rattle.types.proofs.Laws.Likeness.{label_likeness, joint_different, leaf_likeness, one_likeness, two_likeness}
 
 -- the node of a type whose tag is known
 pub node : {tag inner : ℕ} → Inner tag inner → {left : ℕ} {s : List ℕ} {at : ℕ} → TypeHere left s at → (label_in s at).tag ≡ tag → Node left s at inner
@@ -59,11 +59,11 @@ root_is left s at h =
 
 -- r is whether the labels are the same
 module _ (s : List ℕ) (i : ℕ) (t : List ℕ) (j : ℕ) {r : Bool} (e : r ≡ same_label (node_in s i) (node_in t j)) where
-  pub labels_differ : r ≡ false → {old new : ℕ} → TypeHere old s i → TypeHere new t j → {p q : ℕ} → ComparedAt s i t j (compared Different p q)
-  unfolding likeness_of likeness likeness_by
+  pub labels_differ : r ≡ false → {old new : ℕ} → TypeHere old s i → TypeHere new t j → ComparedAt s i t j None
+  unfolding likeness likeness_by
   labels_differ f {old} {new} g h =
       let d : equal_trees (type_in s i) (type_in t j) ≡ false = roots_differ _ _ (tree_in s i) (tree_in t j) (rw (root_is old s i g, root_is new t j h, ← e) f) in
-      record { answer = rw d; ends = λ n. absurd (n refl) }
+      record { answer = rw d; ends = tt }
 
   module _ (f : r ≡ true) where
     pub tags_same : (label_in t j).tag ≡ (label_in s i).tag
@@ -76,57 +76,78 @@ module _ (s : List ℕ) (i : ℕ) (t : List ℕ) (j : ℕ) {r : Bool} (e : r ≡
       unfolding label_likeness
       node_likeness = g ∙ rw (← e, f, tag_resolved (schema_of s).registry (label_in s i), y)
 
-      pub leaves : Leaf s i → Leaf t j → ComparedAt s i t j (compared n p q)
+      pub leaves : Leaf s i → Leaf t j → ComparedAt s i t j (Some (record { likeness = n; old_end = p; new_end = q }))
       unfolding resolve
       leaves a b = record {
         answer = rw (a.tree, b.tree) (node_likeness ∙ sym (leaf_likeness _ _));
-        ends = λ d. (k ∙ sym a.end, m ∙ sym b.end);
+        ends = (k ∙ sym a.end, m ∙ sym b.end);
       }
 
-      -- o is how the first inner types compare, and o' that after the nodes
-      module _ {o : Compared} (c : ComparedAt s p t q o) {o' : Compared} (w : After (likeness_of n) o o') where
-        first_likeness : likeness_of o'.likeness
-            ≡ joint (label_likeness (node_in s i) (node_in t j)) (likeness (type_in s (label_end s i)) (type_in t (label_end t j)))
-        first_likeness = w.likeness ∙ rw (node_likeness, ← k, ← m, c.answer)
+      -- h is how the first inner types compare
+      module _ {h : Option Compared} (c : ComparedAt s p t q h) where
+        module _ (u : h ≡ None) where
+          lost : likeness (type_in s (label_end s i)) (type_in t (label_end t j)) ≡ different
+          lost = sym (rw (k, m) at c.answer) ∙ ap answer_of u
 
-        first_ends : (likeness_of o'.likeness ≡ different → ⊥)
-            → (o'.old_end ≡ type_end s (label_end s i)) × (o'.new_end ≡ type_end t (label_end t j))
-        first_ends d =
-            let v = c.ends (λ z. d (w.likeness ∙ ap (joint (likeness_of n)) z ∙ joint_different (likeness_of n))) in
-            (w.old_end ∙ v.0 ∙ ap (type_end s) k, w.new_end ∙ v.1 ∙ ap (type_end t) m)
-
-        pub ones : One s i → One t j → ComparedAt s i t j o'
-        unfolding resolve
-        ones a b = record {
-          answer = rw (a.tree, b.tree) (first_likeness ∙ sym (one_likeness _ _ _ _));
-          ends = λ d. ((first_ends d).0 ∙ sym a.end, (first_ends d).1 ∙ sym b.end);
-        }
-
-        pub first_differs : Two s i → Two t j → o'.likeness ≡ Different → ComparedAt s i t j o'
-        unfolding resolve joint
-        first_differs a b z =
-            let d = is_different z in
-            record { answer = rw (a.tree, b.tree) (d ∙ sym (two_likeness _ _ _ _ _ _ ∙ rw (← first_likeness, d))); ends = λ v. absurd (v d) }
-
-        -- it goes on
-        module _ (z : o'.likeness ≡ Different → ⊥) where
-          pub second_places : (o'.old_end ≡ type_end s (label_end s i)) × (o'.new_end ≡ type_end t (label_end t j))
-          second_places = first_ends (goes_on _ z)
-
-          -- and the second ones
-          pub twos : Two s i → Two t j → {o₂ r₂ : Compared} → ComparedAt s o'.old_end t o'.new_end o₂
-              → After (likeness_of o'.likeness) o₂ r₂ → ComparedAt s i t j r₂
+          one_lost : One s i → One t j → ComparedAt s i t j None
           unfolding resolve
-          twos a b {o₂} {r₂} c₂ w₂ =
-              let v = second_places in
-              let c₃ = (rw (v.0, v.1) at c₂) in
-              record {
-                answer = rw (a.tree, b.tree) (w₂.likeness ∙ (rw (first_likeness, c₃.answer) (sym (two_likeness _ _ _ _ _ _))));
-                ends = λ d.
-                    let x₂ = c₃.ends (λ y₂. d (w₂.likeness ∙ ap (joint (likeness_of o'.likeness)) y₂ ∙ joint_different (likeness_of o'.likeness))) in
-                    (w₂.old_end ∙ x₂.0 ∙ sym a.end, w₂.new_end ∙ x₂.1 ∙ sym b.end);
-              }
+          one_lost a b = record {
+            answer = rw (a.tree, b.tree) (sym (one_likeness _ _ _ _ ∙ rw lost (joint_different _)));
+            ends = tt;
+          }
+
+          two_lost : Two s i → Two t j → ComparedAt s i t j None
+          unfolding resolve joint
+          two_lost a b = record {
+            answer = rw (a.tree, b.tree) (sym (two_likeness _ _ _ _ _ _ ∙ ap (λ l. joint l (likeness (type_in s (type_end s (label_end s i))) (type_in t (type_end t (label_end t j))))) (ap (joint (label_likeness (node_in s i) (node_in t j))) lost ∙ joint_different _)));
+            ends = tt;
+          }
+
+          pub first_lost : {inner old new : ℕ} → Node old s i inner → Node new t j inner → (inner ≡ 0 → ⊥) → ComparedAt s i t j None
+          first_lost {inner} a b f =
+              by_count inner (λ z. absurd (f z)) (λ z. one_lost (a.single z) (b.single z)) (λ x₁ y₁. two_lost (a.pair x₁ y₁) (b.pair x₁ y₁))
+
+        -- they are not different, and o is both together
+        module _ {d : Compared} (u : h ≡ Some d) {o : Compared} (w : After (likeness_of n) d o) where
+          found : (likeness_of d.likeness ≡ likeness (type_in s (label_end s i)) (type_in t (label_end t j)))
+              × (d.old_end ≡ type_end s (label_end s i)) × (d.new_end ≡ type_end t (label_end t j))
+          found = let g = (rw (k, m, u) at c) in (g.answer, g.ends.0, g.ends.1)
+
+          first_likeness : likeness_of o.likeness
+              ≡ joint (label_likeness (node_in s i) (node_in t j)) (likeness (type_in s (label_end s i)) (type_in t (label_end t j)))
+          first_likeness = w.likeness ∙ rw (node_likeness, found.0)
+
+          pub second_places : (o.old_end ≡ type_end s (label_end s i)) × (o.new_end ≡ type_end t (label_end t j))
+          second_places = (w.old_end ∙ found.1, w.new_end ∙ found.2)
+
+          pub ones : One s i → One t j → ComparedAt s i t j (Some o)
+          unfolding resolve
+          ones a b = record {
+            answer = rw (a.tree, b.tree) (first_likeness ∙ sym (one_likeness _ _ _ _));
+            ends = (second_places.0 ∙ sym a.end, second_places.1 ∙ sym b.end);
+          }
+
+          -- h₂ is how the second ones compare
+          module _ (a : Two s i) (b : Two t j) {h₂ : Option Compared} (c₂ : ComparedAt s o.old_end t o.new_end h₂) where
+            second : ComparedAt s (type_end s (label_end s i)) t (type_end t (label_end t j)) h₂
+            second = rw (second_places.0, second_places.1) at c₂
+
+            pub second_lost : h₂ ≡ None → ComparedAt s i t j None
+            unfolding resolve
+            second_lost e₂ = record {
+              answer = rw (a.tree, b.tree) (sym (two_likeness _ _ _ _ _ _ ∙ ap (joint _) (sym second.answer ∙ ap answer_of e₂) ∙ joint_different _));
+              ends = tt;
+            }
+
+            pub twos : {d₂ : Compared} → h₂ ≡ Some d₂ → {r : Compared} → After (likeness_of o.likeness) d₂ r → ComparedAt s i t j (Some r)
+            unfolding resolve
+            twos e₂ {r} w₂ =
+                let g = (rw e₂ at second) in
+                record {
+                  answer = rw (a.tree, b.tree) (w₂.likeness ∙ (rw (first_likeness, g.answer) (sym (two_likeness _ _ _ _ _ _))));
+                  ends = (w₂.old_end ∙ g.ends.0 ∙ sym a.end, w₂.new_end ∙ g.ends.1 ∙ sym b.end);
+                }
 
 -- two inner types at the places that they were read from
-pub placed : {a b : Image} {m n i j : ℕ} {t u : TypeRef} {r : Compared} → TypeAt a m i t → TypeAt b n j u → Compares t u r → ComparedAt a.bytes.now i b.bytes.now j r
+pub placed : {a b : Image} {m n i j : ℕ} {t u : TypeRef} {r : Option Compared} → TypeAt a m i t → TypeAt b n j u → Compares t u r → ComparedAt a.bytes.now i b.bytes.now j r
 placed x y c = rw (x.image, x.at, y.image, y.at) at c
