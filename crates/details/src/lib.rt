@@ -112,10 +112,7 @@ fn put_verb(w: &mut Writer<'_>, verb: Verb)
 pub fn put_detail(w: &mut Writer<'_>, detail: Detail<'_>)
     ensures { Adds w.old (detail_text detail.entry) w.new }
 {
-    let subject = detail.subject;
-    let verb = detail.verb;
-    let values = detail.values;
-    put_subject(w, subject);
-    put_verb(w, verb);
-    put_values(w, values);
+    put_subject(w, detail.subject);
+    put_verb(w, detail.verb);
+    put_values(w, detail.values);
 }

@@ -33,9 +33,8 @@ fn put_bool(w: &mut Writer<'_>, value: bool)
 fn put_width(w: &mut Writer<'_>, value: Option<u8>)
     ensures { Adds w.old (show_width value) w.new }
 {
-    match value {
-        Some(n) => w.number(n as u64),
-        None => {}
+    if let Some(n) = value {
+        w.number(n as u64);
     }
 }
 
@@ -81,8 +80,7 @@ fn put_from_to(w: &mut Writer<'_>, old: Value<'_>, new: Value<'_>)
 pub fn put_values(w: &mut Writer<'_>, values: Option<(Value<'_>, Value<'_>)>)
     ensures { Adds w.old (values_text values.entry) w.new }
 {
-    match values {
-        None => {}
-        Some((old, new)) => put_from_to(w, old, new),
+    if let Some((old, new)) = values {
+        put_from_to(w, old, new);
     }
 }

@@ -84,7 +84,7 @@ module _ (w : Writer) (xs : List ℕ) (small : w.at < 2 ^ 64) (short : length w.
           rw end (past (omega (arith, leb-false w.at (length w.out.now) t)))
 
 -- a text that is written into the part after the lines, and counted
-lent : (r : Report) (xs : List ℕ) → r.length < 2 ^ 64 → length r.out.now < 2 ^ 64
+pub lent : (r : Report) (xs : List ℕ) → r.length < 2 ^ 64 → length r.out.now < 2 ^ 64
     → {done : ℕ} → done ≡ min r.length (length r.out.now) → {n : ℕ} {ys : List ℕ} → Fills (part r.out.now done) xs n ys
     → with_text r xs ≡ record r { length = min (r.length + n) (2 ^ 64 - 1); out = record r.out { now = with_part r.out.now done ys } }
 unfolding with_text
@@ -95,17 +95,12 @@ lent r xs small short {done} e {n} {ys} f =
     ap (λ (w : Writer). record r { length = w.at; out = w.out }) (cut (writer_of r) xs small short e)
     ∙ (λ i. record r { length = at i; out = record r.out { now = bytes i } })
 
-module _ (r : Report) (small : r.length < 2 ^ 64) (short : length r.out.now < 2 ^ 64)
-    {done : ℕ} (e : done ≡ min r.length (length r.out.now)) {n : ℕ} {ys : List ℕ} {l : ℕ} (f : l ≡ min (r.length + n) (2 ^ 64 - 1)) where
-  -- the line of a change, which is counted too
-  pub emitted : (c : Change) → Fills (part r.out.now done) (change_line c) n ys → {kind : ℕ} {weight : Bump} → kind ≡ c.kind → weight ≡ bump_for c.bump
-      → {t : Tally} → t ≡ with_change r.tally kind weight
-      → Reports r (c ∷ []) (record r { out = record r.out { now = with_part r.out.now done ys }; length = l; tally = t })
-  unfolding reported tally_from pass tallied lines_of flat_map
-  emitted c w k b q =
-      let one = lent r (change_line c) small short e w in
-      record { is = rw (append-nil (change_line c), one, f, q, k, b) refl }
+-- the line of a change, which is counted too
+pub emitted : {r a : Report} (c : Change) → a ≡ with_text r (change_line c) → {weight : Bump} → weight ≡ bump_for c.bump
+    → {t : Tally} → t ≡ with_change a.tally c.kind weight → Reports r (c ∷ []) (record a { tally = t })
+unfolding reported with_text tally_from pass tallied lines_of flat_map
+emitted {r} c w b q = record { is = rw (append-nil (change_line c), w, q, b, w) refl }
 
-  -- the last line
-  pub ended : Fills (part r.out.now done) (last_line_of r.tally) n ys → Ends r (record r { out = record r.out { now = with_part r.out.now done ys }; length = l })
-  ended w = record { is = rw f (sym (lent r (last_line_of r.tally) small short e w)) }
+-- the last line
+pub ended : {r a : Report} → a ≡ with_text r (last_line_of r.tally) → Ends r a
+ended w = record { is = w }

@@ -7,9 +7,9 @@ mod words;
 ghost use Rattle.std.specs.Prelude.{◌≡◌, [], ◌∷◌};
 ghost use Rattle.tally.specs.Tallies.{no_change};
 ghost use Rattle.lines.specs.Sites.{change_of};
-ghost use Rattle.lines.specs.Reports.{Reports, Ends};
+ghost use Rattle.lines.specs.Reports.{buffer_of, with_text, Reports, Ends};
 
-use crate::reporting::{line_into, result_into};
+use crate::reporting::{Line, line_into};
 use details::{Detail, Scope};
 use tally::{Bump, ChangeKind, Tally};
 use types::Reading;
@@ -37,8 +37,8 @@ pub struct Report<'a> {
 impl Report<'_> {
     // Of no change, from the start of a buffer.
     pub fn new(out: &mut [u8], reading: Reading) -> Report<'_>
-        ensures same_reference { result.out.ghost_name ≡ out.entry.ghost_name }
-        ensures bytes { result.out.now ≡ out.old }
+        ensures same_reference { (buffer_of result).ghost_name ≡ out.entry.ghost_name }
+        ensures bytes { (buffer_of result).now ≡ out.old }
         ensures start { result.length ≡ 0 }
         ensures tally { result.tally ≡ no_change }
         ensures reading { result.reading ≡ reading }
@@ -55,9 +55,7 @@ impl Report<'_> {
     pub fn emit(&mut self, site: Site<'_>)
         ensures { Reports self.old (change_of site.entry ∷ []) self.new }
     {
-        let done = self.length.min(self.out.len());
-        let n = line_into(&mut self.out[done..], site);
-        self.length = self.length.saturating_add(n);
+        self.put(site);
         self.tally = self.tally.with_change(site.kind, site.bump);
     }
 
@@ -65,9 +63,15 @@ impl Report<'_> {
     pub fn put_last_line(&mut self)
         ensures { Ends self.old self.new }
     {
-        let at = self.length;
-        let done = at.min(self.out.len());
-        let n = result_into(&mut self.out[done..], self.tally);
-        self.length = at.saturating_add(n);
+        self.put(self.tally);
+    }
+
+    // A line after the lines so far: into the part of the buffer after them, and counted.
+    fn put<L: Line>(&mut self, line: L)
+        ensures { self.new ≡ with_text self.old (L.line_of line) }
+    {
+        let done = self.length.min(self.out.len());
+        let n = line_into(&mut self.out[done..], line);
+        self.length = self.length.saturating_add(n);
     }
 }

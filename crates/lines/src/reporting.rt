@@ -1,4 +1,5 @@
-// The line of a change, and the last line.
+// What stands on a line: a change, or what the report says last.
+ghost use Rattle.std.specs.Prelude.{List, ℕ};
 ghost use Rattle.rules.specs.Report.{change_line};
 ghost use Rattle.text.specs.Writers.{Adds, Fills};
 ghost use Rattle.lines.specs.Sites.{change_of};
@@ -11,49 +12,51 @@ use details::put_detail;
 use tally::Tally;
 use text::Writer;
 
-// The line of a change.
-fn put_line(w: &mut Writer<'_>, site: Site<'_>)
-    ensures { Adds w.old (change_line (change_of site.entry)) w.new }
-{
-    put_change(w, site.kind);
-    w.byte(b';');
-    put_bump(w, site.bump);
-    w.byte(b';');
-    put_declaration(w, site.scope);
-    w.byte(b';');
-    put_field(w, site.field);
-    w.byte(b';');
-    put_detail(w, site.detail);
-    w.byte(b'\n');
+pub(crate) trait Line: Copy {
+    ghost line_of: { Self → List ℕ };
+
+    fn put(self, w: &mut Writer<'_>)
+        ensures { Adds w.old (line_of self) w.new };
 }
 
-// The same from the start of a buffer: how long it is.
-pub(crate) fn line_into(out: &mut [u8], site: Site<'_>) -> usize
-    ensures { Fills out.old (change_line (change_of site.entry)) result out.new }
-{
-    let mut w = Writer::new(out);
-    put_line(&mut w, site);
-    w.at
+// The line of a change.
+impl Line for Site<'_> {
+    ghost line_of = { λ site. change_line (change_of site) };
+
+    fn put(self, w: &mut Writer<'_>) {
+        put_change(w, self.kind);
+        w.byte(b';');
+        put_bump(w, self.bump);
+        w.byte(b';');
+        put_declaration(w, self.scope);
+        w.byte(b';');
+        put_field(w, self.field);
+        w.byte(b';');
+        put_detail(w, self.detail);
+        w.byte(b'\n');
+    }
 }
 
 // The last line.
-fn put_result(w: &mut Writer<'_>, t: Tally)
-    ensures { Adds w.old (last_line_of t) w.new }
-{
-    let bump = t.bump;
-    put_compat(w, bump.result());
-    w.byte(b';');
-    put_bump(w, bump);
-    w.byte(b';');
-    w.number(t.changes as u64);
-    w.byte(b'\n');
+impl Line for Tally {
+    ghost line_of = { last_line_of };
+
+    fn put(self, w: &mut Writer<'_>) {
+        let bump = self.bump;
+        put_compat(w, bump.result());
+        w.byte(b';');
+        put_bump(w, bump);
+        w.byte(b';');
+        w.number(self.changes as u64);
+        w.byte(b'\n');
+    }
 }
 
-// The same from the start of a buffer: how long it is.
-pub(crate) fn result_into(out: &mut [u8], t: Tally) -> usize
-    ensures { Fills out.old (last_line_of t) result out.new }
+// A line from the start of a buffer: how long it is.
+pub(crate) fn line_into<L: Line>(out: &mut [u8], line: L) -> usize
+    ensures { Fills out.old (L.line_of line) result out.new }
 {
     let mut w = Writer::new(out);
-    put_result(&mut w, t);
+    line.put(&mut w);
     w.at
 }

@@ -17,27 +17,29 @@ pub struct Reader<'a> {
     pub at: usize,
 }
 
-// A reader at the start of a body.
-pub fn new<'a>(src: &'a [u8]) -> Reader<'a>
-    ensures { (result.src ≡ src.entry) × (result.at ≡ 0) }
-{
-    Reader { src, at: 0 }
-}
+impl<'a> Reader<'a> {
+    // At the start of a body.
+    pub fn new(src: &'a [u8]) -> Reader<'a>
+        ensures { (result.src ≡ src.entry) × (result.at ≡ 0) }
+    {
+        Reader { src, at: 0 }
+    }
 
-// The kind of the declaration that starts at the position.
-pub fn kind<'a>(r: Reader<'a>) -> Kind
-    requires { StartHere r.src.now r.at }
-    ensures { kind_number result ≡ start_kind r.entry.src.now r.entry.at }
-{
-    start_kind(r.src, r.at)
-}
+    // The kind of the declaration that starts at the position.
+    pub fn kind(self) -> Kind
+        requires { StartHere self.src.now self.at }
+        ensures { kind_number result ≡ start_kind self.entry.src.now self.entry.at }
+    {
+        start_kind(self.src, self.at)
+    }
 
-// Its name.
-pub fn name<'a>(r: Reader<'a>) -> &'a [u8]
-    requires { StartHere r.src.now r.at }
-    ensures { result.now ≡ start_name r.entry.src.now r.entry.at }
-{
-    start_name(r.src, r.at)
+    // Its name.
+    pub fn name(self) -> &'a [u8]
+        requires { StartHere self.src.now self.at }
+        ensures { result.now ≡ start_name self.entry.src.now self.entry.at }
+    {
+        start_name(self.src, self.at)
+    }
 }
 
 // The line of a body's declaration.
@@ -45,6 +47,6 @@ pub fn put_entry(w: &mut Writer<'_>, id: usize, body: &[u8])
     requires { StartHere body.now 0 }
     ensures { Adds w.old (line_of id (start_kind body.now 0) (start_name body.now 0)) w.new }
 {
-    let r = new(body);
-    put_line(w, id, kind(r), name(r));
+    let r = Reader::new(body);
+    put_line(w, id, r.kind(), r.name());
 }

@@ -11,7 +11,6 @@ ghost use Rattle.verdicts.specs.Verdicts.{answer_values, outcome_values};
 ghost use Rattle.listing.specs.Listing.{entry_in, listing, outcome, Wrote};
 
 use crate::body::put_entry;
-use parts::entries;
 use parts::handles::Image;
 use parts::refusals::Refusal;
 use parts::sides::Side;
@@ -24,7 +23,7 @@ fn put_one(w: &mut Writer<'_>, image: Image<'_>, id: usize)
     requires { id < length (schema_in image).registry }
     ensures { Adds w.old (entry_in image.entry.bytes.now id) w.new }
 {
-    let body = entries::body(image.bytes, id);
+    let body = image.body(id);
     let count = body.count;
     if count == 0 {
         return;
@@ -47,8 +46,7 @@ fn put_listing(w: &mut Writer<'_>, image: Image<'_>)
 fn measured(image: Image<'_>, room: usize) -> Result<Verdict, Fault>
     ensures { answer_values result ≡ outcome_values (outcome image.entry.bytes.now room) }
 {
-    let mut none = [0u8; 0];
-    let mut w = Writer::new(&mut none);
+    let mut w = Writer::new(&mut []);
     put_listing(&mut w, image);
     let length = w.at;
     if room < length {

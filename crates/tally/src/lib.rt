@@ -58,7 +58,7 @@ impl Bump {
 
     pub const MAJOR: Bump = Bump::Major;
 
-    // Its number, which is also the place of its word.
+    // What C is told of it.
     pub fn level(self) -> u8
         ensures is { result ≡ level_of self }
         ensures known { result ≤ 2 }
@@ -92,7 +92,7 @@ pub enum CompatResult {
 }
 
 impl CompatResult {
-    // What C is told, also the place of its word.
+    // What C is told of it.
     pub fn number(self) -> u8
         ensures is { result ≡ result_number self }
         ensures known { result < 2 }
@@ -129,12 +129,10 @@ impl Tally {
         let mut counts = self.counts;
         let place = kind.place();
         counts[place] = counts[place].saturating_add(1);
-        let largest = self.bump.larger(bump);
-        let changes = self.changes.saturating_add(1);
         Tally {
             counts,
-            bump: largest,
-            changes,
+            bump: self.bump.larger(bump),
+            changes: self.changes.saturating_add(1),
         }
     }
 }

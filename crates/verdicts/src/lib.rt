@@ -90,13 +90,8 @@ impl Values {
             2 => self.bump as u64,
             3 => self.result as u64,
             4 => self.length as u64,
-            _ => {
-                let counts = self.counts;
-                if selector < 5 + KINDS as u64 {
-                    return counts[(selector - 5) as usize];
-                }
-                0
-            }
+            _ if selector < 5 + KINDS as u64 => self.counts[(selector - 5) as usize],
+            _ => 0,
         }
     }
 }

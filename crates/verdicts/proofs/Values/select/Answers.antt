@@ -4,8 +4,8 @@ use Rattle.verdicts.specs.Verdicts.{select_in}
 use Rattle.verdicts.proofs.Selectors.{select_count, select_beyond}
 use Rattle.verdicts.proofs.Values.select.Goals as goal
 
-pub returns-then-selector : goal.returns-then-selector
-returns-then-selector c = select_count c.args.self c.args.selector (search rules)
+pub returns-in_default : goal.returns-in_default
+returns-in_default c = select_count c.args.self c.args.selector (search rules)
 
 pub returns-in-0 : goal.returns-in-0
 unfolding select_in
@@ -27,5 +27,5 @@ pub returns-in-4 : goal.returns-in-4
 unfolding select_in
 returns-in-4 c = rw c.in-4.is
 
-pub returns-else-selector : goal.returns-else-selector
-returns-else-selector c = select_beyond c.args.self c.args.selector (omega arith)
+pub returns-in_default-2 : goal.returns-in_default-2
+returns-in_default-2 c = select_beyond c.args.self c.args.selector (omega arith)
