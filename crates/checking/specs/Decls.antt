@@ -15,6 +15,11 @@ use Rattle.rules.specs.Imports.{view_with}
 use Rattle.rules.specs.Changes.{Change, change, minor, major, kind_at, DeclarationAdded, DeclarationRemoved}
 use Rattle.rules.specs.Clauses.{compare_namespaces, compare_kind, compare_decls, decl_text, decl_rules, changes}
 use Rattle.rules.specs.Verdict.{alias, is_alias, alias_pair}
+use Rattle.tally.specs.Tallies.{kind_number, bump_value}
+use Rattle.tally.specs.declared.Bump.{Bump}
+use Rattle.tally.specs.declared.ChangeKind.{ChangeKind}
+use Rattle.details.specs.Details.{verb_text}
+use Rattle.details.specs.declared.Verb.{Verb}
 use Rattle.types.specs.Readings.{reading_of}
 use Rattle.types.specs.declared.Reading.{Reading}
 use Rattle.survivors.specs.Answers.{standing_of}
@@ -49,6 +54,9 @@ abbrev pub of_namespaces : Image → Image → List Change
 of_namespaces old new = compare_namespaces (schema_in old).namespace (schema_in new).namespace
 
 -- ---- a declaration that stands on one side only: it is gone, or it came
+
+abbrev pub lone_change : ChangeKind → Bump → Verb → Declaration → Change
+lone_change kind bump v d = change (kind_number kind) (bump_value bump) d.name None (decl_text d ++ verb_text v)
 
 abbrev pub lone_of : Side → Declaration → Change
 lone_of side.Old d = change (kind_at DeclarationRemoved) major d.name None (decl_text d ++ bytes " was removed")

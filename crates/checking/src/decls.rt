@@ -2,7 +2,6 @@
 ghost use Rattle.std.specs.Prelude.{◌≡◌};
 ghost use Rattle.parts.specs.Handles.{decl_of};
 ghost use Rattle.lines.specs.Reports.{Reports};
-ghost use Rattle.items.specs.Sides.{on, off};
 ghost use Rattle.checking.specs.Decls.{of_kind, of_decls, unmatched_decls, unmatched_decl, kept_decls, kept_decl};
 
 use crate::sites::{kind_changed, lone};
@@ -48,26 +47,6 @@ fn compare_decls(r: &mut Report<'_>, old: Decl<'_>, new: Decl<'_>)
     compare_kind(r, old, new);
 }
 
-// What may stand on a side.
-fn on<'a>(side: Side, old: Declarations<'a>, new: Declarations<'a>) -> Declarations<'a>
-    ensures { result ≡ on side old.entry new.entry }
-{
-    match side {
-        Side::Old => old,
-        Side::New => new,
-    }
-}
-
-// And what may stand on the other.
-fn off<'a>(side: Side, old: Declarations<'a>, new: Declarations<'a>) -> Declarations<'a>
-    ensures { result ≡ off side old.entry new.entry }
-{
-    match side {
-        Side::Old => new,
-        Side::New => old,
-    }
-}
-
 // A declaration of a side: a change, if none stands under its name on the other.
 fn unmatched_decl(
     r: &mut Report<'_>,
@@ -78,7 +57,7 @@ fn unmatched_decl(
 )
     ensures { Reports r.old (unmatched_decl r.old.reading old.entry new.entry side decl.entry) r.new }
 {
-    let other = off(side, old, new);
+    let other = side.off(old, new);
     if other.survivor(decl.name()).is_some() {
         return;
     }
@@ -86,17 +65,16 @@ fn unmatched_decl(
 }
 
 // The declarations of a side that do not stand on the other. Most often each name does, which is told without a walk.
+#[tactic(auto, using(crate::proofs::Turns::unmatching))]
 pub fn unmatched_decls(r: &mut Report<'_>, side: Side, old: Declarations<'_>, new: Declarations<'_>)
     ensures { Reports r.old (unmatched_decls r.old.reading old.entry new.entry side) r.new }
 {
-    let own = on(side, old, new);
-    if own.all_named(off(side, old, new)) {
+    let own = side.on(old, new);
+    if own.all_named(side.off(old, new)) {
         return;
     }
-    let mut after = None;
-    while let Some(decl) = own.following(after) {
+    for decl in own.standing() {
         unmatched_decl(r, side, old, new, decl);
-        after = Some(decl);
     }
 }
 
@@ -111,12 +89,11 @@ fn kept_decl(r: &mut Report<'_>, new: Declarations<'_>, decl: Decl<'_>)
 }
 
 // The old declarations that stand in the new image too.
+#[tactic(auto, using(crate::proofs::Turns::keeping))]
 pub fn kept_decls(r: &mut Report<'_>, old: Declarations<'_>, new: Declarations<'_>)
     ensures { Reports r.old (kept_decls r.old.reading old.entry new.entry) r.new }
 {
-    let mut after = None;
-    while let Some(decl) = old.following(after) {
+    for decl in old.standing() {
         kept_decl(r, new, decl);
-        after = Some(decl);
     }
 }

@@ -4,7 +4,7 @@ ghost use Rattle.parts.specs.Handles.{decl_of};
 ghost use Rattle.rules.specs.Clauses.{kind_changed};
 ghost use Rattle.lines.specs.Sites.{change_of};
 ghost use Rattle.items.specs.declared.Side.{Side};
-ghost use Rattle.checking.specs.Decls.{lone_of};
+ghost use Rattle.checking.specs.Decls.{lone_change, lone_of};
 
 use details::{Detail, Scope, Subject, Value, Verb};
 use items::Side;
@@ -12,40 +12,41 @@ use lines::Site;
 use parts::handles::Decl;
 use tally::{Bump, ChangeKind};
 
-// 2. A declaration that only the old image has.
+// 2. A declaration that only one image has, and what happened to it.
 #[tactic(auto, unfolding(details::specs::Details::detail_text, rules::specs::Clauses::decl_text, image::specs::Words::bytes))]
-fn decl_removed<'a>(decl: Decl<'a>) -> Site<'a>
-    ensures { change_of result ≡ lone_of Side.Old (decl_of decl.entry) }
+fn change<'a>(kind: ChangeKind, bump: Bump, verb: Verb, decl: Decl<'a>) -> Site<'a>
+    ensures { change_of result ≡ lone_change kind bump verb (decl_of decl.entry) }
 {
     Site {
-        kind: ChangeKind::DeclarationRemoved,
-        bump: Bump::MAJOR,
+        kind,
+        bump,
         scope: Scope::Decl(decl.name()),
         field: None,
         detail: Detail {
             subject: Subject::Decl(decl.kind(), decl.name()),
-            verb: Verb::Removed,
+            verb,
             values: None,
         },
     }
 }
 
-// And one that only the new image has.
-#[tactic(auto, unfolding(details::specs::Details::detail_text, rules::specs::Clauses::decl_text, image::specs::Words::bytes))]
+// Only the old image has it.
+fn decl_removed<'a>(decl: Decl<'a>) -> Site<'a>
+    ensures { change_of result ≡ lone_of Side.Old (decl_of decl.entry) }
+{
+    change(
+        ChangeKind::DeclarationRemoved,
+        Bump::MAJOR,
+        Verb::Removed,
+        decl,
+    )
+}
+
+// Only the new one.
 fn decl_added<'a>(decl: Decl<'a>) -> Site<'a>
     ensures { change_of result ≡ lone_of Side.New (decl_of decl.entry) }
 {
-    Site {
-        kind: ChangeKind::DeclarationAdded,
-        bump: Bump::MINOR,
-        scope: Scope::Decl(decl.name()),
-        field: None,
-        detail: Detail {
-            subject: Subject::Decl(decl.kind(), decl.name()),
-            verb: Verb::Added,
-            values: None,
-        },
-    }
+    change(ChangeKind::DeclarationAdded, Bump::MINOR, Verb::Added, decl)
 }
 
 // One that only a side has.

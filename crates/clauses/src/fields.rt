@@ -7,7 +7,7 @@ ghost use Rattle.survivors.specs.Answers.{Among};
 ghost use Rattle.survivors.specs.Runs.{items_of};
 ghost use Rattle.details.specs.Details.{declaration_of};
 ghost use Rattle.lines.specs.Reports.{Reports};
-ghost use Rattle.items.specs.Items.{context_of, kept_at, kept_items};
+ghost use Rattle.items.specs.Items.{context_of, kept_at};
 ghost use Rattle.items.specs.declared.Owner.{Owner};
 ghost use Rattle.clauses.specs.Fields.{same_coding};
 
@@ -18,7 +18,7 @@ use items::unmatched::unmatched_items;
 use items::{Owner, Side};
 use lines::{Report, Site};
 use members::handles::{Field, Item, Items};
-use survivors::items::{next_item, survivor_item};
+use survivors::items::{standing_items, survivor_item};
 use tally::{Bump, ChangeKind};
 use types::names::same_name;
 
@@ -106,19 +106,8 @@ fn kept_field<'a>(r: &mut Report<'_>, scope: Scope<'a>, pair: Pair<'a>, old: Ite
     compare_fields(r, scope, Field { item: old }, Field { item: new });
 }
 
-// The old fields that stand in the new image too.
-fn kept_fields<'a>(r: &mut Report<'_>, scope: Scope<'a>, pair: Pair<'a>)
-    requires { pair.of ≡ Owner.Fields scope }
-    ensures { Reports r.old (kept_items r.old.reading pair.entry) r.new }
-{
-    let mut after = None;
-    while let Some(old) = next_item(pair.old, after) {
-        kept_field(r, scope, pair, old);
-        after = Some(old.ordinal());
-    }
-}
-
 // The fields of what a scope names: removed, added, kept.
+#[tactic(auto, using(items::proofs::Walks::keeping))]
 pub(crate) fn compare_field_sets<'a>(
     r: &mut Report<'_>,
     scope: Scope<'a>,
@@ -131,5 +120,7 @@ pub(crate) fn compare_field_sets<'a>(
     let pair = Pair::new(Owner::Fields(scope), old, new);
     unmatched_items(r, Side::Old, pair);
     unmatched_items(r, Side::New, pair);
-    kept_fields(r, scope, pair);
+    for field in standing_items(old) {
+        kept_field(r, scope, pair, field);
+    }
 }

@@ -1,9 +1,8 @@
 // 7. Unions. Fields of a variant that was kept are compared under the union's name and the old variant's.
 ghost use Rattle.std.specs.Prelude.{◌≡◌};
-ghost use Rattle.parts.specs.Handles.{decl_of};
 ghost use Rattle.survivors.specs.Answers.{Among};
 ghost use Rattle.lines.specs.Reports.{Reports};
-ghost use Rattle.items.specs.Items.{kept_at, kept_items};
+ghost use Rattle.items.specs.Items.{kept_at};
 ghost use Rattle.items.specs.declared.Owner.{Owner};
 ghost use Rattle.clauses.specs.Pairs.{of_unions};
 
@@ -15,7 +14,7 @@ use items::{Owner, Side};
 use lines::Report;
 use members::handles::{Item, Variant};
 use members::kinds::Union;
-use survivors::items::{next_item, survivor_item};
+use survivors::items::{standing_items, survivor_item};
 
 // An old variant of the union of a name: its fields are compared, if a new one stands under its ordinal too.
 fn kept_variant<'a>(r: &mut Report<'_>, union: &'a [u8], pair: Pair<'a>, item: Item<'a>)
@@ -35,26 +34,18 @@ fn kept_variant<'a>(r: &mut Report<'_>, union: &'a [u8], pair: Pair<'a>, item: I
     );
 }
 
-// The old variants that stand in the new image too.
-fn kept_variants<'a>(r: &mut Report<'_>, union: &'a [u8], pair: Pair<'a>)
-    requires { pair.of ≡ Owner.Union union }
-    ensures { Reports r.old (kept_items r.old.reading pair.entry) r.new }
-{
-    let mut after = None;
-    while let Some(old) = next_item(pair.old, after) {
-        kept_variant(r, union, pair, old);
-        after = Some(old.ordinal());
-    }
-}
-
 // Two unions: variants removed, added, kept.
+#[tactic(auto, using(items::proofs::Walks::keeping))]
 pub fn compare_unions(r: &mut Report<'_>, old: Union<'_>, new: Union<'_>)
     ensures { Reports r.old (of_unions r.old.reading old.entry.decl new.entry.decl) r.new }
 {
     let was = old.decl;
     let name = was.name();
-    let pair = Pair::new(Owner::Union(name), old.variants(), new.variants());
+    let variants = old.variants();
+    let pair = Pair::new(Owner::Union(name), variants, new.variants());
     unmatched_items(r, Side::Old, pair);
     unmatched_items(r, Side::New, pair);
-    kept_variants(r, name, pair);
+    for variant in standing_items(variants) {
+        kept_variant(r, name, pair, variant);
+    }
 }

@@ -1,15 +1,15 @@
 -- The change of an item that stands on one side only: it is gone, or it came. Assumes nothing.
 use Rattle.std.specs.Prelude.{List, ◌++◌, ℕ, Some}
-use Rattle.image.specs.Words.{bytes}
 use Rattle.parts.specs.Promise.{ordinal_in, item_name}
 use Rattle.members.specs.declared.handles.Item.{Item}
 use Rattle.rules.specs.Changes.{Change, change, numbered}
 use Rattle.tally.specs.Tallies.{kind_number, bump_value}
 use Rattle.tally.specs.declared.Bump.{Bump}
 use Rattle.tally.specs.declared.ChangeKind.{ChangeKind}
-use Rattle.details.specs.Details.{declaration_of, word_text}
+use Rattle.details.specs.Details.{declaration_of, word_text, verb_text}
 use Rattle.details.specs.declared.Scope.{Scope}
 use Rattle.details.specs.declared.Word.{Word}
+use Rattle.details.specs.declared.Verb.{Verb}
 use Rattle.items.specs.declared.Owner.{Owner}
 use Rattle.items.specs.declared.Owner.TheVariants as owner
 use Rattle.items.specs.declared.Side.{Side}
@@ -19,13 +19,15 @@ use Rattle.items.specs.declared.Side.TheVariants as side
 abbrev pub item_text : Word → Item → List ℕ
 item_text w i = numbered (word_text w) (item_name i.image.bytes.now i.at) (ordinal_in i.image.bytes.now i.at)
 
+abbrev pub lone_change : ChangeKind → Bump → Scope → Word → Verb → Item → Change
+lone_change kind bump scope w v i =
+    change (kind_number kind) (bump_value bump) (declaration_of scope) (Some (item_name i.image.bytes.now i.at)) (item_text w i ++ verb_text v)
+
 abbrev pub gone_of : ChangeKind → Scope → Word → Item → Change
-gone_of kind scope w i =
-    change (kind_number kind) (bump_value Bump.Major) (declaration_of scope) (Some (item_name i.image.bytes.now i.at)) (item_text w i ++ bytes " was removed")
+gone_of kind scope w i = lone_change kind Bump.Major scope w Verb.Removed i
 
 abbrev pub came_of : ChangeKind → Bump → Scope → Word → Item → Change
-came_of kind bump scope w i =
-    change (kind_number kind) (bump_value bump) (declaration_of scope) (Some (item_name i.image.bytes.now i.at)) (item_text w i ++ bytes " was added")
+came_of kind bump scope w i = lone_change kind bump scope w Verb.Added i
 
 abbrev pub lone_of : Owner → Side → Item → Change
 lone_of (owner.Fields scope) side.Old i = gone_of ChangeKind.FieldRemoved scope Word.Field i

@@ -1,7 +1,7 @@
 // The change of an item that is gone, or that came.
 ghost use Rattle.std.specs.Prelude.{◌≡◌};
 ghost use Rattle.lines.specs.Sites.{change_of};
-ghost use Rattle.items.specs.Lone.{gone_of, came_of, lone_of};
+ghost use Rattle.items.specs.Lone.{lone_change, gone_of, came_of, lone_of};
 
 use crate::{Owner, Side};
 use details::{Detail, Scope, Subject, Verb, Word};
@@ -9,28 +9,17 @@ use lines::Site;
 use members::handles::Item;
 use tally::{Bump, ChangeKind};
 
-// Of an item of the old image.
-#[tactic(auto, unfolding(details::specs::Details::detail_text, image::specs::Words::bytes))]
-fn gone<'a>(kind: ChangeKind, scope: Scope<'a>, word: Word, item: Item<'a>) -> Site<'a>
-    ensures { change_of result ≡ gone_of kind scope.entry word item.entry }
-{
-    Site {
-        kind,
-        bump: Bump::MAJOR,
-        scope,
-        field: Some(item.name()),
-        detail: Detail {
-            subject: Subject::Item(word, item.name(), item.ordinal()),
-            verb: Verb::Removed,
-            values: None,
-        },
-    }
-}
-
-// Of one of the new image.
-#[tactic(auto, unfolding(details::specs::Details::detail_text, image::specs::Words::bytes))]
-fn came<'a>(kind: ChangeKind, bump: Bump, scope: Scope<'a>, word: Word, item: Item<'a>) -> Site<'a>
-    ensures { change_of result ≡ came_of kind bump scope.entry word item.entry }
+// Of what kind and weight it is, where, what the item is called, and what happened to it.
+#[tactic(auto, unfolding(details::specs::Details::detail_text))]
+fn change<'a>(
+    kind: ChangeKind,
+    bump: Bump,
+    scope: Scope<'a>,
+    word: Word,
+    verb: Verb,
+    item: Item<'a>,
+) -> Site<'a>
+    ensures { change_of result ≡ lone_change kind bump scope.entry word verb item.entry }
 {
     Site {
         kind,
@@ -39,10 +28,24 @@ fn came<'a>(kind: ChangeKind, bump: Bump, scope: Scope<'a>, word: Word, item: It
         field: Some(item.name()),
         detail: Detail {
             subject: Subject::Item(word, item.name(), item.ordinal()),
-            verb: Verb::Added,
+            verb,
             values: None,
         },
     }
+}
+
+// Of an item of the old image.
+fn gone<'a>(kind: ChangeKind, scope: Scope<'a>, word: Word, item: Item<'a>) -> Site<'a>
+    ensures { change_of result ≡ gone_of kind scope.entry word item.entry }
+{
+    change(kind, Bump::MAJOR, scope, word, Verb::Removed, item)
+}
+
+// Of one of the new image.
+fn came<'a>(kind: ChangeKind, bump: Bump, scope: Scope<'a>, word: Word, item: Item<'a>) -> Site<'a>
+    ensures { change_of result ≡ came_of kind bump scope.entry word item.entry }
+{
+    change(kind, bump, scope, word, Verb::Added, item)
 }
 
 // Of an item that the old image has and the new one has not.

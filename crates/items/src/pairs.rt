@@ -1,9 +1,8 @@
 // The items of an old declaration, or variant, and those of the new one.
 ghost use Rattle.std.specs.Prelude.{◌≡◌};
 ghost use Rattle.items.specs.Owners.{shape_of};
-ghost use Rattle.items.specs.Sides.{on, off};
 
-use crate::{Owner, Side};
+use crate::Owner;
 use members::handles::Items;
 
 // Both are of the shape that their owner's items have.
@@ -24,25 +23,5 @@ impl<'a> Pair<'a> {
         ensures new { result.new ≡ new.entry }
     {
         Pair { of, old, new }
-    }
-
-    // The items of a side.
-    pub fn on(self, side: Side) -> Items<'a>
-        ensures { result ≡ on side self.entry.old self.entry.new }
-    {
-        match side {
-            Side::Old => self.old,
-            Side::New => self.new,
-        }
-    }
-
-    // And those of the other.
-    pub fn off(self, side: Side) -> Items<'a>
-        ensures { result ≡ off side self.entry.old self.entry.new }
-    {
-        match side {
-            Side::Old => self.new,
-            Side::New => self.old,
-        }
     }
 }

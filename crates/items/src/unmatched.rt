@@ -9,7 +9,7 @@ use crate::lone::lone;
 use crate::pairs::Pair;
 use lines::Report;
 use members::handles::Item;
-use survivors::items::{has_item, next_item};
+use survivors::items::{has_item, standing_items};
 
 // An item of a side: a change, if none stands under its ordinal on the other.
 #[tactic(auto, using(crate::proofs::Standing::lone_items))]
@@ -17,20 +17,18 @@ fn unmatched_item(r: &mut Report<'_>, side: Side, pair: Pair<'_>, item: Item<'_>
     requires { Among (on side pair.old pair.new) item }
     ensures { Reports r.old (unmatched_at r.old.reading pair.entry side item.entry) r.new }
 {
-    if has_item(pair.off(side), item.ordinal()) {
+    if has_item(side.off(pair.old, pair.new), item.ordinal()) {
         return;
     }
     r.emit(lone(pair.of, side, item));
 }
 
 // The items of a side that do not stand on the other.
+#[tactic(auto, using(crate::proofs::Walks::unmatching))]
 pub fn unmatched_items(r: &mut Report<'_>, side: Side, pair: Pair<'_>)
     ensures { Reports r.old (unmatched_items r.old.reading pair.entry side) r.new }
 {
-    let own = pair.on(side);
-    let mut after = None;
-    while let Some(item) = next_item(own, after) {
+    for item in standing_items(side.on(pair.old, pair.new)) {
         unmatched_item(r, side, pair, item);
-        after = Some(item.ordinal());
     }
 }

@@ -1,13 +1,9 @@
--- What is left is what the walk has yet to report after the last declaration. The measure is how many declarations are left.
-use Rattle.lines.proofs.Reports.{Left}
-use Rattle.survivors.specs.Answers.{standing_of}
-use Rattle.survivors.proofs.Walks.{decls_left}
+-- What is left is what the walk has yet to report.
 use Rattle.checking.specs.Decls.{kept_decls}
-use Rattle.checking.proofs.Turns.{rest_kept}
+use Rattle.checking.proofs.Turns.{Kept}
 use Rattle.checking.proofs.decls.kept_decls.Given as goal
 
 abbrev pub invariant-loop-decl : goal.invariant-loop-decl
-invariant-loop-decl l = Left l.fn.r (kept_decls l.fn.r.reading l.old l.new) l.r (rest_kept l.fn.r.reading l.old l.new l.after)
-
-abbrev pub decreases-loop-decl : goal.decreases-loop-decl
-decreases-loop-decl l = decls_left (standing_of l.old) l.after
+invariant-loop-decl l =
+    (goal.iterator-loop-decl).can_next l.decl-iterator × (goal.iterator-loop-decl).is_finite l.decl-iterator
+    × Kept l.old l.new l.fn.r (kept_decls l.fn.r.reading l.old l.new) l.r l.decl-iterator
