@@ -19,11 +19,12 @@ use Rattle.rules.proofs.Imports.{imports_numbered, imports_bounded}
 use Rattle.rules.proofs.MendedRefusals.{mended_numbered}
 use Rattle.rules.proofs.Mended.{mended_bounded}
 use Rattle.types.specs.Readings.{reading_of}
-use Rattle.survivors.specs.declared.decls.Declarations.{Declarations}
 use Rattle.checking.specs.Decls.{view_in, both_aliases, all_changes}
-use Rattle.compat.specs.Policies.{policy_of, reading_in, ids_by, changes_by, Prepared, format_fault, alias_fault}
+use Rattle.compat.specs.Policies.{policy_of, reading_in, ids_by, changes_by, format_fault, alias_fault}
 use Rattle.compat.specs.declared.policies.Policy.{Policy}
 use Rattle.compat.specs.declared.policies.Policy.TheVariants as policy
+use Rattle.compat.specs.declared.prepared.Prepared.{Prepared}
+use Rattle.compat.specs.Pairs.{changes_of}
 
 -- 11 is the last check of the pair
 last_check : (view : Schema → View) (x y : Schema) → alias_fault (alias_pair (view x) (view y)) ≡ first_fault (alias_check view ∷ []) x y
@@ -72,20 +73,20 @@ policy_reading policy.Mended = refl
 
 -- ---- with the sets of ids that go with the images
 
-module _ (p : Policy) {old new : Declarations} (h : Prepared p old new) where
-  old_view : view_in old ≡ (policy_of p).view (schema_in old.image)
-  old_view = ap (λ m. view_with m (schema_in old.image)) h.old_ids ∙ sym (policy_view p (schema_in old.image))
+module _ (w : Prepared) where
+  old_view : view_in w.old ≡ (policy_of w.policy).view (schema_in w.old.image)
+  old_view = ap (λ m. view_with m (schema_in w.old.image)) w.old_ids ∙ sym (policy_view w.policy (schema_in w.old.image))
 
-  new_view : view_in new ≡ (policy_of p).view (schema_in new.image)
-  new_view = ap (λ m. view_with m (schema_in new.image)) h.new_ids ∙ sym (policy_view p (schema_in new.image))
+  new_view : view_in w.new ≡ (policy_of w.policy).view (schema_in w.new.image)
+  new_view = ap (λ m. view_with m (schema_in w.new.image)) w.new_ids ∙ sym (policy_view w.policy (schema_in w.new.image))
 
   -- what is reported by its reading are the changes of its views
-  pub policy_changes : all_changes (reading_in p) old new ≡ changes_by p old.image new.image
+  pub policy_changes : all_changes (reading_in w.policy) w.old w.new ≡ changes_of w
   unfolding all_changes changes_by
-  policy_changes = rw (old_view, new_view, policy_reading p)
+  policy_changes = rw (old_view, new_view, policy_reading w.policy)
 
   -- and 11, after what comes before it, is told by them
-  pub policy_aliases : {f : Option Fault} → f ≡ format_fault p (schema_in old.image) (schema_in new.image)
-      → option_or f (alias_fault (both_aliases old new)) ≡ first_fault (policy_of p).pair (schema_in old.image) (schema_in new.image)
+  pub policy_aliases : {f : Option Fault} → f ≡ format_fault w.policy (schema_in w.old.image) (schema_in w.new.image)
+      → option_or f (alias_fault (both_aliases w.old w.new)) ≡ first_fault (policy_of w.policy).pair (schema_in w.old.image) (schema_in w.new.image)
   unfolding both_aliases
-  policy_aliases e = rw (e, old_view, new_view) (policy_pair p (schema_in old.image) (schema_in new.image))
+  policy_aliases e = rw (e, old_view, new_view) (policy_pair w.policy (schema_in w.old.image) (schema_in w.new.image))

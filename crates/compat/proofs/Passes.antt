@@ -19,13 +19,13 @@ use Rattle.lines.specs.Reports.{writer_of, with_text, reported, Reports, Ends}
 use Rattle.lines.specs.declared.Report.{Report}
 use Rattle.lines.proofs.Lines.{last_line_lem}
 use Rattle.lines.proofs.Reports.{reports_as}
-use Rattle.survivors.specs.declared.decls.Declarations.{Declarations}
 use Rattle.checking.specs.Decls.{all_changes}
 use Rattle.verdicts.specs.Verdicts.{answer_values, of_tally, outcome_values}
 use Rattle.verdicts.specs.declared.Verdict.{Verdict}
-use Rattle.compat.specs.Policies.{reading_in, changes_by, Prepared}
+use Rattle.compat.specs.Policies.{reading_in}
 use Rattle.compat.specs.Passes.{Passed}
-use Rattle.compat.specs.declared.policies.Policy.{Policy}
+use Rattle.compat.specs.Pairs.{changes_of}
+use Rattle.compat.specs.declared.prepared.Prepared.{Prepared}
 use Rattle.compat.proofs.Kept.{policy_changes}
 use Rattle.compat.proofs.Outcomes.{report_small}
 
@@ -64,22 +64,22 @@ module _ {a b : Report} {cs : List Change} (none : a.tally ≡ no_change) (small
 
 -- ---- by the reading of a policy
 
-module _ (p : Policy) {old new : Declarations} (k : Prepared p old new) {a b c : Report}
-    (e : a.reading ≡ reading_in p) (none : a.tally ≡ no_change) (h : Reports a (all_changes a.reading old new) b) (l : Ends b c) where
-  by_policy : Reports a (changes_by p old.image new.image) b
-  by_policy = reports_as (sym (policy_changes p k) ∙ ap (λ (r : Reading). all_changes r old new) (sym e)) h
+module _ (k : Prepared) {a b c : Report}
+    (e : a.reading ≡ reading_in k.policy) (none : a.tally ≡ no_change) (h : Reports a (all_changes a.reading k.old k.new) b) (l : Ends b c) where
+  by_policy : Reports a (changes_of k) b
+  by_policy = reports_as (sym (policy_changes k) ∙ ap (λ (r : Reading). all_changes r k.old k.new) (sym e)) h
 
-  small : length (report (changes_by p old.image new.image)) < 2 ^ 62
-  small = report_small p old.image new.image
+  small : length (report (changes_of k)) < 2 ^ 62
+  small = report_small k.policy k.old.image k.new.image
 
   pub pass_name : c.out.ghost_name ≡ a.out.ghost_name
   pass_name = adds_name (whole none small by_policy l)
 
   pub passed : a.length ≡ 0 → {d : List ℕ} → a.out.now ≡ d → length d < 2 ^ 64 → {d' : List ℕ} → d' ≡ c.out.now
-      → {v : Verdict} → answer_values (Ok v) ≡ of_tally c.tally c.length → Passed d (changes_by p old.image new.image) v d'
+      → {v : Verdict} → answer_values (Ok v) ≡ of_tally c.tally c.length → Passed d (changes_of k) v d'
   passed z f s q g =
       let adds = whole none small by_policy l in
-      let long : c.length ≡ length (report (changes_by p old.image new.image)) = adds_at adds z ∙ omega (arith, small) in
+      let long : c.length ≡ length (report (changes_of k)) = adds_at adds z ∙ omega (arith, small) in
       record {
         verdict = g ∙ ap (λ (t : Tally). of_tally t c.length) (same_tally none small by_policy l) ∙ tally_verdict _ b.tally c.length (told none small by_policy) long;
         bytes = (fills adds z f s q).bytes;

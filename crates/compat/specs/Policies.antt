@@ -54,11 +54,6 @@ pub record HasIds (p : Policy) (i : Image) (r : Reached) : Type 0 where
   pub few : r.count ≤ 512
   pub room : r.count ≤ length r.marks
 
--- two images, each with its set
-pub record Prepared (p : Policy) (old new : Declarations) : Type 0 where
-  pub old_ids : old.reached.now ≡ ids_by p (schema_in old.image)
-  pub new_ids : new.reached.now ≡ ids_by p (schema_in new.image)
-
 -- ---- checks
 
 -- what comes before 11: 16 in the mended verdict
@@ -66,6 +61,10 @@ unfoldable pub format_fault : Policy → Schema → Schema → Option Fault
 format_fault policy.Plain x y = None
 format_fault policy.Imports x y = None
 format_fault policy.Mended x y = mixed_check x y
+
+-- a fault, if it is found
+unfoldable pub fault_if : Bool → Fault → Option Fault
+fault_if found f = cond found (Some f) None
 
 -- 11, if there is such a pair
 unfoldable pub alias_fault : Bool → Option Fault

@@ -3,20 +3,24 @@
 #![tactic(auto)]
 
 pub mod policies;
+pub mod prepared;
 
 ghost use Rattle.std.specs.Prelude.{◌≡◌, ◌≤◌, length, take, Ok};
 ghost use Rattle.parts.specs.Numbers.{side_number};
 ghost use Rattle.rules.specs.Answer.{compared, outcome};
 ghost use Rattle.verdicts.specs.Verdicts.{answer_values, outcome_values};
-ghost use Rattle.compat.specs.Policies.{policy_of, changes_by, pair_outcome, outcome_by, Prepared, Accepts};
+ghost use Rattle.compat.specs.Policies.{policy_of, pair_outcome, outcome_by, Accepts};
+ghost use Rattle.compat.specs.Pairs.{changes_of, outcome_of};
 ghost use Rattle.compat.specs.Passes.{Passed, Written, Reported};
 
 use crate::policies::{Policy, ids_of, judge_alone, judge_pair, reading_of};
+use crate::prepared::Prepared;
 use checking::check;
 use lines::Report;
 use parts::handles::Image;
 use parts::refusals::Refusal;
 use parts::sides::Side;
+use reached::Reached;
 use survivors::decls::Declarations;
 use verdicts::{Fault, Verdict};
 
@@ -51,48 +55,41 @@ fn accept_both<'a>(
     Ok((first, second))
 }
 
-// What may stand in an image, with a mark for each of so many ids.
-fn marked<'a>(image: Image<'a>, marks: &'a [bool], count: usize) -> Declarations<'a>
-    requires { (count ≤ length marks.now) × (count ≤ 512) }
+// What may stand in an image, with its ids.
+fn marked<'a>(image: Image<'a>, ids: &'a Reached) -> Declarations<'a>
+    requires { (ids.now.count ≤ length ids.now.marks) × (ids.now.count ≤ 512) }
     ensures image { result.image ≡ image.entry }
-    ensures reached { result.reached.now ≡ take count marks.now }
+    ensures reached { result.reached.now ≡ take ids.now.count ids.now.marks }
 {
     Declarations {
         image,
-        reached: &marks[..count],
+        reached: &ids.marks[..ids.count],
     }
 }
 
 // One pass over two images: the lines of the changes, and the last.
-fn pass(policy: Policy, old: Declarations<'_>, new: Declarations<'_>, out: &mut [u8]) -> Verdict
-    requires { Prepared policy old new }
-    ensures { Passed out.old (changes_by policy old.entry.image new.entry.image) result out.new }
+fn pass(pair: Prepared<'_>, out: &mut [u8]) -> Verdict
+    ensures { Passed out.old (changes_of pair.entry) result out.new }
 {
-    let mut r = Report::new(out, reading_of(policy));
-    check(&mut r, old, new);
+    let mut r = Report::new(out, reading_of(pair.policy));
+    check(&mut r, pair.old, pair.new);
     r.put_last_line();
     Verdict::of_tally(r.tally, r.length)
 }
 
 // The verdict of the changes. Nothing is written: the buffer is empty.
-fn measure(policy: Policy, old: Declarations<'_>, new: Declarations<'_>) -> Verdict
-    requires { Prepared policy old new }
-    ensures { answer_values (Ok result) ≡ outcome_values (compared (changes_by policy old.entry.image new.entry.image)) }
+fn measure(pair: Prepared<'_>) -> Verdict
+    ensures { answer_values (Ok result) ≡ outcome_values (compared (changes_of pair.entry)) }
 {
-    pass(policy, old, new, &mut [])
+    pass(pair, &mut [])
 }
 
-// Two images, each with its set of ids: the fault of the pair, or the verdict.
-fn compare_with(
-    policy: Policy,
-    old: Declarations<'_>,
-    new: Declarations<'_>,
-) -> Result<Verdict, Fault>
-    requires { Prepared policy old new }
-    ensures { answer_values result ≡ outcome_values (pair_outcome policy old.entry.image new.entry.image) }
+// The fault of the pair, or the verdict.
+fn compare_with(pair: Prepared<'_>) -> Result<Verdict, Fault>
+    ensures { answer_values result ≡ outcome_values (outcome_of pair.entry) }
 {
-    judge_pair(policy, old, new)?;
-    Ok(measure(policy, old, new))
+    judge_pair(pair)?;
+    Ok(measure(pair))
 }
 
 // Two images.
@@ -101,11 +98,7 @@ fn compare(policy: Policy, old: Image<'_>, new: Image<'_>) -> Result<Verdict, Fa
 {
     let a = ids_of(policy, old);
     let b = ids_of(policy, new);
-    let m = a.marks;
-    let n = b.marks;
-    let i = a.count;
-    let j = b.count;
-    compare_with(policy, marked(old, &m, i), marked(new, &n, j))
+    compare_with(Prepared::new(policy, marked(old, &a), marked(new, &b)))
 }
 
 // The verdict on two images.
@@ -116,22 +109,16 @@ pub fn verdict(policy: Policy, old: &[u8], new: &[u8]) -> Result<Verdict, Fault>
     compare(policy, first, second)
 }
 
-// Two images, each with its set of ids: the verdict with its report in a buffer. 12 if the report is longer than the buffer.
-fn write_with(
-    policy: Policy,
-    old: Declarations<'_>,
-    new: Declarations<'_>,
-    out: &mut [u8],
-) -> Result<Verdict, Fault>
-    requires { Prepared policy old new }
-    ensures { Written (pair_outcome policy old.entry.image new.entry.image) out.old result out.new }
+// The verdict with its report in a buffer. 12 if the report is longer than the buffer.
+fn write_with(pair: Prepared<'_>, out: &mut [u8]) -> Result<Verdict, Fault>
+    ensures { Written (outcome_of pair.entry) out.old result out.new }
 {
-    judge_pair(policy, old, new)?;
-    let v = measure(policy, old, new);
+    judge_pair(pair)?;
+    let v = measure(pair);
     if out.len() < v.length {
         return Err(FULL);
     }
-    Ok(pass(policy, old, new, out))
+    Ok(pass(pair, out))
 }
 
 // Two images.
@@ -140,11 +127,7 @@ fn write(policy: Policy, old: Image<'_>, new: Image<'_>, out: &mut [u8]) -> Resu
 {
     let a = ids_of(policy, old);
     let b = ids_of(policy, new);
-    let m = a.marks;
-    let n = b.marks;
-    let i = a.count;
-    let j = b.count;
-    write_with(policy, marked(old, &m, i), marked(new, &n, j), out)
+    write_with(Prepared::new(policy, marked(old, &a), marked(new, &b)), out)
 }
 
 // The verdict with its report. A refusal leaves the buffer as it was.

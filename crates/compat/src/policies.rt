@@ -5,8 +5,9 @@ ghost use Rattle.parts.specs.Handles.{schema_in};
 ghost use Rattle.rules.specs.Answer.{first_fault, on_side};
 ghost use Rattle.rules.specs.Widths.{mixed, mixed_check};
 ghost use Rattle.checking.specs.Decls.{both_aliases};
-ghost use Rattle.compat.specs.Policies.{policy_of, reading_in, HasIds, Prepared, fault_of, alias_fault, mended_fault};
+ghost use Rattle.compat.specs.Policies.{policy_of, reading_in, HasIds, fault_by, fault_of, fault_if, alias_fault, mended_fault};
 
+use crate::prepared::Prepared;
 use checking::aliases::alias_pair;
 use parts::formats::Format;
 use parts::handles::Image;
@@ -70,14 +71,23 @@ pub fn judge_alone(policy: Policy, image: Image<'_>, side: Side) -> Result<(), F
     }
 }
 
+// A fault, where it is found.
+#[tactic(auto, unfolding(crate::specs::Policies::fault_if, crate::specs::Policies::fault_of))]
+fn refused_if(found: bool, fault: Fault) -> Result<(), Fault>
+    ensures { fault_of result ≡ fault_if found (fault_by fault) }
+{
+    if found {
+        return Err(fault);
+    }
+    Ok(())
+}
+
 // 11.
+#[tactic(auto, unfolding(crate::specs::Policies::fault_if, crate::specs::Policies::alias_fault))]
 fn judge_aliases(old: Declarations<'_>, new: Declarations<'_>) -> Result<(), Fault>
     ensures { fault_of result ≡ alias_fault (both_aliases old.entry new.entry) }
 {
-    if alias_pair(old, new) {
-        return Err(ALIAS_PAIR);
-    }
-    Ok(())
+    refused_if(alias_pair(old, new), ALIAS_PAIR)
 }
 
 // Whether one of two images, or both, are of format 1, which stores no widths.
@@ -89,13 +99,11 @@ fn is_mixed(old: Image<'_>, new: Image<'_>) -> bool
 }
 
 // 16.
+#[tactic(auto, unfolding(crate::specs::Policies::fault_if, rules::specs::Widths::mixed_check))]
 fn judge_formats(old: Image<'_>, new: Image<'_>) -> Result<(), Fault>
     ensures { fault_of result ≡ mixed_check (schema_in old.entry) (schema_in new.entry) }
 {
-    if is_mixed(old, new) {
-        return Err(MIXED);
-    }
-    Ok(())
+    refused_if(is_mixed(old, new), MIXED)
 }
 
 // 16, and then 11.
@@ -107,11 +115,12 @@ fn judge_mended(old: Declarations<'_>, new: Declarations<'_>) -> Result<(), Faul
 }
 
 // The checks of the pair, in their order.
-pub fn judge_pair(policy: Policy, old: Declarations<'_>, new: Declarations<'_>) -> Result<(), Fault>
-    requires { Prepared policy old new }
-    ensures { fault_of result ≡ first_fault (policy_of policy).pair (schema_in old.entry.image) (schema_in new.entry.image) }
+pub fn judge_pair(pair: Prepared<'_>) -> Result<(), Fault>
+    ensures { fault_of result ≡ first_fault (policy_of pair.entry.policy).pair (schema_in pair.entry.old.image) (schema_in pair.entry.new.image) }
 {
-    match policy {
+    let old = pair.old;
+    let new = pair.new;
+    match pair.policy {
         Policy::Plain => judge_aliases(old, new),
         Policy::Imports => judge_aliases(old, new),
         Policy::Mended => judge_mended(old, new),

@@ -28,8 +28,8 @@ pub extern "C" fn vexil_compat_verdict(old: &[u8], new: &[u8], selector: u64) ->
 fn put_values(v: Values, values: &mut [u64])
     ensures { values.new ≡ values_of (select_in v) (length values.old) }
 {
-    for i in 0..values.len() {
-        values[i] = v.select(i as u64);
+    for (i, value) in values.iter_mut().enumerate() {
+        *value = v.select(i as u64);
     }
 }
 

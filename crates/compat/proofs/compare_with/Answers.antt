@@ -6,9 +6,9 @@ use Rattle.compat.proofs.Outcomes.{pair_passes, pair_refused_lem}
 use Rattle.compat.proofs.compare_with.Goals as goal
 
 pub returns : goal.returns
-returns c = c.measure.ensures ∙ ap outcome_values (pair_passes _ c.args.old.image c.args.new.image c.judge_pair.ensures c.in_ok-judge_pair.was)
+returns c = c.measure.ensures ∙ ap outcome_values (pair_passes _ c.args.pair.old.image c.args.pair.new.image c.judge_pair.ensures c.in_ok-judge_pair.was)
 
 pub returns-in_err-judge_pair : goal.returns-in_err-judge_pair
 returns-in_err-judge_pair c =
     let p = err_from_is_err_and c.from_residual.result c.from_residual.ensures.1 in
-    rw (p.1, p.2) (pair_refused_lem _ c.args.old.image c.args.new.image c.judge_pair.ensures c.in_err-judge_pair.was)
+    rw (p.1, p.2) (pair_refused_lem _ c.args.pair.old.image c.args.pair.new.image c.judge_pair.ensures c.in_err-judge_pair.was)

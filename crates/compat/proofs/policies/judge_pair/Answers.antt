@@ -8,12 +8,12 @@ use Rattle.compat.proofs.policies.judge_pair.Goals as goal
 
 pub returns-in-Plain : goal.returns-in-Plain
 unfolding format_fault
-returns-in-Plain c = c.judge_aliases.ensures ∙ policy_aliases _ c.requires {f = None} (rw c.in-Plain.is)
+returns-in-Plain c = c.judge_aliases.ensures ∙ policy_aliases c.args.pair {f = None} (rw c.in-Plain.is)
 
 pub returns-in-Imports : goal.returns-in-Imports
 unfolding format_fault
-returns-in-Imports c = c.judge_aliases-in-Imports.ensures ∙ policy_aliases _ c.requires {f = None} (rw c.in-Imports.is)
+returns-in-Imports c = c.judge_aliases-in-Imports.ensures ∙ policy_aliases c.args.pair {f = None} (rw c.in-Imports.is)
 
 pub returns-in-Mended : goal.returns-in-Mended
 unfolding format_fault
-returns-in-Mended c = c.judge_mended.ensures ∙ policy_aliases _ c.requires (rw c.in-Mended.is)
+returns-in-Mended c = c.judge_mended.ensures ∙ policy_aliases c.args.pair (rw c.in-Mended.is)
