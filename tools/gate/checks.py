@@ -20,7 +20,7 @@ BEHIND = re.compile(
 INSIDE = {"members", "claims"}
 # What their code may not call: what `image` and `reader` read by, but for reading an image; how many inner types a tag has asks for no image.
 # The words and the values are definitions, which code names where it says what proves it.
-CALLED = re.compile(r"\b(?:image::(?!types::inner_types\b|specs::Schema\b|specs::Words\b)|reader::(?!(?:Acceptance|read_image)\b|\{(?:(?:Acceptance|read_image)(?:, )?)+\})|use (?:image|reader)\b(?!::))[\w:]*")
+CALLED = re.compile(r"\b(?:image::(?!types::inner_types\b|specs::Schema\b|specs::Words\b)|reader::(?!read_image\b|\{read_image\})|use (?:image|reader)\b(?!::))[\w:]*")
 # Crates above `parts` whose definitions start from what reading an image gives; their proofs rest on the promise.
 DEFINE = {"listing"}
 

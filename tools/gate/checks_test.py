@@ -82,7 +82,7 @@ class Folders(unittest.TestCase):
     def test_a_file_that_names_the_readers_definitions_fails(self):
         (self.root / "crates.txt").write_text("reader: image\nparts: image reader\nmaps: parts\n")
         file = self.root / "crates" / "maps" / "src" / "lib.rt"
-        for module in ("image.specs.Schema", "image.specs.declared.Read", "image.specs.contracts.tags.Tag", "reader.specs.declared.Acceptance", "parts.proofs.Promise"):
+        for module in ("image.specs.Schema", "image.specs.declared.Read", "image.specs.contracts.tags.Tag", "reader.specs.declared.T", "parts.proofs.Promise"):
             file.write_text(f"ghost use Rattle.{module}.{{Ty}};\n")
             self.assertEqual(checks.unfolded(self.root), [])
         for module in ("image.specs.Types", "image.specs.contracts.types", "reader.specs.Answer", "refusals.proofs.Refusals", "written.specs.Limits", "parts.proofs.Laws.Fields"):
@@ -98,17 +98,17 @@ class Folders(unittest.TestCase):
     def test_code_that_calls_the_reader_fails(self):
         (self.root / "crates.txt").write_text("reader: image\nparts: image reader\nmaps: parts\n")
         file = self.root / "crates" / "maps" / "src" / "lib.rt"
-        for path in ("reader::read_image", "reader::Acceptance", "reader::{Acceptance, read_image}", "image::types::inner_types", "image::specs::Words::bytes", "parts::entries::body"):
+        for path in ("reader::read_image", "reader::{read_image}", "image::types::inner_types", "image::specs::Words::bytes", "parts::handles::Image"):
             file.write_text(f"use {path};\n")
             self.assertEqual(checks.unfolded(self.root), [])
-        for path in ("reader::contents::entry_length", "reader::bodies::read_body", "image::numbers::number", "image::specs::Types::type_of", "image::types::read_type_at"):
+        for path in ("reader::contents::entry_length", "reader::bodies::read_body", "image::numbers::u64_at", "image::specs::Types::type_of", "image::types::read_type_at"):
             for line in (f"use {path};\n", f"    {path}(image, at)\n"):
                 file.write_text(line)
                 self.assertEqual(
                     checks.unfolded(self.root),
                     [f"crates/maps/src/lib.rt: names {path}, which is behind the promise of parts"],
                 )
-        for line in ("use reader as r;\n", "use reader::{Acceptance, contents};\n"):
+        for line in ("use reader as r;\n", "use reader::{read_image, contents};\n", "use reader::{contents, read_image};\n"):
             file.write_text(line)
             self.assertEqual(len(checks.unfolded(self.root)), 1)
         (self.root / "crates.txt").write_text("maps: image reader\n")

@@ -1,5 +1,5 @@
 #!/usr/bin/env python3
-"""All tests of the repository: proofs, must-fail edits, programs and tools. They take about 20 minutes on four cores and 40 on two; what is
+"""All tests of the repository: proofs, must-fail edits, programs and tools. They take about 28 minutes on four cores and 50 on two; what is
 proved is kept on that machine, so that a later run takes about 10 minutes. The last line is `N passed, M failed`, the sum of what ran; what could
 not run is named and not counted."""
 
