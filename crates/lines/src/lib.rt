@@ -2,7 +2,7 @@
 #![tactic(auto)]
 
 mod reporting;
-mod words;
+pub mod words;
 
 ghost use Rattle.std.specs.Prelude.{◌≡◌, [], ◌∷◌};
 ghost use Rattle.tally.specs.Tallies.{no_change};

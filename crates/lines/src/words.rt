@@ -6,7 +6,7 @@ ghost use Rattle.text.specs.Writers.{Adds};
 use tally::{Bump, ChangeKind, CompatResult};
 use text::Writer;
 
-pub(crate) fn put_change(w: &mut Writer<'_>, kind: ChangeKind)
+pub fn put_change(w: &mut Writer<'_>, kind: ChangeKind)
     ensures { Adds w.old (change_word (kind_number kind)) w.new }
 {
     match kind {
@@ -32,7 +32,7 @@ pub(crate) fn put_change(w: &mut Writer<'_>, kind: ChangeKind)
     }
 }
 
-pub(crate) fn put_bump(w: &mut Writer<'_>, bump: Bump)
+pub fn put_bump(w: &mut Writer<'_>, bump: Bump)
     ensures { Adds w.old (bump_word (level_of bump)) w.new }
 {
     match bump {
@@ -42,7 +42,7 @@ pub(crate) fn put_bump(w: &mut Writer<'_>, bump: Bump)
     }
 }
 
-pub(crate) fn put_compat(w: &mut Writer<'_>, of: CompatResult)
+pub fn put_compat(w: &mut Writer<'_>, of: CompatResult)
     ensures { Adds w.old (result_word (result_number of)) w.new }
 {
     match of {

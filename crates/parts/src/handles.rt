@@ -91,9 +91,9 @@ impl<'a> Image<'a> {
         self.head().id_count()
     }
 
-    // The namespace's run.
+    // Where the namespace's names stand.
     #[tactic(auto, using(crate::proofs::Laws::Contents::heads), unfolding(crate::specs::Promise::segments_in, image::specs::Image::segments_at, image::specs::Image::ids_at))]
-    fn segments(self) -> Run
+    pub fn segments(self) -> Run
         ensures { result ≡ segments_in self.entry.bytes.now }
     {
         let head = self.head();

@@ -78,7 +78,7 @@ impl<'a> Declarations<'a> {
     // The declaration that stands under the least name past that of `after`, from the start if that is none: in a pass from the front that goes
     // over to a later one of the same name.
     #[tactic(auto, using(crate::proofs::Laws::Listed::forward))]
-    fn following(self, after: Option<Decl<'a>>) -> Option<Decl<'a>>
+    pub fn following(self, after: Option<Decl<'a>>) -> Option<Decl<'a>>
         ensures { Follows (standing_of self.entry) self.entry.image after.entry result }
     {
         let n = self.count();
