@@ -18,7 +18,7 @@ use items::unmatched::unmatched_items;
 use items::{Owner, Side};
 use lines::{Report, Site};
 use members::handles::{Field, Item, Items};
-use survivors::items::{standing_items, survivor_item};
+use survivors::standing::{standing_item, standing_items};
 use tally::{Bump, ChangeKind};
 use types::names::same_name;
 
@@ -100,7 +100,7 @@ fn kept_field<'a>(r: &mut Report<'_>, scope: Scope<'a>, pair: Pair<'a>, old: Ite
     requires { (pair.of ≡ Owner.Fields scope) × Among pair.old old }
     ensures { Reports r.old (kept_at r.old.reading pair.entry old.entry) r.new }
 {
-    let Some(new) = survivor_item(pair.new, old.ordinal()) else {
+    let Some(new) = standing_item(pair.new, old.ordinal()) else {
         return;
     };
     compare_fields(r, scope, Field { item: old }, Field { item: new });

@@ -14,14 +14,14 @@ use items::{Owner, Side};
 use lines::Report;
 use members::handles::{Item, Variant};
 use members::kinds::Union;
-use survivors::items::{standing_items, survivor_item};
+use survivors::standing::{standing_item, standing_items};
 
 // An old variant of the union of a name: its fields are compared, if a new one stands under its ordinal too.
 fn kept_variant<'a>(r: &mut Report<'_>, union: &'a [u8], pair: Pair<'a>, item: Item<'a>)
     requires { (pair.of ≡ Owner.Union union) × Among pair.old item }
     ensures { Reports r.old (kept_at r.old.reading pair.entry item.entry) r.new }
 {
-    let Some(found) = survivor_item(pair.new, item.ordinal()) else {
+    let Some(found) = standing_item(pair.new, item.ordinal()) else {
         return;
     };
     let old = Variant { item };

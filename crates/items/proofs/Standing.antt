@@ -13,9 +13,12 @@ use Rattle.maps.proofs.Tests.{no_both}
 use Rattle.parts.specs.Promise.{ordinal_in}
 use Rattle.rules.specs.Changes.{Change}
 use Rattle.types.specs.declared.Reading.{Reading}
+use Rattle.members.specs.Handles.{places_of}
+use Rattle.members.specs.declared.places.Places.{Places}
 use Rattle.members.specs.declared.handles.Items.{Items}
 use Rattle.members.specs.declared.handles.Item.{Item}
-use Rattle.survivors.specs.Answers.{ordinal_at, place_map, Among, ItemSurvives}
+use Rattle.survivors.specs.Items.{place_map}
+use Rattle.survivors.specs.Answers.{ordinal_at, Among, StandsUnder}
 use Rattle.survivors.specs.Runs.{item_of, item_ordinal, items_of, Holds}
 use Rattle.survivors.proofs.Runs.{items_hold, among_shape, found_none, found_item, has_stands}
 use Rattle.lines.specs.Sites.{change_of}
@@ -68,10 +71,10 @@ module _ (x : Pair) where
 
   -- ---- what stands on one side only: t says whether the other side has the ordinal k of i, and z is the items of that side
 
-  module _ (s : Side) (i : Item) {k : ℕ} (u : k ≡ ordinal_at i) {z : Items} (q : z ≡ off s x.old x.new)
-      {t : Bool} (a : t ≡ is_some (lookup (ordinal_in z.image.bytes.now) ltb k (place_map z))) where
+  module _ (s : Side) (i : Item) {k : ℕ} (u : k ≡ ordinal_at i) {z : Items} (q : z ≡ off s x.old x.new) {p : Places} (w : p ≡ places_of z)
+      {t : Bool} (a : t ≡ is_some (lookup (ordinal_in p.bytes.now) ltb k (place_map p))) where
     has : t ≡ is_some (lookup (item_ordinal (shape x)) ltb (ordinal_at i) (standing_off x s))
-    has = has_stands (off_holds s) (ordinal_at i) (rw (q, u) at a)
+    has = has_stands (off_holds s) (ordinal_at i) (rw (w, q, u) at a)
 
     pub lone_other : t ≡ true → {r : Report} → Reports r (unmatched_at r.reading x s i) r
     unfolding unmatched_at
@@ -89,7 +92,7 @@ module _ (x : Pair) where
 
   -- ---- what stands on both
 
-  module _ (reading : Reading) (i : Item) {k : ℕ} (u : k ≡ ordinal_at i) {o : Option Item} (a : ItemSurvives x.new k o) where
+  module _ (reading : Reading) (i : Item) {k : ℕ} (u : k ≡ ordinal_at i) {o : Option Item} (a : StandsUnder x.new k o) where
     pub kept_none : o ≡ None → kept_at reading x i ≡ []
     unfolding kept_at
     kept_none e = matched_none (rules reading x).kept _ (rw (← u) (found_none (on_holds side.New) a e))

@@ -12,7 +12,7 @@ use Rattle.members.specs.declared.handles.Item.{Item}
 use Rattle.rules.specs.Changes.{Change}
 use Rattle.types.specs.declared.Reading.{Reading}
 use Rattle.survivors.specs.Answers.{ordinal_at, Among, StandsIn, NextItem}
-use Rattle.survivors.specs.declared.items.StandingItems.{StandingItems}
+use Rattle.survivors.specs.declared.standing.StandingItems.{StandingItems}
 use Rattle.survivors.specs.Runs.{item_of, item_ordinal, items_of}
 use Rattle.survivors.proofs.Runs.{next_among}
 use Rattle.survivors.proofs.Walks.{rest_items, items_start, items_done, items_turn}

@@ -9,7 +9,8 @@ use crate::lone::lone;
 use crate::pairs::Pair;
 use lines::Report;
 use members::handles::Item;
-use survivors::items::{has_item, standing_items};
+use survivors::items::has_item;
+use survivors::standing::standing_items;
 
 // An item of a side: a change, if none stands under its ordinal on the other.
 #[tactic(auto, using(crate::proofs::Standing::lone_items))]
@@ -17,7 +18,7 @@ fn unmatched_item(r: &mut Report<'_>, side: Side, pair: Pair<'_>, item: Item<'_>
     requires { Among (on side pair.old pair.new) item }
     ensures { Reports r.old (unmatched_at r.old.reading pair.entry side item.entry) r.new }
 {
-    if has_item(side.off(pair.old, pair.new), item.ordinal()) {
+    if has_item(side.off(pair.old, pair.new).places(), item.ordinal()) {
         return;
     }
     r.emit(lone(pair.of, side, item));

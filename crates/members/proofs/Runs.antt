@@ -49,5 +49,5 @@ module _ (h : Shape) (s : List ℕ) (c at : ℕ) (f : c ≡ 0 → ⊥) (g : Item
   pub others_here : {n : ℕ} → n ≡ item_end h s at → ItemsHere h s (c - 1) n
   others_here e = rw e (items_rest h s c at (not_none f) g)
 
--- what a step over items needs
+-- what a step over places needs
 pub ruleset stepping = (first_here, others_here, not_none)

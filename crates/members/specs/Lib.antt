@@ -1,4 +1,5 @@
--- Props: the facts that handles hold. Handles: what they stand for.
+-- Props: the facts that handles hold. Places: a walk over places. Handles, Kinds: what they stand for.
 pub mod Props
+pub mod Places
 pub mod Handles
 pub mod Kinds

@@ -1,10 +1,11 @@
 // The items of declarations, as values that know what they are: a run of items, an item, a field, a union's variant.
 ghost use Rattle.std.specs.Prelude.{◌≡◌};
 ghost use Rattle.parts.specs.declared.Shape.{Shape};
-ghost use Rattle.parts.specs.Promise.{ItemsHere, ItemHere, variant_items, ordinal_in, item_name, item_end, coding_of};
+ghost use Rattle.parts.specs.Promise.{ItemsHere, ItemHere, variant_items, ordinal_in, item_name, coding_of};
 ghost use Rattle.parts.specs.Handles.{tree_of};
 ghost use Rattle.members.specs.Props.{items_prop, item_prop};
 
+use crate::places::Places;
 use crate::{fields, items};
 use parts::handles::{Image, TypeRef};
 use parts::{Encoding, Run, Shape};
@@ -27,35 +28,18 @@ pub struct Item<'a> {
     pub ghost here: { ItemHere shape image.bytes.now at } by { item_prop shape image.bytes.now at },
 }
 
-// It gives the items in turn.
-impl<'a> Iterator for Items<'a> {
-    type Item = Item<'a>;
+impl<'a> Items<'a> {
+    ghost use Rattle.members.specs.Handles.{places_of};
 
-    ghost use Rattle.std.specs.Iterator.{at_most};
-    ghost use Rattle.members.specs.Handles.{Steps};
-
-    ghost next_gives = { Steps };
-
-    ghost remaining = { λ items. at_most items.run.count };
-
-    #[tactic(auto, using(crate::proofs::Runs::stepping))]
-    fn next(&mut self) -> Option<Item<'a>> {
-        if self.run.count == 0 {
-            return None;
+    // Their places.
+    pub fn places(self) -> Places<'a>
+        ensures { result ≡ places_of self.entry }
+    {
+        Places {
+            bytes: self.image.bytes,
+            shape: self.shape,
+            run: self.run,
         }
-        let image = self.image;
-        let shape = self.shape;
-        let item = Item {
-            image,
-            shape,
-            at: self.run.start,
-        };
-        let run = Run {
-            start: item.end(),
-            count: self.run.count - 1,
-        };
-        *self = Items { image, shape, run };
-        Some(item)
     }
 }
 
@@ -73,13 +57,6 @@ impl<'a> Item<'a> {
         ensures { result.now ≡ item_name self.entry.image.bytes.now self.entry.at }
     {
         items::item_name(self.image.bytes, self.at)
-    }
-
-    // The place after it, where the next one starts.
-    pub fn end(self) -> usize
-        ensures { result ≡ item_end self.entry.shape self.entry.image.bytes.now self.entry.at }
-    {
-        items::item_end(self.image.bytes, self.shape, self.at)
     }
 }
 

@@ -6,3 +6,4 @@ pub mod fields;
 pub mod handles;
 pub mod items;
 pub mod kinds;
+pub mod places;

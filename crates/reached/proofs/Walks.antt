@@ -18,7 +18,7 @@ use Rattle.rules.specs.Survivors.{field_map, variant_map}
 use Rattle.rules.specs.Clauses.{field_types, variant_types}
 use Rattle.rules.specs.Reached.{named_in, IdSet}
 use Rattle.survivors.specs.Answers.{Among, StandsIn, NextItem}
-use Rattle.survivors.specs.declared.items.StandingItems.{StandingItems}
+use Rattle.survivors.specs.declared.standing.StandingItems.{StandingItems}
 use Rattle.survivors.specs.Runs.{item_of, item_map, items_of, Holds}
 use Rattle.survivors.proofs.Runs.{items_hold, listed_hold, next_among, among_shape}
 use Rattle.survivors.proofs.Walks.{rest_items, items_start, items_done, items_turn}

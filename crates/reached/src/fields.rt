@@ -6,7 +6,7 @@ ghost use Rattle.reached.specs.Named.{named_items};
 
 use crate::nodes::mark_type;
 use members::handles::{Field, Items, Variant};
-use survivors::items::standing_items;
+use survivors::standing::standing_items;
 
 // Fields, by rising ordinal.
 #[tactic(auto, using(crate::proofs::Walks::field_walk))]

@@ -20,12 +20,13 @@ use Rattle.parts.specs.declared.Shape.TheVariants as shape
 use Rattle.parts.specs.declared.Run.{Run}
 use Rattle.parts.specs.declared.handles.Image.{Image}
 use Rattle.parts.proofs.Promise.{places_none, places_more, items_first, items_rest, field_ordinal, variant_ordinal_lem}
-use Rattle.members.specs.Handles.{ItemsAt}
+use Rattle.members.specs.Handles.{ItemsAt, places_of}
 use Rattle.members.specs.declared.handles.Items.{Items}
 use Rattle.members.specs.declared.handles.Item.{Item}
 use Rattle.rules.specs.Survivors.{field_map, variant_map}
 use Rattle.survivors.proofs.Laws.Better.{some_map}
-use Rattle.survivors.specs.Answers.{ordinal_at, place_map, place_of, Among, ItemSurvives, ItemFollows}
+use Rattle.survivors.specs.Items.{place_map}
+use Rattle.survivors.specs.Answers.{ordinal_at, place_of, Among, ItemAt, StandsUnder, StandsNext}
 use Rattle.survivors.specs.Runs.{item_in, item_ordinal, item_map, item_of, items_of, Holds}
 
 -- items hold what they are, and those that were found in a run what stands there
@@ -73,13 +74,13 @@ module _ {h : Shape} {x : Items} {xs : List (ItemOf h)} (r : Holds h x xs) where
 
   -- what stands is at the places that stand
   pub holds_lookup : (k : ℕ)
-      → lookup (item_ordinal h) ltb k (item_map h xs) ≡ option_map (item_in h x.image.bytes.now) (lookup (ordinal_in x.image.bytes.now) ltb k (place_map x))
+      → lookup (item_ordinal h) ltb k (item_map h xs) ≡ option_map (item_in h x.image.bytes.now) (lookup (ordinal_in x.image.bytes.now) ltb k (place_map (places_of x)))
   unfolding items_of place_map
   holds_lookup k = rw (stands h xs, r.are, r.shape) (lookup_placed (item_ordinal h) ltb _ (ordinal_in x.image.bytes.now) k _ (placed h x.image.bytes.now _ _ here))
 
   pub holds_following : (b : Option ℕ)
       → following (item_ordinal h) ltb b (item_map h xs)
-      ≡ option_map (item_in h x.image.bytes.now) (following (ordinal_in x.image.bytes.now) ltb b (place_map x))
+      ≡ option_map (item_in h x.image.bytes.now) (following (ordinal_in x.image.bytes.now) ltb b (place_map (places_of x)))
   unfolding items_of place_map
   holds_following b = rw (stands h xs, r.are, r.shape) (following_placed (item_ordinal h) ltb _ (ordinal_in x.image.bytes.now) b _ (placed h x.image.bytes.now _ _ here))
 
@@ -94,38 +95,46 @@ module _ {h : Shape} {x : Items} {xs : List (ItemOf h)} (r : Holds h x xs) where
     pub among_ordinal : item_ordinal h (item_of h i) ≡ ordinal_at i
     among_ordinal = item_ordinal_lem h i among_shape
 
-  -- the answers of `survivor_item`
-  module _ {k : ℕ} {o : Option Item} (a : ItemSurvives x k o) where
+  -- what was found at a place of theirs
+  module _ {at : Option ℕ} {o : Option Item} (a : ItemAt x at o) where
+    at_none : o ≡ None → option_map (item_in h x.image.bytes.now) at ≡ None
+    at_none e = ap (option_map (item_in h x.image.bytes.now)) (sym a.place ∙ ap (option_map place_of) e)
+
+    module _ {i : Item} (e : o ≡ Some i) where
+      at_among : Among x i
+      at_among = rw e at a.among
+
+      at_item : option_map (item_in h x.image.bytes.now) at ≡ Some (item_of h i)
+      at_item = ap (option_map (item_in h x.image.bytes.now)) (sym a.place ∙ ap (option_map place_of) e) ∙ ap Some (among_item at_among)
+
+  -- the answers of `standing_item`
+  module _ {k : ℕ} {o : Option Item} (a : StandsUnder x k o) where
     pub found_none : o ≡ None → lookup (item_ordinal h) ltb k (item_map h xs) ≡ None
-    found_none e = holds_lookup k ∙ ap (option_map (item_in h x.image.bytes.now)) (sym a.place ∙ ap (option_map place_of) e)
+    found_none e = holds_lookup k ∙ at_none a.item e
 
     module _ {i : Item} (e : o ≡ Some i) where
       pub found_among : Among x i
-      found_among = rw e at a.among
+      found_among = at_among a.item e
 
       pub found_item : lookup (item_ordinal h) ltb k (item_map h xs) ≡ Some (item_of h i)
-      found_item =
-          holds_lookup k ∙ ap (option_map (item_in h x.image.bytes.now)) (sym a.place ∙ ap (option_map place_of) e) ∙ ap Some (among_item found_among)
+      found_item = holds_lookup k ∙ at_item a.item e
 
-  -- the answers of `has_item`
-  pub has_stands : (k : ℕ) {t : Bool} → t ≡ is_some (lookup (ordinal_in x.image.bytes.now) ltb k (place_map x))
+  -- the answers of `has_item`, asked of their places
+  pub has_stands : (k : ℕ) {t : Bool} → t ≡ is_some (lookup (ordinal_in x.image.bytes.now) ltb k (place_map (places_of x)))
       → t ≡ is_some (lookup (item_ordinal h) ltb k (item_map h xs))
   has_stands k a = a ∙ some_map (item_in h x.image.bytes.now) _ ∙ ap is_some (sym (holds_lookup k))
 
-  -- the answers of `next_item`
-  module _ {after : Option ℕ} {o : Option Item} (a : ItemFollows x after o) where
+  -- a step over those that stand
+  module _ {after : Option ℕ} {o : Option Item} (a : StandsNext x after o) where
     pub next_none : o ≡ None → following (item_ordinal h) ltb after (item_map h xs) ≡ None
-    next_none e = holds_following after ∙ ap (option_map (item_in h x.image.bytes.now)) (sym a.place ∙ ap (option_map place_of) e)
+    next_none e = holds_following after ∙ at_none a.item e
 
     module _ {i : Item} (e : o ≡ Some i) where
       pub next_among : Among x i
-      next_among = rw e at a.among
+      next_among = at_among a.item e
 
       pub next_item : following (item_ordinal h) ltb after (item_map h xs) ≡ Some (item_of h i)
-      next_item =
-          holds_following after
-          ∙ ap (option_map (item_in h x.image.bytes.now)) (sym a.place ∙ ap (option_map place_of) e)
-          ∙ ap Some (among_item next_among)
+      next_item = holds_following after ∙ at_item a.item e
 
       pub next_ordinal : item_ordinal h (item_of h i) ≡ ordinal_at i
       next_ordinal = among_ordinal next_among

@@ -22,7 +22,7 @@ use Rattle.members.specs.declared.handles.Items.{Items}
 use Rattle.members.specs.declared.handles.Item.{Item}
 use Rattle.rules.specs.Survivors.{name_of}
 use Rattle.rules.proofs.Standing.{standing_rises}
-use Rattle.survivors.specs.Answers.{ordinal_at, standing_of, named, Follows, decls_left, ItemFollows}
+use Rattle.survivors.specs.Answers.{ordinal_at, standing_of, named, Follows, decls_left, StandsNext}
 use Rattle.survivors.specs.Runs.{item_of, item_ordinal, item_map, Holds}
 use Rattle.survivors.specs.declared.decls.Declarations.{Declarations}
 use Rattle.survivors.proofs.Declarations.{follows_none, follows_body}
@@ -65,7 +65,7 @@ module _ {C : Type 0} (h : Shape) (g : Option (ItemOf h) → Option (ItemOf h) �
   unfolding rest_items
   items_start = rest_start (item_ordinal h) by_number g (item_map h xs) (item_map h ys)
 
-  module _ {x : Items} (r : Holds h x xs) {after : Option ℕ} {o : Option Item} (a : ItemFollows x after o) where
+  module _ {x : Items} (r : Holds h x xs) {after : Option ℕ} {o : Option Item} (a : StandsNext x after o) where
     pub items_done : o ≡ None → rest_items h g xs ys after ≡ []
     unfolding rest_items
     items_done e = rest_done (item_ordinal h) by_number g (item_map h xs) (item_map h ys) after (next_none r a e)

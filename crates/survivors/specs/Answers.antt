@@ -1,22 +1,24 @@
--- What the searches answer. Assumes nothing.
+-- What the searches answer as values, and the walks over what stands. Assumes nothing.
 use Rattle.std.specs.Prelude.{◌≡◌, Bool, true, false, List, ◌++◌, ℕ, ltb, length, Option, None, Some, IfSome}
 use Rattle.std.specs.Borrow.{Bor}
 use Rattle.std.specs.Option.{option_map, is_some}
-use Rattle.maps.specs.Keyed.{survivors, lookup}
+use Rattle.maps.specs.Keyed.{lookup}
 use Rattle.maps.specs.Orders.{before}
 use Rattle.maps.specs.Walk.{above, following, nearer, covers}
 use Rattle.image.specs.Schema.{Name, Decl as Declaration}
-use Rattle.parts.specs.Promise.{places_from, ordinal_in}
+use Rattle.parts.specs.Promise.{ordinal_in}
 use Rattle.parts.specs.Handles.{schema_in, decl_of}
 use Rattle.parts.specs.declared.handles.Image.{Image}
 use Rattle.parts.specs.declared.handles.Decl.{Decl}
+use Rattle.members.specs.Handles.{places_of}
 use Rattle.members.specs.declared.handles.Items.{Items}
 use Rattle.members.specs.declared.handles.Item.{Item}
 use Rattle.rules.specs.Survivors.{listed, name_of}
 use Rattle.rules.specs.Imports.{marked_ids, standing_with}
+use Rattle.survivors.specs.Items.{place_map}
 use Rattle.survivors.specs.declared.decls.Declarations.{Declarations}
 use Rattle.survivors.specs.declared.decls.StandingDecls.{StandingDecls}
-use Rattle.survivors.specs.declared.items.StandingItems.{StandingItems}
+use Rattle.survivors.specs.declared.standing.StandingItems.{StandingItems}
 
 -- ---- declarations: `standing` are those that stand in an image
 
@@ -77,18 +79,10 @@ namesake_in n (Some d) = is_some (lookup name_of before d.name n)
 unfoldable pub names_covered : List Declaration → Declarations → Bool
 names_covered n ds = covers name_of before n (listed (schema_in ds.image).registry (marked_ids 0 ds.reached.now ++ (schema_in ds.image).ids))
 
--- ---- items
+-- ---- items, as values
 
 abbrev pub ordinal_at : Item → ℕ
 ordinal_at i = ordinal_in i.image.bytes.now i.at
-
--- the places of the items that stand, by rising ordinal
-unfoldable pub place_map : Items → List ℕ
-place_map x = survivors (ordinal_in x.image.bytes.now) ltb (places_from x.shape x.image.bytes.now x.run.count x.run.start)
-
--- whether an item with an ordinal takes the place of the best item so far, if any, by its ordinal
-unfoldable pub nearer_ordinal : Option ℕ → Option ℕ → ℕ → Bool
-nearer_ordinal b best k = nearer (λ j. j) ltb b best k
 
 abbrev pub place_of : Item → ℕ
 place_of i = i.at
@@ -98,20 +92,18 @@ pub record Among (x : Items) (i : Item) : Type 0 where
   pub image : i.image ≡ x.image
   pub shape : i.shape ≡ x.shape
 
--- the item that stands under an ordinal
-pub record ItemSurvives (x : Items) (k : ℕ) (r : Option Item) : Type 0 where
-  pub place : option_map place_of r ≡ lookup (ordinal_in x.image.bytes.now) ltb k (place_map x)
+-- the item of others at a place, if there is one
+pub record ItemAt (x : Items) (at : Option ℕ) (r : Option Item) : Type 0 where
+  pub place : option_map place_of r ≡ at
   pub among : IfSome r (Among x)
 
--- the item that stands under the next ordinal, with it
-pub record Nearest (x : Items) (after : Option ℕ) (r : Option (ℕ × Item)) : Type 0 where
-  pub place : option_map (λ b. b.1.at) r ≡ following (ordinal_in x.image.bytes.now) ltb after (place_map x)
-  pub among : IfSome r (λ b. Among x b.1 × (b.0 ≡ ordinal_at b.1))
+-- the item that stands under an ordinal
+pub record StandsUnder (x : Items) (k : ℕ) (r : Option Item) : Type 0 where
+  pub item : ItemAt x (lookup (ordinal_in x.image.bytes.now) ltb k (place_map (places_of x))) r
 
 -- the item that stands under the next ordinal
-pub record ItemFollows (x : Items) (after : Option ℕ) (r : Option Item) : Type 0 where
-  pub place : option_map place_of r ≡ following (ordinal_in x.image.bytes.now) ltb after (place_map x)
-  pub among : IfSome r (Among x)
+pub record StandsNext (x : Items) (after : Option ℕ) (r : Option Item) : Type 0 where
+  pub item : ItemAt x (following (ordinal_in x.image.bytes.now) ltb after (place_map (places_of x))) r
 
 -- a walk over the items that stand, at its start
 pub record StandsIn (x : Items) (w : StandingItems) : Type 0 where
@@ -120,10 +112,10 @@ pub record StandsIn (x : Items) (w : StandingItems) : Type 0 where
 
 -- a step of it: the item that stands under the next ordinal, and from there on
 pub record NextItem (w : StandingItems) (r : Option Item) (v : StandingItems) : Type 0 where
-  pub follows : ItemFollows w.items w.after r
+  pub follows : StandsNext w.items w.after r
   pub items : v.items ≡ w.items
   pub after : IfSome r (λ i. v.after ≡ Some (ordinal_at i))
 
 -- how many items it has yet to meet
 unfoldable pub items_left : Items → Option ℕ → ℕ
-items_left x after = length (above (ordinal_in x.image.bytes.now) ltb after (place_map x))
+items_left x after = length (above (ordinal_in x.image.bytes.now) ltb after (place_map (places_of x)))

@@ -1,23 +1,24 @@
-// Fields, variants and bits by their ordinals: "The same holds for ordinals and bits inside one body or variant." Items have no fixed
-// size, so all searches pass from the front.
+// Fields, variants and bits by their ordinals, at their places in any bytes: "The same holds for ordinals and bits inside one body or
+// variant." Items have no fixed size, so all searches pass from the front.
 ghost use Rattle.std.specs.Prelude.{◌≡◌, ltb};
 ghost use Rattle.std.specs.Option.{option_map, is_some};
 ghost use Rattle.maps.specs.Keyed.{lookup};
 ghost use Rattle.maps.specs.Walk.{past};
 ghost use Rattle.parts.specs.Promise.{ordinal_in};
-ghost use Rattle.survivors.specs.Answers.{nearer_ordinal, place_map, ItemSurvives, Nearest, StandsIn};
+ghost use Rattle.survivors.specs.Items.{nearer_ordinal, place_map, ItemSurvives, ItemFollows};
 
-use members::handles::{Item, Items};
+use members::items::ordinal_at;
+use members::places::Places;
 
-// The item that stands under an ordinal, the last one listed.
+// The place of the item that stands under an ordinal, the last one listed.
 #[tactic(auto, using(crate::proofs::Laws::Passed::founds))]
-pub fn survivor_item<'a>(items: Items<'a>, ordinal: u32) -> Option<Item<'a>>
-    ensures { ItemSurvives items.entry ordinal result }
+pub fn survivor_item(places: Places<'_>, ordinal: u32) -> Option<usize>
+    ensures { ItemSurvives places.entry ordinal result }
 {
     let mut found = None;
-    for item in items {
-        if item.ordinal() == ordinal {
-            found = Some(item);
+    for at in places {
+        if ordinal_at(places.bytes, at) == ordinal {
+            found = Some(at);
         }
     }
     found
@@ -25,11 +26,11 @@ pub fn survivor_item<'a>(items: Items<'a>, ordinal: u32) -> Option<Item<'a>>
 
 // Whether an item stands under an ordinal: it does if any is listed, so the search stops at the first.
 #[tactic(auto, using(crate::proofs::Laws::Passed::havings))]
-pub fn has_item(items: Items<'_>, ordinal: u32) -> bool
-    ensures { result ≡ is_some (lookup (ordinal_in items.entry.image.bytes.now) ltb ordinal (place_map items.entry)) }
+pub fn has_item(places: Places<'_>, ordinal: u32) -> bool
+    ensures { result ≡ is_some (lookup (ordinal_in places.entry.bytes.now) ltb ordinal (place_map places.entry)) }
 {
-    for item in items {
-        if item.ordinal() == ordinal {
+    for at in places {
+        if ordinal_at(places.bytes, at) == ordinal {
             return true;
         }
     }
@@ -54,56 +55,17 @@ fn is_nearer(after: Option<u32>, best: Option<(u32, usize)>, ordinal: u32) -> bo
     ordinal <= least && is_past(after, ordinal)
 }
 
-// The item that stands under the least ordinal past `after`, from the start if that is none. Of the best one so far its place is kept alone:
-// less to go over to where many are.
+// The least ordinal past `after` under which an item stands, from the start if that is none, with the item's place.
 #[tactic(auto, using(crate::proofs::Laws::Passed::nearings))]
-fn next_item<'a>(items: Items<'a>, after: Option<u32>) -> Option<(u32, Item<'a>)>
-    ensures { Nearest items.entry after result }
+pub fn next_item(places: Places<'_>, after: Option<u32>) -> Option<(u32, usize)>
+    ensures { ItemFollows places.entry after result }
 {
     let mut best = None;
-    for item in items {
-        let ordinal = item.ordinal();
+    for at in places {
+        let ordinal = ordinal_at(places.bytes, at);
         if is_nearer(after, best, ordinal) {
-            best = Some((ordinal, item.at));
+            best = Some((ordinal, at));
         }
     }
-    let (ordinal, at) = best?;
-    let item = Item {
-        image: items.image,
-        shape: items.shape,
-        at,
-    };
-    Some((ordinal, item))
-}
-
-// The items that stand, by rising ordinal: those past `after`, from the start if that is none.
-#[derive(Clone, Copy)]
-pub struct StandingItems<'a> {
-    pub items: Items<'a>,
-    pub after: Option<u32>,
-}
-
-// The items that stand among these.
-pub fn standing_items(items: Items<'_>) -> StandingItems<'_>
-    ensures { StandsIn items.entry result }
-{
-    StandingItems { items, after: None }
-}
-
-impl<'a> Iterator for StandingItems<'a> {
-    type Item = Item<'a>;
-
-    ghost use Rattle.std.specs.Iterator.{at_most};
-    ghost use Rattle.survivors.specs.Answers.{items_left, NextItem};
-
-    ghost next_gives = { NextItem };
-
-    ghost remaining = { λ x. at_most (items_left x.items x.after) };
-
-    #[tactic(auto, using(crate::proofs::Laws::Passed::stepping))]
-    fn next(&mut self) -> Option<Item<'a>> {
-        let (ordinal, item) = next_item(self.items, self.after)?;
-        self.after = Some(ordinal);
-        Some(item)
-    }
+    best
 }

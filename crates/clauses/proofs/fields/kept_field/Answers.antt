@@ -8,11 +8,11 @@ use Rattle.clauses.proofs.Kept.{field_kept}
 use Rattle.clauses.proofs.fields.kept_field.Goals as goal
 
 pub returns-in_default : goal.returns-in_default
-returns-in_default c = reports_none (kept_none _ _ _ c.ordinal.ensures c.survivor_item.ensures c.in_default.is)
+returns-in_default c = reports_none (kept_none _ _ _ c.ordinal.ensures c.standing_item.ensures c.in_default.is)
 
 pub returns : goal.returns
 returns c =
-    let found = found_among (on_holds c.args.pair Side.New) c.survivor_item.ensures c.in-Some.is in
+    let found = found_among (on_holds c.args.pair Side.New) c.standing_item.ensures c.in-Some.is in
     reports_as
-    (kept_item _ _ _ c.ordinal.ensures c.survivor_item.ensures c.in-Some.is ∙ field_kept _ c.args.pair c.requires.1 found _ c.requires.0)
+    (kept_item _ _ _ c.ordinal.ensures c.standing_item.ensures c.in-Some.is ∙ field_kept _ c.args.pair c.requires.1 found _ c.requires.0)
     c.compare_fields.ensures

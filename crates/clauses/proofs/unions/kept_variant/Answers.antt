@@ -10,14 +10,14 @@ use Rattle.clauses.proofs.Kept.{variant_kept, variant_fields, union_shape, sets_
 use Rattle.clauses.proofs.unions.kept_variant.Goals as goal
 
 pub returns-in_default : goal.returns-in_default
-returns-in_default c = reports_none (kept_none _ _ _ c.ordinal.ensures c.survivor_item.ensures c.in_default.is)
+returns-in_default c = reports_none (kept_none _ _ _ c.ordinal.ensures c.standing_item.ensures c.in_default.is)
 
 pub returns : goal.returns
 unfolding variant_decl
 returns c =
-    let found = found_among (on_holds c.args.pair Side.New) c.survivor_item.ensures c.in-Some.is in
+    let found = found_among (on_holds c.args.pair Side.New) c.standing_item.ensures c.in-Some.is in
     let was = variant_fields c.args.item (among_shape (on_holds c.args.pair Side.Old) c.requires.1 ∙ union_shape c.requires.0) c.fields.ensures in
     let is = variant_fields c.in-Some.found (among_shape (on_holds c.args.pair Side.New) found ∙ union_shape c.requires.0) c.fields-2.ensures in
     reports_as
-    (kept_item _ _ _ c.ordinal.ensures c.survivor_item.ensures c.in-Some.is ∙ variant_kept _ c.args.pair c.requires.1 found _ c.requires.0)
+    (kept_item _ _ _ c.ordinal.ensures c.standing_item.ensures c.in-Some.is ∙ variant_kept _ c.args.pair c.requires.1 found _ c.requires.0)
     (sets_told c.fields.ensures.image c.fields-2.ensures.image (ap (λ n. c.args.union.now ++ (bytes "::" ++ n)) c.name.ensures) _ _ was is c.compare_field_sets.ensures)

@@ -5,4 +5,4 @@ use Rattle.items.proofs.unmatched.unmatched_item.Goals as goal
 
 pub returns : goal.returns
 returns c =
-    lone_alone _ _ _ c.ordinal.ensures c.off.ensures c.has_item.ensures c.if-has_item.false refl c.requires c.lone.result c.lone.ensures c.emit.ensures
+    lone_alone _ _ _ c.ordinal.ensures c.off.ensures c.places.ensures c.has_item.ensures c.if-has_item.false refl c.requires c.lone.result c.lone.ensures c.emit.ensures

@@ -2,6 +2,6 @@
 use Rattle.survivors.proofs.Laws.Passed.{Having}
 use Rattle.survivors.proofs.items.has_item.Given as goal
 
-abbrev pub invariant-loop-item : goal.invariant-loop-item
-invariant-loop-item l =
-    (goal.iterator-loop-item).can_next l.item-iterator × (goal.iterator-loop-item).is_finite l.item-iterator × Having l.items l.ordinal l.item-iterator
+abbrev pub invariant-loop-at : goal.invariant-loop-at
+invariant-loop-at l =
+    (goal.iterator-loop-at).can_next l.at-iterator × (goal.iterator-loop-at).is_finite l.at-iterator × Having l.places l.ordinal l.at-iterator
