@@ -1,4 +1,4 @@
--- Props: the facts that handles hold. Places: a walk over places. Handles, Kinds: what they stand for.
+-- Props: the facts that handles hold. Places: a walk over places. Handles, Kinds: what handles stand for.
 pub mod Props
 pub mod Places
 pub mod Handles

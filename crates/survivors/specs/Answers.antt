@@ -92,7 +92,7 @@ pub record Among (x : Items) (i : Item) : Type 0 where
   pub image : i.image ≡ x.image
   pub shape : i.shape ≡ x.shape
 
--- the item of others at a place, if there is one
+-- the item at a place, if there is one, in the image of others and of their shape
 pub record ItemAt (x : Items) (at : Option ℕ) (r : Option Item) : Type 0 where
   pub place : option_map place_of r ≡ at
   pub among : IfSome r (Among x)
