@@ -15,7 +15,7 @@ use Rattle.rules.proofs.Types.{tag_resolved}
 use Rattle.parts.specs.Handles.{TypeAt}
 use Rattle.parts.specs.declared.handles.Image.{Image}
 use Rattle.parts.specs.declared.handles.TypeRef.{TypeRef}
-use Rattle.types.specs.Nodes.{Leaf, One, Two, Node, Inner}
+use Rattle.types.specs.Nodes.{One, Two, Node, Inner}
 use Rattle.types.specs.Resolved.{node_in, type_in}
 use Rattle.types.specs.Likeness.{likeness_of, answer_of, joint, After, ComparedAt, Compares}
 use Rattle.types.specs.declared.equal.Compared.{Compared}
@@ -65,88 +65,114 @@ module _ (s : List ℕ) (i : ℕ) (t : List ℕ) (j : ℕ) {r : Bool} (e : r ≡
       let d : equal_trees (type_in s i) (type_in t j) ≡ false = roots_differ _ _ (tree_in s i) (tree_in t j) (rw (root_is old s i g, root_is new t j h, ← e) f) in
       record { answer = rw d; ends = tt }
 
-  module _ (f : r ≡ true) where
-    pub tags_same : (label_in t j).tag ≡ (label_in s i).tag
-    tags_same = sym (same_tags _ _ (label_in s i) (label_in t j) (sym e ∙ f))
+  pub tags_same : r ≡ true → (label_in t j).tag ≡ (label_in s i).tag
+  tags_same f = sym (same_tags _ _ (label_in s i) (label_in t j) (sym e ∙ f))
 
-    -- n is what the tag x says of the two nodes, and p and q are where their labels end
-    module _ {x : ℕ} (y : x ≡ (label_in s i).tag) (n : Likeness) (g : likeness_of n ≡ likeness_by true (vector x)) {p q : ℕ} (k : p ≡ label_end s i)
-        (m : q ≡ label_end t j) where
-      node_likeness : likeness_of n ≡ label_likeness (node_in s i) (node_in t j)
-      unfolding label_likeness
-      node_likeness = g ∙ rw (← e, f, tag_resolved (schema_of s).registry (label_in s i), y)
+-- Two nodes whose labels are the same: they have one tag, with so many inner types, and by it they are n; p and q are where their labels end.
+pub record Heads (left right : ℕ) (s : List ℕ) (i : ℕ) (t : List ℕ) (j inner : ℕ) (n : Likeness) (p q : ℕ) : Type 0 where
+  pub old : Node left s i inner
+  pub new : Node right t j inner
+  pub likeness : likeness_of n ≡ label_likeness (node_in s i) (node_in t j)
+  pub old_end : p ≡ label_end s i
+  pub new_end : q ≡ label_end t j
 
-      pub leaves : Leaf s i → Leaf t j → ComparedAt s i t j (Some (record { likeness = n; old_end = p; new_end = q }))
-      unfolding resolve
-      leaves a b = record {
-        answer = rw (a.tree, b.tree) (node_likeness ∙ sym (leaf_likeness _ _));
-        ends = (k ∙ sym a.end, m ∙ sym b.end);
+-- x is the tag
+pub heads : {s : List ℕ} {i : ℕ} {t : List ℕ} {j : ℕ} {r : Bool} → r ≡ same_label (node_in s i) (node_in t j) → r ≡ true
+    → {x : ℕ} → x ≡ (label_in s i).tag → {inner : ℕ} → Inner x inner → {n : Likeness} → likeness_of n ≡ likeness_by true (vector x)
+    → {p q : ℕ} → p ≡ label_end s i → q ≡ label_end t j → {left right : ℕ} → TypeHere left s i → TypeHere right t j
+    → Heads left right s i t j inner n p q
+unfolding label_likeness
+heads {s} {i} {t} {j} e f y m g k l a b = record {
+  old = node m a (sym y);
+  new = node m b (tags_same s i t j e f ∙ sym y);
+  likeness = g ∙ rw (← e, f, tag_resolved (schema_of s).registry (label_in s i), y);
+  old_end = k;
+  new_end = l;
+}
+
+module _ {left right : ℕ} {s : List ℕ} {i : ℕ} {t : List ℕ} {j inner : ℕ} {n : Likeness} {p q : ℕ} (h : Heads left right s i t j inner n p q) where
+  pub leaves : inner ≡ 0 → ComparedAt s i t j (Some (record { likeness = n; old_end = p; new_end = q }))
+  unfolding resolve
+  leaves z =
+      let a = h.old.none z in
+      let b = h.new.none z in
+      record {
+        answer = rw (a.tree, b.tree) (h.likeness ∙ sym (leaf_likeness _ _));
+        ends = (h.old_end ∙ sym a.end, h.new_end ∙ sym b.end);
       }
 
-      -- h is how the first inner types compare
-      module _ {h : Option Compared} (c : ComparedAt s p t q h) where
-        module _ (u : h ≡ None) where
-          lost : likeness (type_in s (label_end s i)) (type_in t (label_end t j)) ≡ different
-          lost = sym (rw (k, m) at c.answer) ∙ ap answer_of u
+  -- o is how the first inner types compare
+  module _ {o : Option Compared} (c : ComparedAt s p t q o) where
+    module _ (u : o ≡ None) where
+      lost : likeness (type_in s (label_end s i)) (type_in t (label_end t j)) ≡ different
+      lost = sym (rw (h.old_end, h.new_end) at c.answer) ∙ ap answer_of u
 
-          one_lost : One s i → One t j → ComparedAt s i t j None
-          unfolding resolve
-          one_lost a b = record {
-            answer = rw (a.tree, b.tree) (sym (one_likeness _ _ _ _ ∙ rw lost (joint_different _)));
-            ends = tt;
-          }
+      one_lost : One s i → One t j → ComparedAt s i t j None
+      unfolding resolve
+      one_lost a b = record {
+        answer = rw (a.tree, b.tree) (sym (one_likeness _ _ _ _ ∙ rw lost (joint_different _)));
+        ends = tt;
+      }
 
-          two_lost : Two s i → Two t j → ComparedAt s i t j None
-          unfolding resolve joint
-          two_lost a b = record {
-            answer = rw (a.tree, b.tree) (sym (two_likeness _ _ _ _ _ _ ∙ ap (λ l. joint l (likeness (type_in s (type_end s (label_end s i))) (type_in t (type_end t (label_end t j))))) (ap (joint (label_likeness (node_in s i) (node_in t j))) lost ∙ joint_different _)));
-            ends = tt;
-          }
+      two_lost : Two s i → Two t j → ComparedAt s i t j None
+      unfolding resolve joint
+      two_lost a b = record {
+        answer = rw (a.tree, b.tree) (sym (two_likeness _ _ _ _ _ _ ∙ ap (λ l. joint l (likeness (type_in s (type_end s (label_end s i))) (type_in t (type_end t (label_end t j))))) (ap (joint (label_likeness (node_in s i) (node_in t j))) lost ∙ joint_different _)));
+        ends = tt;
+      }
 
-          pub first_lost : {inner old new : ℕ} → Node old s i inner → Node new t j inner → (inner ≡ 0 → ⊥) → ComparedAt s i t j None
-          first_lost {inner} a b f =
-              by_count inner (λ z. absurd (f z)) (λ z. one_lost (a.single z) (b.single z)) (λ x₁ y₁. two_lost (a.pair x₁ y₁) (b.pair x₁ y₁))
+      pub first_lost : (inner ≡ 0 → ⊥) → ComparedAt s i t j None
+      first_lost f =
+          by_count inner
+          (λ z. absurd (f z))
+          (λ z. one_lost (h.old.single z) (h.new.single z))
+          (λ x y. two_lost (h.old.pair x y) (h.new.pair x y))
 
-        -- they are not different, and o is both together
-        module _ {d : Compared} (u : h ≡ Some d) {o : Compared} (w : After (likeness_of n) d o) where
-          found : (likeness_of d.likeness ≡ likeness (type_in s (label_end s i)) (type_in t (label_end t j)))
-              × (d.old_end ≡ type_end s (label_end s i)) × (d.new_end ≡ type_end t (label_end t j))
-          found = let g = (rw (k, m, u) at c) in (g.answer, g.ends.0, g.ends.1)
+    -- they are not different, and w is both together
+    module _ {d : Compared} (u : o ≡ Some d) {w : Compared} (v : After (likeness_of n) d w) where
+      found : (likeness_of d.likeness ≡ likeness (type_in s (label_end s i)) (type_in t (label_end t j)))
+          × (d.old_end ≡ type_end s (label_end s i)) × (d.new_end ≡ type_end t (label_end t j))
+      found = let g = (rw (h.old_end, h.new_end, u) at c) in (g.answer, g.ends.0, g.ends.1)
 
-          first_likeness : likeness_of o.likeness
-              ≡ joint (label_likeness (node_in s i) (node_in t j)) (likeness (type_in s (label_end s i)) (type_in t (label_end t j)))
-          first_likeness = w.likeness ∙ rw (node_likeness, found.0)
+      first_likeness : likeness_of w.likeness
+          ≡ joint (label_likeness (node_in s i) (node_in t j)) (likeness (type_in s (label_end s i)) (type_in t (label_end t j)))
+      first_likeness = v.likeness ∙ rw (h.likeness, found.0)
 
-          pub second_places : (o.old_end ≡ type_end s (label_end s i)) × (o.new_end ≡ type_end t (label_end t j))
-          second_places = (w.old_end ∙ found.1, w.new_end ∙ found.2)
+      pub second_places : (w.old_end ≡ type_end s (label_end s i)) × (w.new_end ≡ type_end t (label_end t j))
+      second_places = (v.old_end ∙ found.1, v.new_end ∙ found.2)
 
-          pub ones : One s i → One t j → ComparedAt s i t j (Some o)
-          unfolding resolve
-          ones a b = record {
+      pub ones : inner ≡ 1 → ComparedAt s i t j (Some w)
+      unfolding resolve
+      ones z =
+          let a = h.old.single z in
+          let b = h.new.single z in
+          record {
             answer = rw (a.tree, b.tree) (first_likeness ∙ sym (one_likeness _ _ _ _));
             ends = (second_places.0 ∙ sym a.end, second_places.1 ∙ sym b.end);
           }
 
-          -- h₂ is how the second ones compare
-          module _ (a : Two s i) (b : Two t j) {h₂ : Option Compared} (c₂ : ComparedAt s o.old_end t o.new_end h₂) where
-            second : ComparedAt s (type_end s (label_end s i)) t (type_end t (label_end t j)) h₂
-            second = rw (second_places.0, second_places.1) at c₂
+      -- o₂ is how the second ones compare
+      module _ (f : inner ≡ 0 → ⊥) (g : inner ≡ 1 → ⊥) {o₂ : Option Compared} (c₂ : ComparedAt s w.old_end t w.new_end o₂) where
+        second : ComparedAt s (type_end s (label_end s i)) t (type_end t (label_end t j)) o₂
+        second = rw (second_places.0, second_places.1) at c₂
 
-            pub second_lost : h₂ ≡ None → ComparedAt s i t j None
-            unfolding resolve
-            second_lost e₂ = record {
-              answer = rw (a.tree, b.tree) (sym (two_likeness _ _ _ _ _ _ ∙ ap (joint _) (sym second.answer ∙ ap answer_of e₂) ∙ joint_different _));
-              ends = tt;
+        pub second_lost : o₂ ≡ None → ComparedAt s i t j None
+        unfolding resolve
+        second_lost e₂ = record {
+          answer = rw ((h.old.pair f g).tree, (h.new.pair f g).tree) (sym (two_likeness _ _ _ _ _ _ ∙ ap (joint _) (sym second.answer ∙ ap answer_of e₂) ∙ joint_different _));
+          ends = tt;
+        }
+
+        pub twos : {d₂ : Compared} → o₂ ≡ Some d₂ → {r : Compared} → After (likeness_of w.likeness) d₂ r → ComparedAt s i t j (Some r)
+        unfolding resolve
+        twos e₂ {r} v₂ =
+            let m = (rw e₂ at second) in
+            let a = h.old.pair f g in
+            let b = h.new.pair f g in
+            record {
+              answer = rw (a.tree, b.tree) (v₂.likeness ∙ (rw (first_likeness, m.answer) (sym (two_likeness _ _ _ _ _ _))));
+              ends = (v₂.old_end ∙ m.ends.0 ∙ sym a.end, v₂.new_end ∙ m.ends.1 ∙ sym b.end);
             }
-
-            pub twos : {d₂ : Compared} → h₂ ≡ Some d₂ → {r : Compared} → After (likeness_of o.likeness) d₂ r → ComparedAt s i t j (Some r)
-            unfolding resolve
-            twos e₂ {r} w₂ =
-                let g = (rw e₂ at second) in
-                record {
-                  answer = rw (a.tree, b.tree) (w₂.likeness ∙ (rw (first_likeness, g.answer) (sym (two_likeness _ _ _ _ _ _))));
-                  ends = (w₂.old_end ∙ g.ends.0 ∙ sym a.end, w₂.new_end ∙ g.ends.1 ∙ sym b.end);
-                }
 
 -- two inner types at the places that they were read from
 pub placed : {a b : Image} {m n i j : ℕ} {t u : TypeRef} {r : Option Compared} → TypeAt a m i t → TypeAt b n j u → Compares t u r → ComparedAt a.bytes.now i b.bytes.now j r
