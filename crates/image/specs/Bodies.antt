@@ -3,12 +3,13 @@ use Rattle.std.specs.Prelude.{List, [], ℕ, eqb, length}
 use Rattle.std.specs.Prelude.{None}
 use Rattle.image.specs.Codes.{number, kind_refusal, body_refusal, message_kind, enum_kind, flags_kind, union_kind, newtype_kind, config_kind, alias_kind, trait_kind, impl_kind}
 use Rattle.image.specs.Kinds.{Kind, message, enum, flags, union, newtype, config, alias, trait, impl, other, kind_of}
-use Rattle.image.specs.Schema.{Decl, decl, unmarked, no_type}
+use Rattle.image.specs.Schema.{Decl, decl, struck, unmarked, no_type}
 use Rattle.image.specs.Parse.{Parsed, ok, no, bind, need, byte_at, counted}
 use Rattle.image.specs.Names.{name_at}
 use Rattle.image.specs.Types.{type_at}
 use Rattle.image.specs.Fields.{marks_at, field_at, bare_at, variant_at}
 use Rattle.image.specs.Widths.{wire_bits_at, wire_bytes_at, width_at}
+use Rattle.image.specs.Tombstones.{tombstones_at}
 
 -- 0 message: name, marks, u16 count, fields
 unfoldable pub message_at : List ℕ → ℕ → Parsed Decl
@@ -36,10 +37,10 @@ flags_at format s at =
     ok (decl (number flags_kind) x unmarked w [] vs no_type) n₃)))
 
 -- 3 union: name, u16 count, then u32 ordinal, name, u16 count, fields each
-unfoldable pub union_at : List ℕ → ℕ → Parsed Decl
-union_at s at =
+unfoldable pub union_at : ℕ → List ℕ → ℕ → Parsed Decl
+union_at format s at =
     bind (name_at (number body_refusal) s at) (λ x n₁.
-    bind (counted variant_at s n₁) (λ vs n₂.
+    bind (counted (variant_at format) s n₁) (λ vs n₂.
     ok (decl (number union_kind) x unmarked None [] vs no_type) n₂))
 
 -- 4 newtype: name, type
@@ -57,12 +58,16 @@ other_at kind s at = bind (name_at (number body_refusal) s at) (λ x n. ok (decl
 unfoldable pub impl_at : List ℕ → ℕ → Parsed Decl
 impl_at s at = ok (decl (number impl_kind) [] unmarked None [] [] no_type) at
 
+-- "closing each message, enum, flags, union": what a parser gives, with its tombstones
+unfoldable pub closed : ℕ → (List ℕ → ℕ → Parsed Decl) → List ℕ → ℕ → Parsed Decl
+closed format p s at = bind (p s at) (λ d n. bind (tombstones_at format s n) (λ ts m. ok (struck d ts) m))
+
 -- what follows the kind
 unfoldable pub decl_at : ℕ → Kind → List ℕ → ℕ → Parsed Decl
-decl_at format message s at = message_at s at
-decl_at format enum s at = enum_at format s at
-decl_at format flags s at = flags_at format s at
-decl_at format union s at = union_at s at
+decl_at format message s at = closed format message_at s at
+decl_at format enum s at = closed format (enum_at format) s at
+decl_at format flags s at = closed format (flags_at format) s at
+decl_at format union s at = closed format (union_at format) s at
 decl_at format newtype s at = newtype_at s at
 decl_at format config s at = other_at (number config_kind) s at
 decl_at format alias s at = other_at (number alias_kind) s at

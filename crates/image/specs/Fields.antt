@@ -6,6 +6,7 @@ use Rattle.image.specs.Schema.{Marks, Encoding, Field, Variant}
 use Rattle.image.specs.Parse.{Parsed, ok, no, bind, pick, code_at, number_at, counted}
 use Rattle.image.specs.Names.{name_at}
 use Rattle.image.specs.Types.{type_at}
+use Rattle.image.specs.Tombstones.{tombstones_at}
 
 -- "Marks are a u8: bit 0 deprecated, bit 1 non-exhaustive, others 0, both bits allowed everywhere."
 unfoldable pub marks_of : ℕ → Marks
@@ -51,12 +52,13 @@ unfoldable pub bare_at : List ℕ → ℕ → Parsed Variant
 bare_at s at =
     bind (number_at 4 s at) (λ o n₁.
     bind (name_at (number body_refusal) s n₁) (λ x n₂.
-    ok (record { ordinal = o; name = x; fields = [] }) n₂))
+    ok (record { ordinal = o; name = x; fields = []; tombstones = [] }) n₂))
 
--- a variant of a union: "u32 ordinal, name, u16 count, fields"
-unfoldable pub variant_at : List ℕ → ℕ → Parsed Variant
-variant_at s at =
+-- a variant of a union: "u32 ordinal, name, u16 count, fields", and its tombstones
+unfoldable pub variant_at : ℕ → List ℕ → ℕ → Parsed Variant
+variant_at format s at =
     bind (number_at 4 s at) (λ o n₁.
     bind (name_at (number body_refusal) s n₁) (λ x n₂.
     bind (counted field_at s n₂) (λ fs n₃.
-    ok (record { ordinal = o; name = x; fields = fs }) n₃)))
+    bind (tombstones_at format s n₃) (λ ts n₄.
+    ok (record { ordinal = o; name = x; fields = fs; tombstones = ts }) n₄))))

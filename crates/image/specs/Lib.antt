@@ -1,6 +1,7 @@
--- The image format, to be read beside document 01's section "Image reader" and its table of refusals, and R-6 of document 02.
--- Codes, Kinds, Formats: the numbers of answers and of images, by name. Schema: what an image holds. Parse: how one read follows another. Names, Types, Fields, Widths, Bodies, Image: the format, from the inside out.
--- WellFormed: the values of what was accepted. Reads: what the answers of the code's reads say of these. Words: the word of each kind.
+-- The image format, to be read beside document 01's section "Image reader" and its table of refusals, and R-6 and R-10 of document 02.
+-- Codes, Kinds, Formats: the numbers of answers and of images, by name. Schema: what an image holds. Parse: how one read follows another.
+-- Names, Types, Tombstones, Fields, Widths, Bodies, Image: the format, from the inside out. WellFormed: the values of what was accepted.
+-- Reads: what the answers of the code's reads say of these. Words: the word of each kind.
 pub mod Codes
 pub mod Kinds
 pub mod Formats
@@ -9,6 +10,7 @@ pub mod Schema
 pub mod Parse
 pub mod Names
 pub mod Types
+pub mod Tombstones
 pub mod Fields
 pub mod Widths
 pub mod Bodies

@@ -70,6 +70,7 @@ tag_number tag.Bits = number bits_tag
 abbrev pub format_number : Format → ℕ
 format_number format.One = 1
 format_number format.Two = 2
+format_number format.Three = 3
 
 -- What a number is read as: what has it, or else the refusal of a number that nothing has.
 abbrev pub IsKind : ℕ → Result Kind Refusal → Type 0

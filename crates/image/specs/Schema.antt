@@ -45,15 +45,18 @@ pub record Field : Type 0 where
   pub limit : Option ℕ
   pub type : Ty
 
--- A variant of an enum, a bit of flags (its ordinal is the bit) or a variant of a union; only the last has fields.
+-- A variant of an enum, a bit of flags (its ordinal is the bit) or a variant of a union; only the last has fields, and tombstones in a
+-- format that stores them: the numbers that are struck off in it.
 pub record Variant : Type 0 where
   pub ordinal : ℕ
   pub name : Name
   pub fields : List Field
+  pub tombstones : List ℕ
 
 -- A declaration; its kind is the number that the image has (Kinds).
 -- A message has fields; an enum, flags and a union have variants; a newtype has an inner type. Enums and flags have a width in a format
--- that stores it: wire bits or wire bytes. What a kind has not is `unmarked`, none, empty or `no_type`, and nothing reads it.
+-- that stores it: wire bits or wire bytes. The first four have tombstones in a format that stores them. What a kind has not is `unmarked`,
+-- none, empty or `no_type`, and nothing reads it.
 pub record Decl : Type 0 where
   pub kind : ℕ
   pub name : Name
@@ -62,13 +65,20 @@ pub record Decl : Type 0 where
   pub fields : List Field
   pub variants : List Variant
   pub inner : Ty
+  pub tombstones : List ℕ
 
 abbrev pub no_type : Ty
 no_type = leaf (label (number primitive_tag) 0 0 [])
 
+-- of which no number is struck off
 abbrev pub decl : ℕ → Name → Marks → Option ℕ → List Field → List Variant → Ty → Decl
 decl kind name marks width fields variants inner =
-    record { kind = kind; name = name; marks = marks; width = width; fields = fields; variants = variants; inner = inner }
+    record { kind = kind; name = name; marks = marks; width = width; fields = fields; variants = variants; inner = inner; tombstones = [] }
+
+-- the declaration with these numbers struck off
+abbrev pub struck : Decl → List ℕ → Decl
+struck d numbers =
+    record { kind = d.kind; name = d.name; marks = d.marks; width = d.width; fields = d.fields; variants = d.variants; inner = d.inner; tombstones = numbers }
 
 -- the format is the number in the head; entry i of the registry is the declaration with id i, or is empty
 pub record Schema : Type 0 where

@@ -2,8 +2,8 @@
 use Rattle.std.specs.Prelude.{Option, None, Some}
 use Rattle.std.specs.Prelude.{Bool, ◌||◌, List, ℕ, eqb}
 use Rattle.image.specs.Codes.{number, body_refusal, code_refusal}
-use Rattle.image.specs.Formats.{has_widths}
-use Rattle.image.specs.Parse.{Parsed, ok, bind, pick, need, byte_at}
+use Rattle.image.specs.Formats.{has_widths, stored}
+use Rattle.image.specs.Parse.{Parsed, ok, bind, need, byte_at}
 
 -- "a u8 of wire bits after an enum's marks": any
 unfoldable pub wire_bits_at : List ℕ → ℕ → Parsed ℕ
@@ -18,4 +18,4 @@ wire_bytes_at s at = bind (byte_at (number body_refusal) s at) (λ b n. need (wi
 
 -- the width that stands there in a format that stores it; in another one none does
 unfoldable pub width_at : ℕ → (List ℕ → ℕ → Parsed ℕ) → List ℕ → ℕ → Parsed (Option ℕ)
-width_at format wire s at = pick (has_widths format) (bind (wire s at) (λ w n. ok (Some w) n)) (ok None at)
+width_at format wire s at = stored (has_widths format) None (λ s at. bind (wire s at) (λ w n. ok (Some w) n)) s at

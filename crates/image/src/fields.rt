@@ -1,19 +1,19 @@
 // The items of a body: fields, variants and bits.
-ghost use Rattle.std.specs.Prelude.{◌≡◌, ℕ, ◌^◌, ◌<◌, List, ⊤};
-ghost use Rattle.image.specs.Parse.{Parsed, counted};
+ghost use Rattle.std.specs.Prelude.{◌≡◌, ◌^◌, ◌<◌};
+ghost use Rattle.image.specs.Numbers.{format_number};
+ghost use Rattle.image.specs.Parse.{counted};
 ghost use Rattle.image.specs.Fields.{marks_at, encoding_at, limit_at, field_at, bare_at, variant_at};
-ghost use Rattle.image.specs.Reads.{read_of, skip, Carries, ReadsAt, ReadsAs, ReadsInside};
+ghost use Rattle.image.specs.Reads.{read_of, skip, Carries};
 
 use crate::Read;
+use crate::counted::{read_counted, read_items};
+use crate::formats::Format;
 use crate::names::read_name;
-use crate::numbers::{read_code, read_number, u16_at};
+use crate::numbers::{read_code, read_number};
 use crate::positions::Position;
 use crate::refusals::Refusal;
+use crate::tombstones::read_struck;
 use crate::types::read_type_at;
-
-// The length up to which a u16 carries every position of a slice, its end included. Up to it, from a position within the slice on, the
-// items are read with positions held as u16.
-const NARROW: usize = 65535;
 
 // Bit 0 deprecated, bit 1 non-exhaustive, others 0.
 #[tactic(auto, using(crate::proofs::Laws::Fields::marks_code))]
@@ -101,59 +101,22 @@ fn read_field<P: Position>(s: &[u8], at: P) -> Read
     read_type_at(s, type_at.place())
 }
 
-// A count, and as many items, each of which `read` reads.
-fn read_counted<P: Position, F: Fn(&[u8], P) -> Read>(s: &[u8], at: P, read: F) -> Read
-    requires carried { Carries P.carries s.now }
-    requires callable { ReadsAt (F.pre read) P.carries }
-    requires inside { ReadsInside (F.post read) }
-    ensures { (p : List ℕ → ℕ → Parsed ⊤) → ReadsAs (F.post read) P.place_of p → read_of result ≡ skip (counted p s.now (P.place_of at)) }
-{
-    let here = at.place();
-    let count = read_number(s, here, 2);
-    let Ok(first) = count else {
-        return count;
-    };
-    let mut next = P::hold(first);
-    for _ in 0..u16_at(s, here) {
-        let step = read(s, next);
-        let Ok(end) = step else {
-            return step;
-        };
-        next = P::hold(end);
-    }
-    Ok(next.place())
-}
-
-// A variant of a union: ordinal, name and fields.
-fn read_variant<P: Position>(s: &[u8], at: P) -> Read
+// A variant of a union: ordinal, name, fields and tombstones.
+fn read_variant<P: Position>(format: Format, s: &[u8], at: P) -> Read
     requires { Carries P.carries s.now }
-    ensures { read_of result ≡ skip (variant_at s.now (P.place_of at)) }
+    ensures { read_of result ≡ skip (variant_at (format_number format) s.now (P.place_of at)) }
 {
     let bare = read_bare(s, at);
     let Ok(after) = bare else {
         return bare;
     };
     let fields_at = P::hold(after);
-    read_counted(s, fields_at, read_field)
-}
-
-// Items from a position, after their count: positions are held narrow where a u16 carries all of them.
-fn read_items<N: Fn(&[u8], u16) -> Read, W: Fn(&[u8], usize) -> Read>(
-    s: &[u8],
-    at: usize,
-    narrow: N,
-    wide: W,
-) -> Read
-    requires narrow_callable { ReadsAt (N.pre narrow) (λ n. n < 2 ^ 16) }
-    requires narrow_inside { ReadsInside (N.post narrow) }
-    requires wide_callable { ReadsAt (W.pre wide) (λ _. ⊤) }
-    requires wide_inside { ReadsInside (W.post wide) }
-    ensures { (p : List ℕ → ℕ → Parsed ⊤) → ReadsAs (N.post narrow) (λ i. i) p → ReadsAs (W.post wide) (λ i. i) p → read_of result ≡ skip (counted p s.now at) }
-{
-    if s.len() <= NARROW && at <= s.len() {
-        return read_counted(s, at as u16, narrow);
-    }
-    read_counted(s, at, wide)
+    let fields = read_counted(s, fields_at, read_field);
+    let Ok(after) = fields else {
+        return fields;
+    };
+    let tombstones_at = P::hold(after);
+    read_struck(format, s, tombstones_at)
 }
 
 // A count and as many fields.
@@ -171,8 +134,18 @@ pub fn read_bares(s: &[u8], at: usize) -> Read
 }
 
 // A count and as many variants of a union.
-pub fn read_variants(s: &[u8], at: usize) -> Read
-    ensures { read_of result ≡ skip (counted variant_at s.now at) }
+pub fn read_variants(format: Format, s: &[u8], at: usize) -> Read
+    ensures { read_of result ≡ skip (counted (variant_at (format_number format)) s.now at) }
 {
-    read_items(s, at, read_variant, read_variant)
+    read_items(
+        s,
+        at,
+        |s: &[u8], at: u16| -> Read
+            requires { Carries (λ n. n < 2 ^ 16) s.now }
+            ensures { read_of result ≡ skip (variant_at (format_number format) s.now at) }
+        { read_variant(format, s, at) },
+        |s: &[u8], at: usize| -> Read
+            ensures { read_of result ≡ skip (variant_at (format_number format) s.now at) }
+        { read_variant(format, s, at) },
+    )
 }

@@ -1,6 +1,6 @@
 // The formats of an image, and what each of them stores.
 ghost use Rattle.std.specs.Prelude.{◌≡◌, true};
-ghost use Rattle.image.specs.Formats.{known, has_widths};
+ghost use Rattle.image.specs.Formats.{known, has_widths, has_tombstones};
 ghost use Rattle.image.specs.Numbers.{format_number, IsFormat};
 
 use crate::refusals::Refusal;
@@ -10,6 +10,7 @@ use crate::refusals::Refusal;
 pub enum Format {
     One = 1,
     Two = 2,
+    Three = 3,
 }
 
 impl Format {
@@ -22,6 +23,7 @@ impl Format {
         match number {
             1 => Format::One,
             2 => Format::Two,
+            3 => Format::Three,
             _ => unreachable!(),
         }
     }
@@ -33,7 +35,18 @@ impl Format {
     {
         match self {
             Format::One => false,
-            Format::Two => true,
+            Format::Two | Format::Three => true,
+        }
+    }
+
+    // Whether they store the numbers that are struck off.
+    #[tactic(auto, unfolding(crate::specs::Formats::has_tombstones))]
+    pub fn has_tombstones(self) -> bool
+        ensures { result ≡ has_tombstones (format_number self) }
+    {
+        match self {
+            Format::One | Format::Two => false,
+            Format::Three => true,
         }
     }
 }
@@ -48,6 +61,7 @@ impl TryFrom<usize> for Format {
         match number {
             1 => Ok(Format::One),
             2 => Ok(Format::Two),
+            3 => Ok(Format::Three),
             _ => Err(Refusal::Format),
         }
     }

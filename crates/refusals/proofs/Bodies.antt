@@ -1,8 +1,10 @@
 -- A body is refused by 6 to 10 and by nothing else. Assumes nothing.
 use mathlib.Core.List.{List}
 use Prim.Native.Nat.{ℕ, zero, suc, ◌+◌, ◌≤◌}
+use mathlib.Core.Bool.{Bool}
 use lib.Dec.{T, leb, lit≤}
-use Rattle.image.specs.Schema.{Ty, Label}
+use Rattle.image.specs.Schema.{Ty, Label, Decl}
+use Rattle.image.specs.Formats.{stored}
 use Rattle.image.specs.Parse.{Parsed, no, byte_at, code_at, number_at, counted}
 use Rattle.image.specs.Names.{name_at, names_at}
 use Rattle.image.specs.Types.{Follows, code, sub_byte, identity, size, nothing, bits, unknown, follows_tag, inner_types, after_tag, label_of, inner_at, type_of, type_at}
@@ -10,7 +12,8 @@ use Rattle.image.specs.Fields.{marks_at, encoding_of, encoding_at, limit_at, fie
 use Rattle.image.specs.Codes.{number, kind_refusal, body_refusal, code_refusal}
 use Rattle.image.specs.Kinds.{Kind, message, enum, flags, union, newtype, config, alias, trait, impl, other, kind_of}
 use Rattle.image.specs.Widths.{wire_bits_at, wire_bytes_at, width_at}
-use Rattle.image.specs.Bodies.{message_at, enum_at, flags_at, union_at, newtype_at, other_at, impl_at, decl_at, body_of}
+use Rattle.image.specs.Tombstones.{tombstones_at}
+use Rattle.image.specs.Bodies.{message_at, enum_at, flags_at, union_at, newtype_at, other_at, impl_at, closed, decl_at, body_of}
 use Rattle.image.specs.Image.{entry_of, entries_of}
 use Rattle.refusals.proofs.Told.{Told, told_ok, told_no, Any, told_bind, told_pick, told_within, told_many}
 
@@ -112,17 +115,28 @@ bare_told : (s : List ℕ) (at : ℕ) → Told Any Body (bare_at s at)
 unfolding bare_at
 bare_told s at = told_bind _ (number_told 4 s at) (λ o n₁ _. told_bind _ (name_told s n₁) (λ x n₂ _. told_ok tt))
 
-variant_told : (s : List ℕ) (at : ℕ) → Told Any Body (variant_at s at)
+-- what a format stores
+stored_told : {A : Type 0} (stores : Bool) (absent : A) (p : List ℕ → ℕ → Parsed A) → ((s : List ℕ) (at : ℕ) → Told Any Body (p s at))
+    → (s : List ℕ) (at : ℕ) → Told Any Body (stored stores absent p s at)
+unfolding stored
+stored_told stores absent p told s at = told_pick _ (λ h. told s at) (λ h. told_ok tt)
+
+tombstones_told : (f : ℕ) (s : List ℕ) (at : ℕ) → Told Any Body (tombstones_at f s at)
+unfolding tombstones_at
+tombstones_told f s at = stored_told _ _ _ (counted_told (number_at 4) (number_told 4)) s at
+
+variant_told : (f : ℕ) (s : List ℕ) (at : ℕ) → Told Any Body (variant_at f s at)
 unfolding variant_at
-variant_told s at =
+variant_told f s at =
     told_bind _ (number_told 4 s at) (λ o n₁ _.
     told_bind _ (name_told s n₁) (λ x n₂ _.
-    told_bind _ (counted_told field_at field_told s n₂) (λ fs n₃ _. told_ok tt)))
+    told_bind _ (counted_told field_at field_told s n₂) (λ fs n₃ _.
+    told_bind _ (tombstones_told f s n₃) (λ ts n₄ _. told_ok tt))))
 
 width_told : (f : ℕ) (wire : List ℕ → ℕ → Parsed ℕ) → ((s : List ℕ) (at : ℕ) → Told Any Body (wire s at)) → (s : List ℕ) (at : ℕ)
     → Told Any Body (width_at f wire s at)
 unfolding width_at
-width_told f wire told s at = told_pick _ (λ h. told_bind _ (told s at) (λ w n _. told_ok tt)) (λ h. told_ok tt)
+width_told f wire told s at = stored_told _ _ _ (λ s at. told_bind _ (told s at) (λ w n _. told_ok tt)) s at
 
 bits_told : (s : List ℕ) (at : ℕ) → Told Any Body (wire_bits_at s at)
 unfolding wire_bits_at
@@ -132,23 +146,33 @@ bytes_told : (s : List ℕ) (at : ℕ) → Told Any Body (wire_bytes_at s at)
 unfolding wire_bytes_at
 bytes_told s at = told_bind _ (byte_told s at) (λ b n _. told_pick _ (λ h. told_ok tt) (λ h. by (number code_refusal) tt tt))
 
+-- and its tombstones
+closed_told : (f : ℕ) (p : List ℕ → ℕ → Parsed Decl) → ((s : List ℕ) (at : ℕ) → Told Any Body (p s at)) → (s : List ℕ) (at : ℕ)
+    → Told Any Body (closed f p s at)
+unfolding closed
+closed_told f p told s at = told_bind _ (told s at) (λ d n _. told_bind _ (tombstones_told f s n) (λ ts m _. told_ok tt))
+
 decl_told : (f : ℕ) (kind : Kind) (s : List ℕ) (at : ℕ) → Told Any Body (decl_at f kind s at)
 unfolding decl_at message_at enum_at flags_at union_at newtype_at other_at impl_at
 decl_told f message s at =
+    closed_told f _ (λ s at.
     told_bind _ (name_told s at) (λ x n₁ _.
     told_bind _ (marks_told s n₁) (λ m n₂ _.
-    told_bind _ (counted_told field_at field_told s n₂) (λ fs n₃ _. told_ok tt)))
+    told_bind _ (counted_told field_at field_told s n₂) (λ fs n₃ _. told_ok tt)))) s at
 decl_told f enum s at =
+    closed_told f _ (λ s at.
     told_bind _ (name_told s at) (λ x n₁ _.
     told_bind _ (marks_told s n₁) (λ m n₂ _.
     told_bind _ (width_told f wire_bits_at bits_told s n₂) (λ w n₃ _.
-    told_bind _ (counted_told bare_at bare_told s n₃) (λ vs n₄ _. told_ok tt))))
+    told_bind _ (counted_told bare_at bare_told s n₃) (λ vs n₄ _. told_ok tt))))) s at
 decl_told f flags s at =
+    closed_told f _ (λ s at.
     told_bind _ (name_told s at) (λ x n₁ _.
     told_bind _ (width_told f wire_bytes_at bytes_told s n₁) (λ w n₂ _.
-    told_bind _ (counted_told bare_at bare_told s n₂) (λ vs n₃ _. told_ok tt)))
+    told_bind _ (counted_told bare_at bare_told s n₂) (λ vs n₃ _. told_ok tt)))) s at
 decl_told f union s at =
-    told_bind _ (name_told s at) (λ x n₁ _. told_bind _ (counted_told variant_at variant_told s n₁) (λ vs n₂ _. told_ok tt))
+    closed_told f _ (λ s at.
+    told_bind _ (name_told s at) (λ x n₁ _. told_bind _ (counted_told (variant_at f) (variant_told f) s n₁) (λ vs n₂ _. told_ok tt))) s at
 decl_told f newtype s at =
     told_bind _ (name_told s at) (λ x n₁ _. told_bind _ (type_at_told s n₁) (λ t n₂ _. told_ok tt))
 decl_told f config s at = told_bind _ (name_told s at) (λ x n _. told_ok tt)

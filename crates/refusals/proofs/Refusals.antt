@@ -14,7 +14,7 @@ use Rattle.image.specs.Parse.{Parsed, ok, no, bind, pick}
 use Rattle.image.specs.Names.{names_at}
 use Rattle.image.specs.Formats.{known}
 use Rattle.image.specs.Image.{format, entry_count, id_count, segment_count, segments_at, head_of, tables_of, laid, read_image}
-use Rattle.refusals.specs.Refusals.{Long, Eight, Known, one, two, Format, Over, entries, ids, segments, Crowded, Head, segment_at, Segment, ShortHead, head, tables, namespace, body_start, Misplaced, entry, after, Tables, Contents, ExactlyIf}
+use Rattle.refusals.specs.Refusals.{Long, Eight, Known, one, two, three, Format, Over, entries, ids, segments, Crowded, Head, segment_at, Segment, ShortHead, head, tables, namespace, body_start, Misplaced, entry, after, Tables, Contents, ExactlyIf}
 use Rattle.maps.proofs.Tests.{no_both, both}
 use Rattle.refusals.proofs.Told.{Told, told_ok, told_no, Any, told_bind, told_pick, told_then}
 use Rattle.refusals.proofs.Bodies.{Body, entries_told}
@@ -61,24 +61,23 @@ over_told s e = go (leb (entry_count s) 512) (leb (id_count s) 512) refl refl e
     go true false p q r = ids (leb-false _ _ q)
     go false b p q r = entries (leb-false _ _ p)
 
--- 1 or 2, and nothing else
+-- 1, 2 or 3, and nothing else
 known_is : (n : ℕ) → known n ≡ true → Known n
 unfolding known
-known_is n e = go (eqb n 1) refl
+known_is n e = go (eqb n 1) (eqb n 2) refl refl
   where
-    go : (b : Bool) → eqb n 1 ≡ b → Known n
-    go true q = one (eqb-true _ _ q)
-    go false q =
-        let x = both _ _ e in
-        let l = leb-true 1 n x.0 in
-        let m = leb-true n 2 x.1 in
-        let d = eqb-false n 1 q in
-        two (omega arith)
+    go : (b c : Bool) → eqb n 1 ≡ b → eqb n 2 ≡ c → Known n
+    go true c q r = one (eqb-true _ _ q)
+    go false true q r = two (eqb-true _ _ r)
+    go false false q r =
+        let x : (leb 1 n ≡ true) × (leb n 3 ≡ true) = both _ _ e in
+        three (omega (arith, leb-true 1 n x.0, leb-true n 3 x.1, eqb-false n 1 q, eqb-false n 2 r))
 
 is_known : (n : ℕ) → Known n → known n ≡ true
 unfolding known
 is_known n (one e) = rw e
 is_known n (two e) = rw e
+is_known n (three e) = rw e
 
 pub head_told : (s : List ℕ) → Told (λ h n. Head s) (Given s) (head_of s)
 unfolding head_of Given

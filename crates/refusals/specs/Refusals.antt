@@ -15,12 +15,13 @@ pub record Eight (s : List ℕ) : Type 0 where
   pub fits : length s ≤ 32768
   pub there : 8 ≤ length s
 
--- the formats: "Refusal 3 now means neither 1 nor 2."
+-- the formats: "refusal 3 now means none of 1, 2, 3"
 pub data Known (n : ℕ) : Type 0 where
   one : n ≡ 1 → Known n
   two : n ≡ 2 → Known n
+  three : n ≡ 3 → Known n
 
--- 3 format: "neither 1 nor 2"
+-- 3 format: "none of 1, 2, 3"
 pub record Format (s : List ℕ) : Type 0 where
   pub eight : Eight s
   pub other : ¬ Known (format s)

@@ -11,6 +11,7 @@ use Rattle.image.specs.Schema.{Name, Variant}
 use Rattle.image.specs.Parse.{Parsed, ok, no, bind, pick, code_at, number_at, counted}
 use Rattle.image.specs.Names.{name_at}
 use Rattle.image.specs.Types.{type_at}
+use Rattle.image.specs.Tombstones.{tombstones_at}
 use Rattle.image.specs.Fields.{marks_at, delta, encoding_of, encoding_at, limit_at, field_at, bare_at, variant_at}
 use Rattle.image.specs.Reads.{skip, Read, read_of}
 use Rattle.image.proofs.Laws.Answers.{Got, next, stop, skip_ok}
@@ -108,7 +109,7 @@ unfolding bare_at bind
 bare_first s at f = go (number_at 4 s at)
   where
     bare : ℕ → Name → Variant
-    bare o x = record { ordinal = o; name = x; fields = [] }
+    bare o x = record { ordinal = o; name = x; fields = []; tombstones = [] }
 
     name : (o : ℕ) (q : Parsed Name) → bind (bind q (λ x m. ok (bare o x) m)) (λ v n. f v.ordinal v.name n) ≡ bind q (λ x m. f o x m)
     name o (ok x m) = refl
@@ -138,14 +139,20 @@ module _ (s : List ℕ) (at : ℕ) where
   unfolding bare_at
   ordinal_name {n = n} o q = next _ o (λ _. q ∙ sym (skip_ok (name_at 8 s n) _))
 
-  -- a variant of a union: its ordinal and name refused, or its fields' answer
-  pub variant_stop : {x : Read} {k : Refusal} → x ≡ Err k → read_of x ≡ skip (bare_at s at) → read_of x ≡ skip (variant_at s at)
-  unfolding variant_at
-  variant_stop h e = bare_stop s at _ h e
+  -- a variant of a union: its ordinal and name refused, or its fields, or its tombstones' answer
+  module _ (format : ℕ) where
+    pub variant_stop : {x : Read} {k : Refusal} → x ≡ Err k → read_of x ≡ skip (bare_at s at) → read_of x ≡ skip (variant_at format s at)
+    unfolding variant_at
+    variant_stop h e = bare_stop s at _ h e
 
-  pub variant_fields : {r : Parsed ⊤} {n : ℕ} → Got (bare_at s at) n → r ≡ skip (counted field_at s n) → r ≡ skip (variant_at s at)
-  unfolding variant_at
-  variant_fields {n = n} b q = bare_next s at _ b (λ o y. q ∙ sym (skip_ok (counted field_at s n) _))
+    module _ {n : ℕ} (b : Got (bare_at s at) n) where
+      pub variant_fields : {x : Read} {k : Refusal} → x ≡ Err k → read_of x ≡ skip (counted field_at s n) → read_of x ≡ skip (variant_at format s at)
+      unfolding variant_at
+      variant_fields h e = bare_next s at _ b (λ o y. stop _ _ h e)
+
+      pub variant_tombstones : {m : ℕ} → Got (counted field_at s n) m → {r : Parsed ⊤} → r ≡ skip (tombstones_at format s m) → r ≡ skip (variant_at format s at)
+      unfolding variant_at
+      variant_tombstones {m} f q = bare_next s at _ b (λ o y. next _ f (λ _. q ∙ sym (skip_ok (tombstones_at format s m) _)))
 
   -- a field: the first part refused, or the one after those that were read, or the type's answer
   pub field_stop : {x : Read} {k : Refusal} → x ≡ Err k → read_of x ≡ skip (bare_at s at) → read_of x ≡ skip (field_at s at)

@@ -14,7 +14,8 @@ use Rattle.image.specs.Names.{name_bytes, name_at, names_at}
 use Rattle.image.specs.Types.{Follows, code, sub_byte, identity, size, nothing, bits, unknown, follows_tag, inner_types, after_tag, label_of}
 use Rattle.image.specs.Types.{inner_at, type_of, type_at}
 use Rattle.image.specs.Fields.{marks_at, encoding_of, encoding_at, limit_at, field_at, bare_at, variant_at}
-use Rattle.image.specs.Formats.{known}
+use Rattle.image.specs.Tombstones.{tombstones_at}
+use Rattle.image.specs.Formats.{known, stored}
 use Rattle.image.specs.Image.{format, entry_count, id_count, segment_count, head_of}
 use Rattle.image.specs.Reads.{skip, Read, read_of}
 use Rattle.image.proofs.Laws.Answers.{Got, got}
@@ -236,17 +237,28 @@ field_sure s at =
     sure_bind _ (limit_sure s n₄) (λ l n₅ q.
     sure_bind _ (within_sure (type_of 32) s n₅ q (type_sure 32 (drop n₅ s))) (λ t n₆ r. sure_ok r))))))
 
-counted_sure : {A : Type 0} (p : List ℕ → ℕ → Parsed A) (s : List ℕ) → ((at : ℕ) → Sure (In s) (p s at)) → (at : ℕ)
+pub counted_sure : {A : Type 0} (p : List ℕ → ℕ → Parsed A) (s : List ℕ) → ((at : ℕ) → Sure (In s) (p s at)) → (at : ℕ)
     → Sure (In s) (counted p s at)
 unfolding counted
 counted_sure p s q at = sure_bind _ (number_in 2 s at) (λ c n r. many_sure p s (λ at _. q at) c n r)
 
-pub variant_sure : (s : List ℕ) (at : ℕ) → Sure (In s) (variant_at s at)
+-- what a format stores, and what it does not
+pub stored_sure : {A : Type 0} (stores : Bool) (absent : A) (p : List ℕ → ℕ → Parsed A) (s : List ℕ) (at : ℕ) → at ≤ length s → Sure (In s) (p s at)
+    → Sure (In s) (stored stores absent p s at)
+unfolding stored
+stored_sure stores absent p s at h q = sure_pick stores (λ _. q) (λ _. sure_ok h)
+
+pub tombstones_sure : (format : ℕ) (s : List ℕ) (at : ℕ) → at ≤ length s → Sure (In s) (tombstones_at format s at)
+unfolding tombstones_at
+tombstones_sure format s at h = stored_sure _ _ _ s at h (counted_sure (number_at 4) s (number_in 4 s) at)
+
+pub variant_sure : (format : ℕ) (s : List ℕ) (at : ℕ) → Sure (In s) (variant_at format s at)
 unfolding variant_at
-variant_sure s at =
+variant_sure format s at =
     sure_bind _ (number_in 4 s at) (λ o n₁ _.
     sure_bind _ (name_sure 8 s n₁) (λ x n₂ _.
-    sure_bind _ (counted_sure field_at s (field_sure s) n₂) (λ fs n₃ r. sure_ok r)))
+    sure_bind _ (counted_sure field_at s (field_sure s) n₂) (λ fs n₃ q.
+    sure_bind _ (tombstones_sure format s n₃ q) (λ ts n₄ r. sure_ok r))))
 
 -- a read of it ends within the list
 pub read_inside : {A : Type 0} (p : Parsed A) (s : List ℕ) (r : Read) → Sure (In s) p → read_of r ≡ skip p → IfOk r (λ n. n ≤ length s)

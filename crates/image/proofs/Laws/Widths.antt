@@ -6,9 +6,10 @@ use mathlib.Core.List.{List}
 use Prim.Native.Nat.{ℕ}
 use lib.ListN.{get_or}
 use Rattle.image.specs.Formats.{has_widths}
-use Rattle.image.specs.Parse.{Parsed, pick, byte_at}
+use Rattle.image.specs.Parse.{Parsed, byte_at}
 use Rattle.image.specs.Widths.{wire_bytes, wire_bytes_at, width_at}
 use Rattle.image.specs.Reads.{skip, Read, read_of}
+use Rattle.image.proofs.Laws.Formats.{stored_none, stored_read}
 use Rattle.image.proofs.Laws.Answers.{stop, next_is, skip_ok, pick_true, pick_false}
 use Rattle.image.proofs.Laws.Numbers.{There}
 use Rattle.std.specs.Prelude.{Ok, Err, ⊤}
@@ -17,12 +18,12 @@ use Rattle.image.specs.declared.refusals.Refusal.TheVariants.{Code}
 
 module _ (format : ℕ) (wire : List ℕ → ℕ → Parsed ℕ) (s : List ℕ) (at : ℕ) where
   pub width_none : false ≡ has_widths format → read_of (Ok at) ≡ skip (width_at format wire s at)
-  unfolding width_at skip read_of pick
-  width_none h = rw (sym h)
+  unfolding width_at
+  width_none h = stored_none _ _ _ s at h
 
   pub width_read : {r : Parsed ⊤} → true ≡ has_widths format → r ≡ skip (wire s at) → r ≡ skip (width_at format wire s at)
   unfolding width_at
-  width_read h e = pick_true (has_widths format) _ _ (sym h) (e ∙ sym (skip_ok (wire s at) Some))
+  width_read h e = stored_read _ _ _ s at h (e ∙ sym (skip_ok (wire s at) Some))
 
 -- the wire bytes of flags: a byte that is not there, not one of the four, and one of them
 module _ (s : List ℕ) (at : ℕ) where

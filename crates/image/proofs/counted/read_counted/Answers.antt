@@ -3,7 +3,7 @@ use Rattle.std.proofs.lemmas.Result.{IfOk-at_ok}
 use Rattle.image.proofs.Laws.Sure.{sure_got, number_in}
 use Rattle.image.proofs.Laws.Numbers.{number_within}
 use Rattle.image.proofs.Laws.Repeats.{counted_stop, counted_as, rest_start, rest_more, rest_stop, rest_none, read_skip}
-use Rattle.image.proofs.fields.read_counted.Goals as goal
+use Rattle.image.proofs.counted.read_counted.Goals as goal
 
 pub returns-in_default : goal.returns-in_default
 returns-in_default g c = λ p q. rw (← c.place-here.ensures) (counted_stop p _ _ c.in_default.is c.read_number-count.ensures)

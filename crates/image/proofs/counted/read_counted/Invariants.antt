@@ -4,7 +4,7 @@ use Rattle.std.specs.Prelude.{⊤}
 use Rattle.image.specs.Parse.{Parsed, counted}
 use Rattle.image.specs.Reads.{skip, ReadsAs}
 use Rattle.image.proofs.Laws.Repeats.{Rest}
-use Rattle.image.proofs.fields.read_counted.Given as goal
+use Rattle.image.proofs.counted.read_counted.Given as goal
 
 abbrev pub invariant-loop : goal.invariant-loop
 invariant-loop g l =
