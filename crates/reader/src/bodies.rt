@@ -1,9 +1,11 @@
 // Bodies: a kind, and what it has in the image's format.
-ghost use Rattle.std.specs.Prelude.{◌≡◌};
+ghost use Rattle.std.specs.Prelude.{◌≡◌, ℕ, List};
 ghost use Rattle.image.specs.Kinds.{kind_of};
-ghost use Rattle.image.specs.Bodies.{message_at, enum_at, flags_at, union_at, newtype_at, decl_at, body_of};
+ghost use Rattle.image.specs.Bodies.{message_at, enum_at, flags_at, union_at, newtype_at, closed, decl_at, body_of};
 ghost use Rattle.image.specs.Numbers.{format_number, kind_number};
+ghost use Rattle.image.specs.Parse.{Parsed};
 ghost use Rattle.image.specs.Reads.{read_of, skip};
+ghost use Rattle.image.specs.Schema.{Decl};
 
 use image::Read;
 use image::fields::{read_bares, read_fields, read_marks, read_variants};
@@ -12,6 +14,7 @@ use image::kinds::Kind;
 use image::names::read_name;
 use image::numbers::read_byte;
 use image::refusals::Refusal;
+use image::tombstones::read_tombstones;
 use image::types::read_type_at;
 use image::widths::{read_wire_bits, read_wire_bytes};
 
@@ -69,14 +72,14 @@ fn read_flags(format: Format, s: &[u8], at: usize) -> Read
 
 // Name, variants with fields.
 #[tactic(auto, using(crate::proofs::Laws::Bodies::unions))]
-fn read_union(s: &[u8], at: usize) -> Read
-    ensures { read_of result ≡ skip (union_at s.now at) }
+fn read_union(format: Format, s: &[u8], at: usize) -> Read
+    ensures { read_of result ≡ skip (union_at (format_number format) s.now at) }
 {
     let name = read_name(s, at, Refusal::Body);
     let Ok(variants_at) = name else {
         return name;
     };
-    read_variants(s, variants_at)
+    read_variants(format, s, variants_at)
 }
 
 // Name, type.
@@ -91,16 +94,27 @@ fn read_newtype(s: &[u8], at: usize) -> Read
     read_type_at(s, type_at)
 }
 
+// The tombstones that close what was read before them.
+#[tactic(auto, using(crate::proofs::Laws::Bodies::closing))]
+fn close(format: Format, s: &[u8], body: Read) -> Read
+    ensures { (p : List ℕ → ℕ → Parsed Decl) (at : ℕ) → read_of body ≡ skip (p s.now at) → read_of result ≡ skip (closed (format_number format) p s.now at) }
+{
+    let Ok(end) = body else {
+        return body;
+    };
+    read_tombstones(format, s, end)
+}
+
 // What follows the kind: configs, generic aliases and traits have only a name, impls have nothing.
 #[tactic(auto, using(crate::proofs::Laws::Bodies::decl_named), unfolding(image::specs::Kinds::kind_of, image::specs::Bodies::decl_at, image::specs::Bodies::impl_at, image::specs::Reads::read_of, image::specs::Reads::skip))]
 fn read_decl(format: Format, kind: Kind, s: &[u8], at: usize) -> Read
     ensures { read_of result ≡ skip (decl_at (format_number format) (kind_of (kind_number kind)) s.now at) }
 {
     match kind {
-        Kind::Message => read_message(s, at),
-        Kind::Enum => read_enum(format, s, at),
-        Kind::Flags => read_flags(format, s, at),
-        Kind::Union => read_union(s, at),
+        Kind::Message => close(format, s, read_message(s, at)),
+        Kind::Enum => close(format, s, read_enum(format, s, at)),
+        Kind::Flags => close(format, s, read_flags(format, s, at)),
+        Kind::Union => close(format, s, read_union(format, s, at)),
         Kind::Newtype => read_newtype(s, at),
         Kind::Config | Kind::Alias | Kind::Trait => read_name(s, at, Refusal::Body),
         Kind::Impl => Ok(at),

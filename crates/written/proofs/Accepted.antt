@@ -28,15 +28,15 @@ use Rattle.written.proofs.Whole.{written_read}
 -- an entry as the contents have it
 data Entry (s : List ℕ) (i : ℕ) : Option Decl → Type 0 where
   none_here : entry_offset s i ≡ 0 → entry_length s i ≡ 0 → Entry s i None
-  some_here : {d : Decl} → DeclWithin (format s) d → entry_offset s i ≡ body_start s i → entry_length s i ≡ length (write_body d)
-      → Run s (body_start s i) (body_start s (suc i)) (write_body d) → Entry s i (Some d)
+  some_here : {d : Decl} → DeclWithin (format s) d → entry_offset s i ≡ body_start s i → entry_length s i ≡ length (write_body (format s) d)
+      → Run s (body_start s i) (body_start s (suc i)) (write_body (format s) d) → Entry s i (Some d)
 
 -- the entries from the i-th on
 record Entries (s : List ℕ) (i : ℕ) (es : List (Option Decl)) : Type 0 where
   pub count : i + length es ≡ entry_count s
   pub within : Each (EntryWithin (format s)) es
-  pub contents : Run s (8 + 4 * i) (8 + 4 * entry_count s) (write_contents es (body_start s i))
-  pub bodies : Run s (body_start s i) (body_start s (entry_count s)) (write_each write_entry es)
+  pub contents : Run s (8 + 4 * i) (8 + 4 * entry_count s) (write_contents (format s) es (body_start s i))
+  pub bodies : Run s (body_start s i) (body_start s (entry_count s)) (write_each (write_entry (format s)) es)
 
 -- what is known of an image that is accepted: its names xs and its entries es
 record Parts (s : List ℕ) (xs : List Name) (es : List (Option Decl)) : Type 0 where
@@ -65,12 +65,12 @@ module _ (s : List ℕ) (bytes : Each Byte s) where
       body : List ℕ
       body = part (entry_offset s i) (entry_length s i) s
 
-      there : (d : Decl) → ¬ (entry_length s i ≡ 0) → DeclWithin (format s) d × (body ≡ write_body d) → Entry s i (Some d)
+      there : (d : Decl) → ¬ (entry_length s i ≡ 0) → DeclWithin (format s) d × (body ≡ write_body (format s) d) → Entry s i (Some d)
       there d z q =
           let f = placed_full p z in
           let fits : body_start s i + entry_length s i ≤ length s = f.1 in
-          let b : part (body_start s i) (entry_length s i) s ≡ write_body d = rw f.0 at q.1 in
-          let size : entry_length s i ≡ length (write_body d) = sym (part_length (body_start s i) (entry_length s i) s fits) ∙ ap length b in
+          let b : part (body_start s i) (entry_length s i) s ≡ write_body (format s) d = rw f.0 at q.1 in
+          let size : entry_length s i ≡ length (write_body (format s) d) = sym (part_length (body_start s i) (entry_length s i) s fits) ∙ ap length b in
           some_here q.0 f.0 size (rw b at (part_run (body_start s i) (entry_length s i) s fits))
 
   -- an offset and a length of the contents
@@ -105,14 +105,14 @@ module _ (s : List ℕ) (bytes : Each Byte s) where
         within = also (full q) r.within;
         contents =
             run_join (digits 2 (body_start s i)) _ (rw o at (offset_run i (omega (arith, inside))))
-            (run_join (digits 2 (length (write_body d))) _ (rw n at (length_run i inside)) (rw next at r.contents));
-        bodies = run_join (write_body d) (write_each write_entry es) b (rw (ap (body_start s) (add-one i)) at r.bodies);
+            (run_join (digits 2 (length (write_body (format s) d))) _ (rw n at (length_run i inside)) (rw next at r.contents));
+        bodies = run_join (write_body (format s) d) (write_each (write_entry (format s)) es) b (rw (ap (body_start s) (add-one i)) at r.bodies);
       }
     where
       inside : 8 + 4 * (i + 1) ≤ length s
       inside = r.contents.here.from
 
-      next : body_start s (i + 1) ≡ body_start s i + length (write_body d)
+      next : body_start s (i + 1) ≡ body_start s i + length (write_body (format s) d)
       next = ap (body_start s) (add-one i) ∙ ap (λ (k : ℕ). body_start s i + k) n
 
   entries_none : 8 + 4 * entry_count s ≤ length s → body_start s (entry_count s) ≤ length s → Entries s (entry_count s) []
@@ -191,7 +191,7 @@ module _ (s : List ℕ) (bytes : Each Byte s) where
     unfolding held write_head
     front = rw (entries_all, ids_count (id_count s) (ids_at s), r.count) (head_run r.head)
 
-    contents : Run s 8 (ids_at s) (write_contents es (bodies_at held))
+    contents : Run s 8 (ids_at s) (write_contents (format s) es (bodies_at held))
     unfolding ids_at
     contents = rw bodies_start r.entries.contents
 
@@ -200,9 +200,9 @@ module _ (s : List ℕ) (bytes : Each Byte s) where
     is_written =
         run_whole r.ends
         (run_join (write_head held) _ front
-        (run_join (write_contents es (bodies_at held)) _ contents
+        (run_join (write_contents (format s) es (bodies_at held)) _ contents
         (run_join (write_each (digits 4) held.ids) _ (ids_run (id_count s) (ids_at s) r.inside)
-        (run_join (write_each write_name xs) (write_each write_entry es) r.names r.entries.bodies))))
+        (run_join (write_each write_name xs) (write_each (write_entry (format s)) es) r.names r.entries.bodies))))
 
     is_within : Within held
     unfolding held

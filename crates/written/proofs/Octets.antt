@@ -1,6 +1,6 @@
 -- What is written of a schema within the limits are bytes: each is below 256. Assumes nothing.
-use mathlib.Core.Path.{◌≡◌}
-use mathlib.Core.Bool.{true, and-false}
+use mathlib.Core.Path.{◌≡◌, refl}
+use mathlib.Core.Bool.{Bool, true, false, and-false}
 use Rattle.std.specs.Prelude.{Option, None, Some}
 use mathlib.Core.List.{List, [], ◌∷◌, ◌++◌}
 use Prim.Native.Nat.{ℕ, zero, suc, ◌+◌, ◌/◌, ◌%◌, ◌≤◌, ◌<◌}
@@ -8,12 +8,13 @@ use native.Mathlib.Omega.{arith}
 use native.Mathlib.Decide.{dec_lt}
 use borrow.Author.Tests.{lt-leb, ne_eqb}
 use lib.ListN.{length, replicate}
-use Rattle.image.specs.Schema.{Name, Marks, Label, Ty, Field, Variant, Decl, Schema}
+use Rattle.image.specs.Schema.{Name, Marks, Label, Ty, Field, Variant, Decl, struck, Schema}
+use Rattle.image.specs.Formats.{has_widths, has_tombstones}
 use Rattle.image.specs.Names.{name_byte, name_bytes}
 use Rattle.image.specs.Types.{follows_tag}
 use Rattle.image.specs.Kinds.{kind_of}
-use Rattle.written.specs.Writer.{digits, write_each, write_counted, write_name, marks_byte, write_encoding, write_limit, write_after, write_label, write_type, write_field, write_bare, write_variant, write_width, write_decl, write_body, write_entry, write_contents, write_head, bodies_at, write}
-use Rattle.written.specs.Limits.{Each, end, also, Byte, NameWithin, LabelWithin, primitive, sub_byte, semantic, named, bits, wrapping, fixed_array, map, result, Typed, bare, around, between, FieldWithin, BareWithin, VariantWithin, WidthWithin, absent, stored, WireBytes, in_one, in_two, in_four, in_eight, DeclWithin, message, enum, flags, union, newtype, config, alias, trait, impl, EntryWithin, empty, full, Within}
+use Rattle.written.specs.Writer.{digits, write_each, write_counted, write_name, marks_byte, write_encoding, write_limit, write_after, write_label, write_type, write_field, write_bare, write_stored, write_wire, write_width, write_tombstones, write_variant, write_message, write_enum, write_flags, write_union, write_closed, write_decl, write_body, write_entry, write_contents, write_head, bodies_at, write}
+use Rattle.written.specs.Limits.{Each, end, also, Byte, U32, NameWithin, LabelWithin, primitive, sub_byte, semantic, named, bits, wrapping, fixed_array, map, result, Typed, bare, around, between, FieldWithin, BareWithin, StoredWithin, absent, present, TombstonesWithin, VariantWithin, Wire, wire, WidthWithin, WireBytes, in_one, in_two, in_four, in_eight, OpenWithin, message, enum, flags, union, DeclWithin, closing, newtype, config, alias, trait, impl, EntryWithin, empty, full, Within}
 use Rattle.maps.proofs.Tests.{no_both, both}
 use Rattle.written.proofs.Items.{marks_most}
 use Rattle.written.proofs.Trees.{wraps_nothing, wraps_most}
@@ -104,16 +105,32 @@ bare_bytes : (v : Variant) → BareWithin v → Each Byte (write_bare v)
 unfolding write_bare
 bare_bytes v q = each_join (digits_bytes 4 v.ordinal) (name_bytes_lem v.name q.name)
 
-variant_bytes : (v : Variant) → VariantWithin v → Each Byte (write_variant v)
-unfolding write_variant
-variant_bytes v q =
-    each_join (digits_bytes 4 v.ordinal)
-    (each_join (name_bytes_lem v.name q.name) (counted_bytes write_field FieldWithin field_bytes v.fields q.fields))
+stored_bytes : {A : Type 0} {none : A} {P : A → Type 0} (stores : Bool) (w : A → List ℕ) → ((x : A) → P x → Each Byte (w x)) → (x : A)
+    → StoredWithin stores none P x → Each Byte (write_stored stores w x)
+unfolding write_stored
+stored_bytes true w f _ (absent e) = no_both refl e
+stored_bytes true w f x (present e q) = f x q
+stored_bytes false w f x q = end
 
-width_bytes : {f : ℕ} {P : ℕ → Type 0} → ((w : ℕ) → P w → Byte w) → (w : Option ℕ) → WidthWithin f P w → Each Byte (write_width w)
+tombstones_bytes : (f : ℕ) (ts : List ℕ) → TombstonesWithin f ts → Each Byte (write_tombstones f ts)
+unfolding write_tombstones
+tombstones_bytes f ts q =
+    stored_bytes (has_tombstones f) (write_counted (digits 4)) (λ xs g. counted_bytes (digits 4) U32 (λ x h. digits_bytes 4 x) xs g.1) ts q
+
+variant_bytes : (f : ℕ) (v : Variant) → VariantWithin f v → Each Byte (write_variant f v)
+unfolding write_variant
+variant_bytes f v q =
+    each_join (digits_bytes 4 v.ordinal)
+    (each_join (name_bytes_lem v.name q.name)
+    (each_join (counted_bytes write_field FieldWithin field_bytes v.fields q.fields) (tombstones_bytes f v.tombstones q.tombstones)))
+
+wire_bytes : {P : ℕ → Type 0} → ((w : ℕ) → P w → Byte w) → (w : Option ℕ) → Wire P w → Each Byte (write_wire w)
+unfolding write_wire
+wire_bytes below _ (wire {w = w} q) = byte w (below w q) end
+
+width_bytes : (f : ℕ) {P : ℕ → Type 0} → ((w : ℕ) → P w → Byte w) → (w : Option ℕ) → WidthWithin f P w → Each Byte (write_width f w)
 unfolding write_width
-width_bytes below None (absent e) = end
-width_bytes below (Some w) (stored e q) = byte w (below w q) end
+width_bytes f below w q = stored_bytes (has_widths f) write_wire (wire_bytes below) w q
 
 wire_byte : (w : ℕ) → WireBytes w → Byte w
 wire_byte _ in_one = omega arith
@@ -121,36 +138,50 @@ wire_byte _ in_two = omega arith
 wire_byte _ in_four = omega arith
 wire_byte _ in_eight = omega arith
 
-body_bytes : {f : ℕ} (d : Decl) → DeclWithin f d → Each Byte (write_body d)
-unfolding kind_of write_body write_decl
-body_bytes _ (message {x = x} {m = m} {fs = fs} q few qs) =
-    byte 0 (omega arith) (each_join (name_bytes_lem x q) (marks_bytes m (counted_bytes write_field FieldWithin field_bytes fs qs)))
-body_bytes _ (enum {x = x} {m = m} {w = w} {vs = vs} q width few qs) =
-    byte 1 (omega arith)
+-- a declaration of the first four kinds, but for its tombstones
+open_bytes : (f : ℕ) (d : Decl) (ts : List ℕ) → OpenWithin f d → Each Byte (write_tombstones f ts)
+    → Each Byte (write_decl f (kind_of d.kind) (struck d ts))
+unfolding kind_of write_decl write_closed write_message write_enum write_flags write_union
+open_bytes f _ ts (message {x = x} {m = m} {fs = fs} q few qs) t =
+    each_join (each_join (name_bytes_lem x q) (marks_bytes m (counted_bytes write_field FieldWithin field_bytes fs qs))) t
+open_bytes f _ ts (enum {x = x} {m = m} {w = w} {vs = vs} q width few qs) t =
+    each_join
     (each_join (name_bytes_lem x q)
-    (marks_bytes m (each_join (width_bytes (λ b q. q) w width) (counted_bytes write_bare BareWithin bare_bytes vs qs))))
-body_bytes _ (flags {x = x} {w = w} {vs = vs} q width few qs) =
-    byte 2 (omega arith)
-    (each_join (name_bytes_lem x q) (each_join (width_bytes wire_byte w width) (counted_bytes write_bare BareWithin bare_bytes vs qs)))
-body_bytes _ (union {x = x} {vs = vs} q few qs) =
-    byte 3 (omega arith) (each_join (name_bytes_lem x q) (counted_bytes write_variant VariantWithin variant_bytes vs qs))
-body_bytes _ (newtype {x = x} {t = t} q r) = byte 4 (omega arith) (each_join (name_bytes_lem x q) (type_bytes t r.typed))
-body_bytes _ (config {x = x} q) = byte 5 (omega arith) (name_bytes_lem x q)
-body_bytes _ (alias {x = x} q) = byte 6 (omega arith) (name_bytes_lem x q)
-body_bytes _ (trait {x = x} q) = byte 7 (omega arith) (name_bytes_lem x q)
-body_bytes _ impl = byte 8 (omega arith) end
+    (marks_bytes m (each_join (width_bytes f (λ b q. q) w width) (counted_bytes write_bare BareWithin bare_bytes vs qs))))
+    t
+open_bytes f _ ts (flags {x = x} {w = w} {vs = vs} q width few qs) t =
+    each_join
+    (each_join (name_bytes_lem x q) (each_join (width_bytes f wire_byte w width) (counted_bytes write_bare BareWithin bare_bytes vs qs)))
+    t
+open_bytes f _ ts (union {x = x} {vs = vs} q few qs) t =
+    each_join (each_join (name_bytes_lem x q) (counted_bytes (write_variant f) (VariantWithin f) (variant_bytes f) vs qs)) t
 
-entry_bytes : {f : ℕ} (e : Option Decl) → EntryWithin f e → Each Byte (write_entry e)
+kind_byte : {f : ℕ} (d : Decl) → OpenWithin f d → Byte d.kind
+kind_byte _ (message q few qs) = omega arith
+kind_byte _ (enum q width few qs) = omega arith
+kind_byte _ (flags q width few qs) = omega arith
+kind_byte _ (union q few qs) = omega arith
+
+body_bytes : (f : ℕ) (d : Decl) → DeclWithin f d → Each Byte (write_body f d)
+unfolding kind_of write_body write_decl
+body_bytes f _ (closing {d = d} {ts = ts} q t) = byte d.kind (kind_byte d q) (open_bytes f d ts q (tombstones_bytes f ts t))
+body_bytes f _ (newtype {x = x} {t = t} q r) = byte 4 (omega arith) (each_join (name_bytes_lem x q) (type_bytes t r.typed))
+body_bytes f _ (config {x = x} q) = byte 5 (omega arith) (name_bytes_lem x q)
+body_bytes f _ (alias {x = x} q) = byte 6 (omega arith) (name_bytes_lem x q)
+body_bytes f _ (trait {x = x} q) = byte 7 (omega arith) (name_bytes_lem x q)
+body_bytes f _ impl = byte 8 (omega arith) end
+
+entry_bytes : (f : ℕ) (e : Option Decl) → EntryWithin f e → Each Byte (write_entry f e)
 unfolding write_entry
-entry_bytes None empty = end
-entry_bytes (Some d) (full q) = body_bytes d q
+entry_bytes f None empty = end
+entry_bytes f (Some d) (full q) = body_bytes f d q
 
-contents_bytes : (es : List (Option Decl)) (at : ℕ) → Each Byte (write_contents es at)
+contents_bytes : (f : ℕ) (es : List (Option Decl)) (at : ℕ) → Each Byte (write_contents f es at)
 unfolding write_contents
-contents_bytes [] at = end
-contents_bytes (None ∷ es) at = each_join (digits_bytes 2 0) (each_join (digits_bytes 2 0) (contents_bytes es at))
-contents_bytes (Some d ∷ es) at =
-    each_join (digits_bytes 2 at) (each_join (digits_bytes 2 (length (write_body d))) (contents_bytes es (at + length (write_body d))))
+contents_bytes f [] at = end
+contents_bytes f (None ∷ es) at = each_join (digits_bytes 2 0) (each_join (digits_bytes 2 0) (contents_bytes f es at))
+contents_bytes f (Some d ∷ es) at =
+    each_join (digits_bytes 2 at) (each_join (digits_bytes 2 (length (write_body f d))) (contents_bytes f es (at + length (write_body f d))))
 
 ids_bytes : (ids : List ℕ) → Each Byte (write_each (digits 4) ids)
 unfolding write_each
@@ -163,7 +194,7 @@ written_bytes s q =
     each_join
     (each_join (digits_bytes 2 s.format)
     (each_join (digits_bytes 2 (length s.registry)) (each_join (digits_bytes 2 (length s.ids)) (digits_bytes 2 (length s.namespace)))))
-    (each_join (contents_bytes s.registry (bodies_at s))
+    (each_join (contents_bytes s.format s.registry (bodies_at s))
     (each_join (ids_bytes s.ids)
     (each_join (each_bytes write_name NameWithin name_bytes_lem s.namespace q.segments)
-    (each_bytes write_entry (EntryWithin s.format) entry_bytes s.registry q.entries))))
+    (each_bytes (write_entry s.format) (EntryWithin s.format) (entry_bytes s.format) s.registry q.entries))))

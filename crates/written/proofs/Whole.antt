@@ -13,7 +13,7 @@ use Rattle.image.specs.Names.{names_at}
 use Rattle.image.specs.Image.{u16_at, format, entry_count, id_count, segment_count, entry_offset, entry_length, ids_at, segments_at, ids_from, head_of, tables_of, laid, entry_of, entries_of, read_image}
 use Rattle.written.specs.Writer.{digits, write_each, write_name, write_body, write_entry, write_contents, write_head, bodies_at, write}
 use Rattle.written.specs.Limits.{Each, end, also, U32, DeclWithin, EntryWithin, empty, full, Within}
-use Rattle.refusals.specs.Refusals.{Known, one, two}
+use Rattle.refusals.specs.Refusals.{Known, one, two, three}
 use Rattle.refusals.proofs.Refusals.{head_passed}
 use Rattle.written.proofs.Here.{Here, here_all, here_fits, here_first, here_next, here_part}
 use Rattle.written.proofs.Pieces.{got, here_number, names_back}
@@ -36,11 +36,11 @@ unfolding write_each digits
 ids_length [] = refl
 ids_length (i ∷ ids) = omega (arith, ids_length ids)
 
-contents_length : (es : List (Option Decl)) (at : ℕ) → length (write_contents es at) ≡ 4 * length es
+contents_length : (f : ℕ) (es : List (Option Decl)) (at : ℕ) → length (write_contents f es at) ≡ 4 * length es
 unfolding write_contents digits
-contents_length [] at = refl
-contents_length (None ∷ es) at = omega (arith, contents_length es at)
-contents_length (Some d ∷ es) at = omega (arith, contents_length es (at + length (write_body d)))
+contents_length f [] at = refl
+contents_length f (None ∷ es) at = omega (arith, contents_length f es at)
+contents_length f (Some d ∷ es) at = omega (arith, contents_length f es (at + length (write_body f d)))
 
 -- the i-th pair of the contents, and the pairs after it
 record Pair (s : List ℕ) (i offset size : ℕ) (after : List ℕ) : Type 0 where
@@ -67,9 +67,9 @@ pair_back {s} i offset size after l m h =
     n : 8 + 4 * i + 2 + 2 ≡ 8 + 4 * (i + 1)
     n = omega arith
 
-some_byte : (d : Decl) → ¬ (length (write_body d) ≡ 0)
+some_byte : (f : ℕ) (d : Decl) → ¬ (length (write_body f d) ≡ 0)
 unfolding write_body
-some_byte d e = omega arith
+some_byte f d e = omega arith
 
 -- of entries from the i-th on, whose bodies start at `at`: they are laid out as they should be, and are read back
 abbrev Read : ℕ → List (Option Decl) → List ℕ → ℕ → ℕ → Type 0
@@ -81,29 +81,29 @@ unfolding laid entries_of entry_of pick bind
 empty_back f es s i at o n r = (simp (o, n, r.0), simp (n, r.1))
 
 full_back : (f : ℕ) (d : Decl) → DeclWithin f d → (es : List (Option Decl)) (s : List ℕ) (i at : ℕ) → entry_offset s i ≡ at
-    → entry_length s i ≡ length (write_body d)
-    → Here s at (write_body d) → Read f es s (i + 1) (at + length (write_body d)) → Read f (Some d ∷ es) s i at
+    → entry_length s i ≡ length (write_body f d)
+    → Here s at (write_body f d) → Read f es s (i + 1) (at + length (write_body f d)) → Read f (Some d ∷ es) s i at
 unfolding laid entries_of entry_of pick bind
 full_back f d q es s i at o n h r = (
-  simp (o, n, ne_eqb _ 0 (some_byte d), eq-eqb at at refl, le-leb _ _ (here_fits h), r.0),
-  simp (o, n, ne_eqb _ 0 (some_byte d), here_part h, body_back f d q, r.1),
+  simp (o, n, ne_eqb _ 0 (some_byte f d), eq-eqb at at refl, le-leb _ _ (here_fits h), r.0),
+  simp (o, n, ne_eqb _ 0 (some_byte f d), here_part h, body_back f d q, r.1),
 )
 
 entries_back : (f : ℕ) (es : List (Option Decl)) → Each (EntryWithin f) es → (s : List ℕ) → length s ≤ 32768 → (i at : ℕ)
-    → Here s (8 + 4 * i) (write_contents es at) → Here s at (write_each write_entry es) → at + length (write_each write_entry es) ≡ length s
+    → Here s (8 + 4 * i) (write_contents f es at) → Here s at (write_each (write_entry f) es) → at + length (write_each (write_entry f) es) ≡ length s
     → Read f es s i at
 unfolding laid entries_of write_contents write_each write_entry
 entries_back f [] end s l i at h g e = (eq-eqb at (length s) (omega arith), refl)
 entries_back f (None ∷ es) (also empty qs) s l i at h g e =
-    let p = pair_back i 0 0 (write_contents es at) (omega arith) (omega arith) h in
+    let p = pair_back i 0 0 (write_contents f es at) (omega arith) (omega arith) h in
     empty_back f es s i at p.offset_is p.size_is (entries_back f es qs s l (i + 1) at p.next g e)
 entries_back f (Some d ∷ es) (also (full q) qs) s l i at h g e =
-    let b = here_first (write_body d) (write_each write_entry es) g in
-    let fits : at + length (write_body d) ≤ length s = here_fits b in
-    let p = pair_back i at (length (write_body d)) (write_contents es (at + length (write_body d))) (omega arith) (omega arith) h in
+    let b = here_first (write_body f d) (write_each (write_entry f) es) g in
+    let fits : at + length (write_body f d) ≤ length s = here_fits b in
+    let p = pair_back i at (length (write_body f d)) (write_contents f es (at + length (write_body f d))) (omega arith) (omega arith) h in
     full_back f d q es s i at p.offset_is p.size_is b
-    (entries_back f es qs s l (i + 1) (at + length (write_body d)) p.next (here_next (write_body d) (write_each write_entry es) g)
-    (omega (arith, length-append (write_body d) (write_each write_entry es))))
+    (entries_back f es qs s l (i + 1) (at + length (write_body f d)) p.next (here_next (write_body f d) (write_each (write_entry f) es) g)
+    (omega (arith, length-append (write_body f d) (write_each (write_entry f) es))))
 
 -- the head of what is written
 record Front (s : Schema) : Type 0 where
@@ -116,6 +116,7 @@ record Front (s : Schema) : Type 0 where
 format_few : {n : ℕ} → Known n → n < 2 ^ 16
 format_few (one e) = omega arith
 format_few (two e) = omega arith
+format_few (three e) = omega arith
 
 front : (s : Schema) → Within s → Front s
 unfolding write write_head format entry_count id_count segment_count digits
@@ -147,11 +148,11 @@ front s q =
 
 -- its tables and bodies, each where it stands
 record Back (s : Schema) : Type 0 where
-  pub contents : Here (write s) 8 (write_contents s.registry (bodies_at s))
+  pub contents : Here (write s) 8 (write_contents s.format s.registry (bodies_at s))
   pub ids : Here (write s) (8 + 4 * length s.registry) (write_each (digits 4) s.ids)
   pub names : Here (write s) (8 + 4 * length s.registry + 4 * length s.ids) (write_each write_name s.namespace)
-  pub bodies : Here (write s) (bodies_at s) (write_each write_entry s.registry)
-  pub ends : bodies_at s + length (write_each write_entry s.registry) ≡ length (write s)
+  pub bodies : Here (write s) (bodies_at s) (write_each (write_entry s.format) s.registry)
+  pub ends : bodies_at s + length (write_each (write_entry s.format) s.registry) ≡ length (write s)
 
 head_length : (s : Schema) → length (write_head s) ≡ 8
 unfolding write_head digits
@@ -165,11 +166,11 @@ back s =
       ids = here_first d _ at_ids;
       names = here_first n b at_names;
       bodies = here_next n b at_names;
-      ends = omega (arith, head_length s, contents_length s.registry (bodies_at s), ids_length s.ids, joined);
+      ends = omega (arith, head_length s, contents_length s.format s.registry (bodies_at s), ids_length s.ids, joined);
     }
   where
     c : List ℕ
-    c = write_contents s.registry (bodies_at s)
+    c = write_contents s.format s.registry (bodies_at s)
 
     d : List ℕ
     d = write_each (digits 4) s.ids
@@ -178,7 +179,7 @@ back s =
     n = write_each write_name s.namespace
 
     b : List ℕ
-    b = write_each write_entry s.registry
+    b = write_each (write_entry s.format) s.registry
 
     joined : length (write s) ≡ length (write_head s) + (length c + (length d + (length n + length b)))
     joined = simp length-append
@@ -187,7 +188,7 @@ back s =
     at8 = rw (head_length s) at (here_next (write_head s) _ (here_all (write s)))
 
     at_ids : Here (write s) (8 + 4 * length s.registry) (d ++ (n ++ b))
-    at_ids = rw (contents_length s.registry (bodies_at s)) at (here_next c _ at8)
+    at_ids = rw (contents_length s.format s.registry (bodies_at s)) at (here_next c _ at8)
 
     at_names : Here (write s) (8 + 4 * length s.registry + 4 * length s.ids) (n ++ b)
     at_names = rw (ids_length s.ids) at (here_next d _ at_ids)

@@ -1,8 +1,8 @@
 -- The schemas within the limits of documents 01 and 02: those that an image can hold, in its format. Assumes nothing.
-use Rattle.std.specs.Prelude.{◌≡◌, true, false, List, [], ◌∷◌, ℕ, suc, ◌^◌, max, ◌≤◌, ◌<◌, length, Option, None, Some}
+use Rattle.std.specs.Prelude.{Bool, ◌≡◌, true, false, List, [], ◌∷◌, ℕ, suc, ◌^◌, max, ◌≤◌, ◌<◌, length, Option, None, Some}
 use Rattle.image.specs.Codes.{number, message_kind, enum_kind, flags_kind, union_kind, newtype_kind, config_kind, alias_kind, trait_kind, impl_kind, primitive_tag, sub_byte_tag, semantic_tag, named_tag, optional_tag, array_tag, fixed_array_tag, set_tag, map_tag, result_tag, vec2_tag, mat4_tag, bits_tag}
-use Rattle.image.specs.Schema.{Name, Marks, unmarked, Encoding, Label, label, Ty, leaf, one, two, Field, Variant, Decl, decl, no_type, Schema}
-use Rattle.image.specs.Formats.{has_widths}
+use Rattle.image.specs.Schema.{Name, Marks, unmarked, Encoding, Label, label, Ty, leaf, one, two, Field, Variant, Decl, decl, struck, no_type, Schema}
+use Rattle.image.specs.Formats.{has_widths, has_tombstones}
 use Rattle.image.specs.Names.{name_bytes}
 use Rattle.refusals.specs.Refusals.{Known}
 use Rattle.written.specs.Writer.{write}
@@ -86,18 +86,31 @@ pub record BareWithin (v : Variant) : Type 0 where
   pub ordinal : U32 v.ordinal
   pub name : NameWithin v.name
   pub bare : v.fields ≡ []
+  pub unstruck : v.tombstones ≡ []
+
+-- What a format stores is as P says; of what it does not store there is none.
+pub data StoredWithin {A : Type 0} (stores : Bool) (none : A) (P : A → Type 0) : A → Type 0 where
+  absent : stores ≡ false → StoredWithin stores none P none
+  present : {x : A} → stores ≡ true → P x → StoredWithin stores none P x
+
+-- "a u16 count and that many u32 numbers"
+abbrev pub TombstonesWithin : ℕ → List ℕ → Type 0
+TombstonesWithin format ts = StoredWithin (has_tombstones format) [] (λ ts. Few ts × Each U32 ts) ts
 
 -- a variant of a union
-pub record VariantWithin (v : Variant) : Type 0 where
+pub record VariantWithin (format : ℕ) (v : Variant) : Type 0 where
   pub ordinal : U32 v.ordinal
   pub name : NameWithin v.name
   pub few : Few v.fields
   pub fields : Each FieldWithin v.fields
+  pub tombstones : TombstonesWithin format v.tombstones
 
--- "Image format 2 stores the width": there is one exactly in a format that stores it
-pub data WidthWithin (format : ℕ) (P : ℕ → Type 0) : Option ℕ → Type 0 where
-  absent : has_widths format ≡ false → WidthWithin format P None
-  stored : {w : ℕ} → has_widths format ≡ true → P w → WidthWithin format P (Some w)
+-- "Image format 2 stores the width": one that is as P says
+pub data Wire (P : ℕ → Type 0) : Option ℕ → Type 0 where
+  wire : {w : ℕ} → P w → Wire P (Some w)
+
+abbrev pub WidthWithin : ℕ → (ℕ → Type 0) → Option ℕ → Type 0
+WidthWithin format P w = StoredWithin (has_widths format) None (Wire P) w
 
 -- "1, 2, 4 or 8"
 pub data WireBytes : ℕ → Type 0 where
@@ -106,16 +119,20 @@ pub data WireBytes : ℕ → Type 0 where
   in_four : WireBytes 4
   in_eight : WireBytes 8
 
--- a declaration of each kind, what the kind has not at its default
-pub data DeclWithin (f : ℕ) : Decl → Type 0 where
+-- a declaration of the first four kinds in which no number is struck off, what the kind has not at its default
+pub data OpenWithin (f : ℕ) : Decl → Type 0 where
   message : {x : Name} {m : Marks} {fs : List Field} → NameWithin x → Few fs → Each FieldWithin fs
-      → DeclWithin f (decl (number message_kind) x m None fs [] no_type)
+      → OpenWithin f (decl (number message_kind) x m None fs [] no_type)
   enum : {x : Name} {m : Marks} {w : Option ℕ} {vs : List Variant} → NameWithin x → WidthWithin f Byte w → Few vs → Each BareWithin vs
-      → DeclWithin f (decl (number enum_kind) x m w [] vs no_type)
+      → OpenWithin f (decl (number enum_kind) x m w [] vs no_type)
   flags : {x : Name} {w : Option ℕ} {vs : List Variant} → NameWithin x → WidthWithin f WireBytes w → Few vs → Each BareWithin vs
-      → DeclWithin f (decl (number flags_kind) x unmarked w [] vs no_type)
-  union : {x : Name} {vs : List Variant} → NameWithin x → Few vs → Each VariantWithin vs
-      → DeclWithin f (decl (number union_kind) x unmarked None [] vs no_type)
+      → OpenWithin f (decl (number flags_kind) x unmarked w [] vs no_type)
+  union : {x : Name} {vs : List Variant} → NameWithin x → Few vs → Each (VariantWithin f) vs
+      → OpenWithin f (decl (number union_kind) x unmarked None [] vs no_type)
+
+-- a declaration of each kind; only the first four have tombstones
+pub data DeclWithin (f : ℕ) : Decl → Type 0 where
+  closing : {d : Decl} {ts : List ℕ} → OpenWithin f d → TombstonesWithin f ts → DeclWithin f (struck d ts)
   newtype : {x : Name} {t : Ty} → NameWithin x → TypeWithin t → DeclWithin f (decl (number newtype_kind) x unmarked None [] [] t)
   config : {x : Name} → NameWithin x → DeclWithin f (decl (number config_kind) x unmarked None [] [] no_type)
   alias : {x : Name} → NameWithin x → DeclWithin f (decl (number alias_kind) x unmarked None [] [] no_type)

@@ -14,7 +14,8 @@ use Rattle.image.specs.Fields.{marks_at, field_at, bare_at, variant_at}
 use Rattle.image.specs.Types.{type_at}
 use Rattle.image.specs.Widths.{wire_bits_at, wire_bytes_at, width_at}
 use Rattle.image.specs.Kinds.{kind_of}
-use Rattle.image.specs.Bodies.{message_at, enum_at, flags_at, union_at, newtype_at, other_at, decl_at, body_of}
+use Rattle.image.specs.Tombstones.{tombstones_at}
+use Rattle.image.specs.Bodies.{message_at, enum_at, flags_at, union_at, newtype_at, other_at, closed, decl_at, body_of}
 use Rattle.std.specs.Prelude.{Ok, Err, ⊤}
 use Rattle.image.specs.Reads.{Read, read_of, skip}
 use Rattle.image.specs.Numbers.{kind_number}
@@ -83,16 +84,21 @@ module _ (format : ℕ) (s : List ℕ) (at : ℕ) where
 
 pub ruleset flags = (flags_bits, flags_width, flags_name)
 
--- a union and a newtype: the name refused, or the answer of the variants or the type
-module _ (s : List ℕ) (at : ℕ) {x : Read} where
-  pub union_name : {k : Refusal} → x ≡ Err k → read_of x ≡ skip (name_at 8 s at) → read_of x ≡ skip (union_at s at)
+-- a union: its name refused, or its variants' answer
+module _ (format : ℕ) (s : List ℕ) (at : ℕ) {x : Read} where
+  pub union_name : {k : Refusal} → x ≡ Err k → read_of x ≡ skip (name_at 8 s at) → read_of x ≡ skip (union_at format s at)
   unfolding union_at
   union_name h e = stop _ _ h e
 
-  pub union_variants : {n : ℕ} {r : Parsed ⊤} → x ≡ Ok n → read_of x ≡ skip (name_at 8 s at) → r ≡ skip (counted variant_at s n) → r ≡ skip (union_at s at)
+  pub union_variants : {n : ℕ} {r : Parsed ⊤} → x ≡ Ok n → read_of x ≡ skip (name_at 8 s at) → r ≡ skip (counted (variant_at format) s n)
+      → r ≡ skip (union_at format s at)
   unfolding union_at
   union_variants h e q = next _ (got h e) (λ _. q ∙ sym (skip_ok _ _))
 
+pub ruleset unions = (union_name, union_variants)
+
+-- a newtype: its name refused, or its type's answer
+module _ (s : List ℕ) (at : ℕ) {x : Read} where
   pub newtype_name : {k : Refusal} → x ≡ Err k → read_of x ≡ skip (name_at 8 s at) → read_of x ≡ skip (newtype_at s at)
   unfolding newtype_at
   newtype_name h e = stop _ _ h e
@@ -101,9 +107,19 @@ module _ (s : List ℕ) (at : ℕ) {x : Read} where
   unfolding newtype_at
   newtype_type h e q = next _ (got h e) (λ _. q ∙ sym (skip_ok _ _))
 
-pub ruleset unions = (union_name, union_variants)
-
 pub ruleset newtypes = (newtype_name, newtype_type)
+
+-- what a kind's parser reads, closed by tombstones: refused, or its tombstones' answer
+module _ (format : ℕ) (p : List ℕ → ℕ → Parsed Decl) (s : List ℕ) (at : ℕ) {x : Read} where
+  pub closed_stop : {k : Refusal} → x ≡ Err k → read_of x ≡ skip (p s at) → read_of x ≡ skip (closed format p s at)
+  unfolding closed
+  closed_stop h e = stop _ _ h e
+
+  pub closed_tombstones : {n : ℕ} {r : Parsed ⊤} → x ≡ Ok n → read_of x ≡ skip (p s at) → r ≡ skip (tombstones_at format s n) → r ≡ skip (closed format p s at)
+  unfolding closed
+  closed_tombstones {n = n} h e q = next _ (got h e) (λ d. q ∙ sym (skip_ok (tombstones_at format s n) _))
+
+pub ruleset closing = (closed_stop, closed_tombstones)
 
 -- configs, generic aliases and traits have only a name
 pub decl_named : (f : ℕ) (s : List ℕ) (at : ℕ) {k : Kind} → (k ≡ kind.Config) ⊎ ((k ≡ kind.Alias) ⊎ (k ≡ kind.Trait))
