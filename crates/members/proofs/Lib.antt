@@ -1,2 +1,3 @@
--- Runs: what the runs of items rest on.
+-- Runs: what the runs of items rest on. Closing: the tombstones after them.
 pub mod Runs
+pub mod Closing

@@ -1,14 +1,28 @@
 -- A run of items that a declaration or a variant has is well formed. Assumes nothing.
-use Rattle.std.proofs.Common.{◌≡◌, ℕ, zero, suc, ◌-◌, ◌<◌, ◌≤◌, List, refl, arith}
+use Rattle.std.proofs.Common.{◌≡◌, ℕ, zero, suc, ◌-◌, ◌<◌, ◌≤◌, List, true, refl, sym, ◌∙◌, arith}
 use Rattle.image.specs.Codes.{number, message_kind, enum_kind, flags_kind, union_kind}
-use Rattle.parts.specs.Promise.{items_in, ItemHere, item_end, ItemsHere, variant_items}
+use Rattle.parts.specs.Promise.{items_in, ItemHere, is_named, item_name, item_end, ItemsHere, variant_items}
 use Rattle.parts.specs.declared.Run.{Run}
 use Rattle.parts.specs.declared.Shape.{Shape}
 use Rattle.parts.specs.declared.Shape.TheVariants as shape
 use Rattle.parts.specs.Handles.{decl_of}
 use Rattle.parts.specs.declared.handles.Decl.{Decl}
-use Rattle.members.specs.Handles.{HoldsItems}
-use Rattle.parts.proofs.Promise.{message_listed, enum_listed, flags_listed, union_listed, variant_listed, items_first, items_rest}
+use Rattle.members.specs.declared.handles.Item.{Item}
+use Rattle.members.specs.declared.handles.Field.{Field}
+use Rattle.members.specs.declared.handles.Variant.{Variant}
+use Rattle.members.specs.Handles.{HoldsItems, name_in, field_of, variant_of}
+use Rattle.parts.proofs.Promise.{message_listed, enum_listed, flags_listed, union_listed, variant_listed, field_name, variant_name_lem, items_first, items_rest}
+
+-- the name of an item of a shape that has one
+pub named : (h : Shape) → is_named h ≡ true → (i : Item) → i.shape ≡ h → name_in i ≡ item_name i.image.bytes.now i.at
+unfolding name_in
+named h t i e = rw (e, t)
+
+pub field_named : (f : Field) → name_in f.item ≡ (field_of f).name
+field_named f = named shape.Field refl f.item f.is ∙ sym (field_name _ _ (rw f.is at f.item.here))
+
+pub variant_named : (v : Variant) → name_in v.item ≡ (variant_of v).name
+variant_named v = named shape.Variant refl v.item v.is ∙ sym (variant_name_lem _ _ (rw v.is at v.item.here))
 
 module _ (s : List ℕ) (at : ℕ) (r : Run) where
   pub variant_fields : ItemHere shape.Variant s at → r ≡ variant_items s at → ItemsHere shape.Field s r.count r.start

@@ -1,8 +1,8 @@
 -- What the handles of items stand for. Assumes nothing.
-use Rattle.std.specs.Prelude.{◌≡◌, ◌≤◌}
-use Rattle.image.specs.Schema.{Field as FieldValue, Variant as VariantValue}
+use Rattle.std.specs.Prelude.{◌≡◌, cond, [], ℕ, ◌≤◌}
+use Rattle.image.specs.Schema.{Name, Field as FieldValue, Variant as VariantValue}
 use Rattle.image.specs.Codes.{number, union_kind}
-use Rattle.parts.specs.Promise.{ItemsHere, items_in, field_in, variant_in}
+use Rattle.parts.specs.Promise.{ItemsHere, items_end, items_in, is_named, item_name, field_in, variant_in}
 use Rattle.parts.specs.Handles.{decl_of}
 use Rattle.parts.specs.declared.handles.Decl.{Decl}
 use Rattle.parts.specs.declared.Shape.{Shape}
@@ -10,6 +10,7 @@ use Rattle.parts.specs.declared.Run.{Run}
 use Rattle.parts.specs.declared.handles.Image.{Image}
 use Rattle.members.specs.declared.places.Places.{Places}
 use Rattle.members.specs.declared.handles.Items.{Items}
+use Rattle.members.specs.declared.handles.Item.{Item}
 use Rattle.members.specs.declared.handles.Field.{Field}
 use Rattle.members.specs.declared.handles.Variant.{Variant}
 
@@ -27,6 +28,14 @@ pub record HoldsItems (h : Shape) (d : Decl) : Type 0 where
 -- the places of items
 abbrev pub places_of : Items → Places
 places_of x = record { bytes = x.image.bytes; shape = x.shape; run = x.run; here = x.here }
+
+-- the place after items
+abbrev pub place_after : Items → ℕ
+place_after x = items_end x.shape x.image.bytes.now x.run.count x.run.start
+
+-- the name of an item of a shape that has one
+unfoldable pub name_in : Item → Name
+name_in i = cond (is_named i.shape) (item_name i.image.bytes.now i.at) []
 
 -- the field that a handle stands for, and the union's variant
 abbrev pub field_of : Field → FieldValue

@@ -1,9 +1,9 @@
 // The items of declarations, as values that know what they are: a run of items, an item, a field, a union's variant.
 ghost use Rattle.std.specs.Prelude.{◌≡◌};
 ghost use Rattle.parts.specs.declared.Shape.{Shape};
-ghost use Rattle.parts.specs.Promise.{ItemsHere, ItemHere, variant_items, ordinal_in, item_name, coding_of};
+ghost use Rattle.parts.specs.Promise.{ItemsHere, items_end, Closed, tombstone_items, ItemHere, variant_items, ordinal_in, coding_of};
 ghost use Rattle.parts.specs.Handles.{tree_of};
-ghost use Rattle.members.specs.Props.{items_prop, item_prop};
+ghost use Rattle.members.specs.Props.{items_prop, item_prop, closed_prop};
 
 use crate::places::Places;
 use crate::{fields, items};
@@ -17,6 +17,14 @@ pub struct Items<'a> {
     pub shape: Shape,
     pub run: Run,
     pub ghost here: { ItemsHere shape image.bytes.now run.count run.start } by { items_prop shape image.bytes.now run.count run.start },
+}
+
+// Items, and the numbers that are struck off, which stand after them in a format that stores them: of a message, an enum, flags, a union, and a
+// union's variant.
+#[derive(Clone, Copy)]
+pub struct Body<'a> {
+    pub items: Items<'a>,
+    pub ghost closed: { Closed items.image.bytes.now (items_end items.shape items.image.bytes.now items.run.count items.run.start) } by { closed_prop items.image.bytes.now (items_end items.shape items.image.bytes.now items.run.count items.run.start) },
 }
 
 // An item of a shape in an image.
@@ -43,20 +51,48 @@ impl<'a> Items<'a> {
     }
 }
 
+impl<'a> Body<'a> {
+    ghost use Rattle.members.specs.Handles.{ItemsAt, place_after};
+
+    // The numbers that are struck off, as items.
+    #[tactic(auto, using(crate::proofs::Closing::closes))]
+    pub fn tombstones(self) -> Items<'a>
+        ensures { ItemsAt self.entry.items.image Shape.Number (tombstone_items self.entry.items.image.bytes.now (place_after self.entry.items)) result }
+    {
+        let items = self.items;
+        let bytes = items.image.bytes;
+        let place = items::items_end(bytes, items.shape, items.run.start, items.run.count);
+        Items {
+            image: items.image,
+            shape: Shape::Number,
+            run: items::tombstone_items(bytes, place),
+        }
+    }
+}
+
 impl<'a> Item<'a> {
+    ghost use Rattle.members.specs.Handles.{name_in};
+
     // Of flags it is the bit.
-    #[tactic(auto, using(parts::proofs::Promise::item_bare))]
+    #[tactic(auto, using(parts::proofs::Promise::item_number))]
     pub fn ordinal(self) -> u32
         ensures { result ≡ ordinal_in self.entry.image.bytes.now self.entry.at }
     {
         items::ordinal_at(self.image.bytes, self.at)
     }
 
-    #[tactic(auto, using(parts::proofs::Promise::item_bare))]
+    // A number that is struck off has none.
+    #[tactic(auto, using(parts::proofs::Promise::item_bare), unfolding(crate::specs::Handles::name_in))]
     pub fn name(self) -> &'a [u8]
-        ensures { result.now ≡ item_name self.entry.image.bytes.now self.entry.at }
+        ensures { result.now ≡ name_in self.entry }
     {
-        items::item_name(self.image.bytes, self.at)
+        match self.shape {
+            Shape::Number => &[],
+            Shape::Field | Shape::Bare | Shape::Variant => items::item_name(
+                self.image.bytes,
+                self.at,
+            ),
+        }
     }
 }
 
@@ -85,7 +121,7 @@ impl<'a> Field<'a> {
         item.ordinal()
     }
 
-    #[tactic(auto, using(parts::proofs::Promise::field_name))]
+    #[tactic(auto, using(crate::proofs::Runs::field_named))]
     pub fn name(self) -> &'a [u8]
         ensures { result.now ≡ (field_of self.entry).name }
     {
@@ -132,12 +168,22 @@ impl<'a> Field<'a> {
 impl<'a> Variant<'a> {
     ghost use Rattle.members.specs.Handles.{ItemsAt, variant_of};
 
-    #[tactic(auto, using(parts::proofs::Promise::variant_name_lem))]
+    #[tactic(auto, using(crate::proofs::Runs::variant_named))]
     pub fn name(self) -> &'a [u8]
         ensures { result.now ≡ (variant_of self.entry).name }
     {
         let variant = self.item;
         variant.name()
+    }
+
+    // Its fields, and the numbers that it strikes off.
+    #[tactic(auto, using(crate::proofs::Closing::variant_body))]
+    pub fn body(self) -> Body<'a>
+        ensures { ItemsAt self.entry.item.image Shape.Field (variant_items self.entry.item.image.bytes.now self.entry.item.at) result.items }
+    {
+        Body {
+            items: self.fields(),
+        }
     }
 
     // Its fields.

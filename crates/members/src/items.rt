@@ -1,18 +1,19 @@
-// Items of declarations: fields, variants and bits. Each starts with its ordinal and its name, so these are found without its shape.
+// Items of declarations: fields, variants and bits, and the numbers that are struck off. Each starts with its ordinal, and all but numbers go on
+// with their name, so that these are found without its shape.
 ghost use Rattle.std.specs.Prelude.{◌≡◌, ◌+◌, ◌≤◌, length};
 ghost use Rattle.image.specs.Codes.{number, union_kind};
-ghost use Rattle.parts.specs.Promise.{DeclHere, decl_in, items_in, ItemHere, item_end, ItemsHere, items_end, ordinal_in, item_name, items_at, variant_items};
+ghost use Rattle.parts.specs.Promise.{DeclHere, decl_in, items_in, ItemHere, item_end, ItemsHere, items_end, ordinal_in, item_name, items_at, Closed, tombstones_end, tombstone_items, variant_items};
 
 use crate::fields::field_end;
 use image::numbers::{u16_at, u32_at};
-use parts::decls::{stores_width, width_place};
+use parts::decls::{stores_tombstones, stores_width, width_place};
 use parts::names::{name_at, name_end};
 use parts::{Run, Shape};
 
 // The ordinal of an item; of flags it is the bit.
-#[tactic(auto, using(parts::proofs::Laws::Items::bares))]
+#[tactic(auto, using(parts::proofs::Laws::Items::numbers), unfolding(parts::specs::Promise::ordinal_in))]
 pub fn ordinal_at(image: &[u8], at: usize) -> u32
-    requires { ItemHere Shape.Bare image.now at }
+    requires { ItemHere Shape.Number image.now at }
     ensures { result ≡ ordinal_in image.now at }
 {
     u32_at(image, at)
@@ -74,14 +75,45 @@ fn fields_end(image: &[u8], at: usize, count: usize) -> usize
     next
 }
 
-// The end of a union's variant.
+// The numbers that are struck off at a place.
+#[tactic(auto, using(parts::proofs::Laws::Closed::closes), unfolding(parts::specs::Promise::tombstone_items))]
+pub(crate) fn tombstone_items(image: &[u8], at: usize) -> Run
+    requires closed { Closed image.now at }
+    requires there { 2 ≤ length image.now }
+    ensures { result ≡ tombstone_items image.now at }
+{
+    if stores_tombstones(image) {
+        return items_at(image, at);
+    }
+    Run {
+        start: at,
+        count: 0,
+    }
+}
+
+// Their end.
+#[tactic(auto, using(parts::proofs::Laws::Closed::closes))]
+fn tombstones_end(image: &[u8], at: usize) -> usize
+    requires closed { Closed image.now at }
+    requires there { 2 ≤ length image.now }
+    ensures { result ≡ tombstones_end image.now at }
+{
+    if stores_tombstones(image) {
+        return at + 2 + 4 * u16_at(image, at);
+    }
+    at
+}
+
+// The end of a union's variant. Kept apart from the ends of other items, which are short and asked far more often.
+#[inline(never)]
 #[tactic(auto, using(parts::proofs::Laws::Items::variants))]
 fn variant_end(image: &[u8], at: usize) -> usize
     requires { ItemHere Shape.Variant image.now at }
     ensures { result ≡ item_end Shape.Variant image.now at }
 {
     let fields = variant_items(image, at);
-    fields_end(image, fields.start, fields.count)
+    let place = fields_end(image, fields.start, fields.count);
+    tombstones_end(image, place)
 }
 
 // The end of a bare item.
@@ -94,6 +126,7 @@ fn bare_end(image: &[u8], at: usize) -> usize
 }
 
 // The place after an item, where the next one starts.
+#[tactic(auto, using(parts::proofs::Laws::Items::numbers))]
 pub fn item_end(image: &[u8], shape: Shape, at: usize) -> usize
     requires { ItemHere shape image.now at }
     ensures { result ≡ item_end shape image.now at }
@@ -102,5 +135,19 @@ pub fn item_end(image: &[u8], shape: Shape, at: usize) -> usize
         Shape::Field => field_end(image, at),
         Shape::Bare => bare_end(image, at),
         Shape::Variant => variant_end(image, at),
+        Shape::Number => at + 4,
     }
+}
+
+// The end of so many items.
+#[tactic(auto, using(parts::proofs::Laws::Items::runs))]
+pub(crate) fn items_end(image: &[u8], shape: Shape, at: usize, count: usize) -> usize
+    requires { ItemsHere shape image.now count at }
+    ensures { result ≡ items_end shape image.now count at }
+{
+    let mut next = at;
+    for _ in 0..count {
+        next = item_end(image, shape, next);
+    }
+    next
 }

@@ -2,6 +2,7 @@
 // bytes. The promise that they rest on is that of `parts`.
 #![tactic(auto)]
 
+pub mod bodies;
 pub mod fields;
 pub mod handles;
 pub mod items;

@@ -22,7 +22,7 @@ use Rattle.parts.specs.declared.Shape.{Shape}
 use Rattle.parts.proofs.Laws.Places.{places_none as by_none, places_more as by_more}
 use Rattle.parts.proofs.Laws.Decls.{decl_head}
 -- the image: its length, how many entries and ids it has, and its namespace by the names at their places
-pub use Rattle.parts.proofs.Laws.Contents.{accepted_most, entries_most, ids_most, segments_listed}
+pub use Rattle.parts.proofs.Laws.Contents.{accepted_most, head_there, entries_most, ids_most, segments_listed}
 -- the name of an entry's declaration
 pub use Rattle.parts.proofs.Laws.Bodies.{entry_short}
 -- so many names, or items: the first, and the rest
@@ -30,10 +30,13 @@ pub use Rattle.parts.proofs.Laws.Skips.{names_first, names_rest}
 pub use Rattle.parts.proofs.Laws.Items.{items_first, items_rest}
 -- a declaration: the items of a message, an enum, flags, a union, and that they are its fields or its variants; a newtype's type
 pub use Rattle.parts.proofs.Laws.Counted.{message_listed, enum_listed, flags_listed, union_listed, inner_here, inner_tree}
+-- the tombstones after them, which other kinds have not; and these as items
+pub use Rattle.parts.proofs.Laws.Counted.{decl_closed, decl_struck, decl_unclosed}
+pub use Rattle.parts.proofs.Laws.Closed.{closed_listed}
 -- a kind: its word in the table of all
 pub use Rattle.image.proofs.Laws.Kinds.{kind_named}
 -- an item: what holds of a bare one holds of its start; the values of a field and of a union's variant
-pub use Rattle.parts.proofs.Laws.Items.{item_bare, field_ordinal, field_name, field_type_here, field_type, variant_ordinal_lem, variant_name_lem, variant_listed}
+pub use Rattle.parts.proofs.Laws.Items.{item_number, number_ordinal, item_bare, bare_ordinal, field_ordinal, field_name, field_type_here, field_type, variant_ordinal_lem, variant_name_lem, variant_listed, variant_closed, variant_struck}
 -- a type has a label; a node by how many inner types its tag has
 pub use Rattle.parts.proofs.Laws.Trees.{type_some, type_label, type_first, type_second, node_leaf, node_one, node_two}
 pub use Rattle.parts.proofs.Laws.Ends.{end_leaf, end_one, end_two}

@@ -1,17 +1,18 @@
 -- What the crates above may say of an accepted image. Places are positions in the image. `XHere s at` says that an X is well formed at a
 -- place, `x_in s at` is its value, `x_end s at` the place after it, `x_place` the place of a part of it; of a place where none stands a
 -- value is a default and says nothing. proofs/Promise.antt ties all of them to `schema_of`. Assumes nothing.
-use Rattle.std.specs.Prelude.{◌≡◌, Bool, cond, ◌&&◌, ◌||◌, List, [], ◌∷◌, map, ℕ, zero, suc, ◌+◌, ◌-◌, ◌≤◌, ◌<◌, eqb, leb, length, get_or, take, drop, Option, None, Some, IfSome}
+use Rattle.std.specs.Prelude.{◌≡◌, Bool, true, false, cond, ◌&&◌, ◌||◌, List, [], ◌∷◌, map, ℕ, zero, suc, ◌+◌, ◌-◌, ◌≤◌, ◌<◌, eqb, leb, length, get_or, take, drop, Option, None, Some, IfSome}
 use Rattle.std.specs.Option.{option_map}
 use Rattle.image.specs.Codes.{number, body_refusal, enum_kind, flags_kind, impl_kind, primitive_tag, sub_byte_tag, semantic_tag, named_tag, fixed_array_tag, bits_tag}
-use Rattle.image.specs.Kinds.{kind_of}
+use Rattle.image.specs.Kinds.{Kind, kind_of, message, enum, flags, union, newtype, config, alias, trait, impl, other}
 use Rattle.image.specs.Schema.{Name, unmarked, Label, label, Ty, no_type, Field, Variant, Decl, decl, Schema, no_schema}
-use Rattle.image.specs.Formats.{has_widths}
+use Rattle.image.specs.Formats.{has_widths, has_tombstones}
 use Rattle.image.specs.Schema.{Encoding as Encoded}
-use Rattle.image.specs.Parse.{Parsed, bind, little_endian, byte_at, many}
+use Rattle.image.specs.Parse.{Parsed, bind, little_endian, byte_at, number_at, many}
 use Rattle.image.specs.Names.{name_at, names_at}
 use Rattle.image.specs.Types.{label_of, type_of}
 use Rattle.image.specs.Fields.{plain, encoding_at, limit_at, field_at, bare_at, variant_at}
+use Rattle.image.specs.Tombstones.{tombstones_at}
 use Rattle.image.specs.Bodies.{decl_at, body_of}
 use Rattle.image.specs.Image.{format, segment_count, segments_at, read_image}
 use Rattle.image.specs.WellFormed.{Good, value_or, end_of}
@@ -37,7 +38,7 @@ abbrev pub no_field : Field
 no_field = record { ordinal = 0; name = []; marks = unmarked; encoding = plain 0; limit = None; type = no_type }
 
 abbrev pub no_variant : Variant
-no_variant = record { ordinal = 0; name = []; fields = [] }
+no_variant = record { ordinal = 0; name = []; fields = []; tombstones = [] }
 
 abbrev pub no_decl : Decl
 no_decl = decl (number impl_kind) [] unmarked None [] [] no_type
@@ -116,29 +117,32 @@ tree_in s at = value_or no_type (type_of 32 (drop at s))
 unfoldable pub type_end : List ℕ → ℕ → ℕ
 type_end s at = at + end_of (type_of 32 (drop at s))
 
--- Items.
+-- Items. A number that is struck off is one, too.
 abbrev pub ItemOf : Shape → Type 0
 ItemOf shape.Field = Field
 ItemOf shape.Bare = Variant
 ItemOf shape.Variant = Variant
+ItemOf shape.Number = ℕ
 
-unfoldable pub item_at : (h : Shape) → List ℕ → ℕ → Parsed (ItemOf h)
-item_at shape.Field = field_at
-item_at shape.Bare = bare_at
-item_at shape.Variant = variant_at
+-- in a format
+unfoldable pub item_at : (h : Shape) → ℕ → List ℕ → ℕ → Parsed (ItemOf h)
+item_at shape.Field f = field_at
+item_at shape.Bare f = bare_at
+item_at shape.Variant f = variant_at f
+item_at shape.Number f = number_at 4
 
 unfoldable pub ItemHere : Shape → List ℕ → ℕ → Type 0
-ItemHere h s at = Good (item_at h s at)
+ItemHere h s at = Good (item_at h (format s) s at)
 
 unfoldable pub item_end : Shape → List ℕ → ℕ → ℕ
-item_end h s at = end_of (item_at h s at)
+item_end h s at = end_of (item_at h (format s) s at)
 
 unfoldable pub ItemsHere : Shape → List ℕ → ℕ → ℕ → Type 0
-ItemsHere h s count at = Good (many (item_at h) count s at)
+ItemsHere h s count at = Good (many (item_at h (format s)) count s at)
 
 -- the place after so many items
 unfoldable pub items_end : Shape → List ℕ → ℕ → ℕ → ℕ
-items_end h s count at = end_of (many (item_at h) count s at)
+items_end h s count at = end_of (many (item_at h (format s)) count s at)
 
 unfoldable pub places_from : Shape → List ℕ → ℕ → ℕ → List ℕ
 places_from h s count at = places_by (item_end h s) count at
@@ -156,18 +160,47 @@ unfoldable pub bare_in : List ℕ → ℕ → Variant
 bare_in s at = value_or no_variant (bare_at s at)
 
 unfoldable pub variant_in : List ℕ → ℕ → Variant
-variant_in s at = value_or no_variant (variant_at s at)
+variant_in s at = value_or no_variant (variant_at (format s) s at)
 
 -- the fields of a union's variant
 unfoldable pub variant_items : List ℕ → ℕ → Run
 variant_items s at = items_at s (name_end s (at + 4))
 
--- Every item starts with its ordinal and its name, as a bare one does.
-abbrev pub ordinal_in : List ℕ → ℕ → ℕ
-ordinal_in s at = (bare_in s at).ordinal
+-- Every item starts with its ordinal; a number that is struck off is nothing else.
+unfoldable pub ordinal_in : List ℕ → ℕ → ℕ
+ordinal_in s at = little_endian 4 (drop at s)
+
+-- and every other one goes on with its name, as a bare one does
+abbrev pub is_named : Shape → Bool
+is_named shape.Field = true
+is_named shape.Bare = true
+is_named shape.Variant = true
+is_named shape.Number = false
 
 abbrev pub item_name : List ℕ → ℕ → Name
 item_name s at = (bare_in s at).name
+
+-- a number that is struck off
+unfoldable pub number_in : List ℕ → ℕ → ℕ
+number_in s at = value_or 0 (number_at 4 s at)
+
+-- The numbers that are struck off, after the items of a declaration or of a variant, in a format that stores them.
+unfoldable pub Closed : List ℕ → ℕ → Type 0
+Closed s at = Good (tombstones_at (format s) s at)
+
+unfoldable pub tombstones_in : List ℕ → ℕ → List ℕ
+tombstones_in s at = value_or [] (tombstones_at (format s) s at)
+
+unfoldable pub tombstones_end : List ℕ → ℕ → ℕ
+tombstones_end s at = end_of (tombstones_at (format s) s at)
+
+-- where those of a variant stand
+unfoldable pub variant_tombstones : List ℕ → ℕ → ℕ
+variant_tombstones s at = items_end shape.Field s (variant_items s at).count (variant_items s at).start
+
+-- as items
+unfoldable pub tombstone_items : List ℕ → ℕ → Run
+tombstone_items s at = cond (has_tombstones (format s)) (items_at s at) (record { start = at; count = 0 })
 
 -- Fields.
 unfoldable pub field_in : List ℕ → ℕ → Field
@@ -232,6 +265,23 @@ width_size format kind = cond (stores_width format kind) 1 0
 -- the items of a message, an enum, flags or a union
 unfoldable pub items_in : List ℕ → ℕ → Run
 items_in s at = items_at s (width_place s at + width_size (format s) (decl_in s at).kind)
+
+-- their shape, by the kind
+unfoldable pub shape_by : Kind → Shape
+shape_by message = shape.Field
+shape_by enum = shape.Bare
+shape_by flags = shape.Bare
+shape_by union = shape.Variant
+shape_by newtype = shape.Bare
+shape_by config = shape.Bare
+shape_by alias = shape.Bare
+shape_by trait = shape.Bare
+shape_by impl = shape.Bare
+shape_by other = shape.Bare
+
+-- where its tombstones stand, after its items
+unfoldable pub tombstones_place : List ℕ → ℕ → ℕ
+tombstones_place s at = items_end (shape_by (kind_of (decl_in s at).kind)) s (items_in s at).count (items_in s at).start
 
 -- the type of a newtype
 unfoldable pub inner_place : List ℕ → ℕ → ℕ

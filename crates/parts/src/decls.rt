@@ -1,7 +1,8 @@
 // Declarations at places of the image.
-ghost use Rattle.std.specs.Prelude.{◌≡◌, ◌<◌};
+ghost use Rattle.std.specs.Prelude.{◌≡◌, ◌<◌, ◌≤◌, length};
 ghost use Rattle.image.specs.Codes.{number, newtype_kind, impl_kind};
 ghost use Rattle.image.specs.Fields.{marks_of};
+ghost use Rattle.image.specs.Formats.{has_tombstones};
 ghost use Rattle.image.specs.Image.{format};
 ghost use Rattle.image.specs.Numbers.{kind_number};
 ghost use Rattle.parts.specs.Promise.{DeclHere, decl_in, marked, measured, stores_width, width_place, inner_place};
@@ -86,6 +87,16 @@ pub fn stores_width(image: &[u8], at: usize) -> bool
     }
     // The formats from this one on store it. A number and no `Format`, since a declaration may stand in bytes that are of none.
     u16_at(image, 0) >= Format::Two as usize
+}
+
+// Whether the image's format stores the numbers that are struck off.
+#[tactic(auto, unfolding(image::specs::Formats::has_tombstones, image::specs::Image::format, image::specs::Image::u16_at))]
+pub fn stores_tombstones(image: &[u8]) -> bool
+    requires { 2 ≤ length image.now }
+    ensures { result ≡ has_tombstones (format image.now) }
+{
+    // The formats from this one on do. A number, as above.
+    u16_at(image, 0) >= Format::Three as usize
 }
 
 // The place after the name and the marks, where the width stands if it is stored.

@@ -12,12 +12,14 @@ pub mod types;
 // The kinds, tags and formats that the accessors answer, and refusals and sides.
 pub use image::{formats, kinds, refusals, sides, tags};
 
-// The shape of an item: a field; a variant of an enum or a bit of flags; a variant of a union. Each starts with its ordinal and its name.
+// The shape of an item: a field; a variant of an enum or a bit of flags; a variant of a union. Each starts with its ordinal and its name. Or a
+// number that is struck off, which is an ordinal and nothing else.
 #[derive(Clone, Copy)]
 pub enum Shape {
     Field,
     Bare,
     Variant,
+    Number,
 }
 
 // So many items, or names, one after the other.

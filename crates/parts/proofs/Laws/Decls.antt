@@ -11,14 +11,15 @@ use lib.ListN.{length, get_or}
 use Rattle.image.specs.Kinds.{Kind, kind_of}
 use Rattle.image.specs.Codes.{number, message_kind, enum_kind, flags_kind, union_kind, newtype_kind, config_kind, alias_kind, trait_kind, impl_kind}
 use Rattle.image.specs.Schema.{Name, Marks, unmarked, Ty, no_type, Field, Variant, Decl, decl}
-use Rattle.image.specs.Parse.{ok, byte_at, counted}
+use Rattle.image.specs.Parse.{Parsed, ok, byte_at, counted}
 use Rattle.image.specs.Names.{name_at}
 use Rattle.image.specs.Types.{type_at}
 use Rattle.image.specs.Fields.{marks_of, marks_at, field_at, bare_at, variant_at}
 use Rattle.image.specs.Formats.{has_widths}
+use Rattle.image.specs.Tombstones.{tombstones_at}
 use Rattle.image.specs.Widths.{wire_bits_at, wire_bytes_at}
 use Rattle.image.specs.Image.{format}
-use Rattle.image.specs.Bodies.{message_at, enum_at, flags_at, union_at, newtype_at, other_at, impl_at, decl_at}
+use Rattle.image.specs.Bodies.{message_at, enum_at, flags_at, union_at, newtype_at, other_at, impl_at, closed, decl_at}
 use Rattle.image.specs.WellFormed.{Good, value_or}
 use Rattle.image.proofs.Laws.Sure.{Sure, sure_ok, sure_no, sure_bind, code_sure}
 use Rattle.image.proofs.Laws.Good.{sure_good, good_first}
@@ -37,6 +38,7 @@ pub record Headed (f kind : ℕ) (s : List ℕ) (at : ℕ) (d : Decl) : Type 0 w
   pub marked : kind ≤ number enum_kind → (name_end s at < length s) × (d.marks ≡ marks_of (get_or s (name_end s at) 0))
   pub plain : (number enum_kind) < kind → d.marks ≡ unmarked
   pub width : Stored (stores_width f kind) s (name_end s at + marks_size kind) d.width
+  pub unclosed : (number union_kind) < kind → d.tombstones ≡ []
 
 -- what is known of every answer
 marks_sure_here : (s : List ℕ) (at : ℕ) → Sure (λ m n. (at < length s) × (m ≡ marks_of (get_or s at 0)) × (n ≡ at + 1)) (marks_at s at)
@@ -65,6 +67,7 @@ module _ (f : ℕ) (s : List ℕ) (at : ℕ) where
     marked = λ _. (rw q at i, r ∙ ap (λ (k : ℕ). marks_of (get_or s k 0)) q);
     plain = λ z. absurd (omega arith);
     width = v;
+    unclosed = λ z. absurd (omega arith);
   }
 
   without : (kind : ℕ) → 1 < kind → kind < 8 → {x : Name} {n : ℕ} → Name-at x n → {w : Option ℕ} → Stored (stores_width f kind) s (name_end s at + marks_size kind) w
@@ -77,29 +80,52 @@ module _ (f : ℕ) (s : List ℕ) (at : ℕ) where
     marked = λ z. absurd (omega arith);
     plain = λ _. refl;
     width = v;
+    unclosed = λ _. refl;
   }
+
+  -- tombstones are no part of the head
+  closed_head : {kind : ℕ} (p : List ℕ → ℕ → Parsed Decl) → kind ≤ number union_kind → Sure (λ d n. Headed f kind s at d) (p s at)
+      → Sure (λ d n. Headed f kind s at d) (closed f p s at)
+  unfolding closed
+  closed_head p l h =
+      sure_bind _ h (λ d n q.
+      sure_bind _ (itself [] (tombstones_at f s n)) (λ ts m _.
+      sure_ok (record {
+        is = q.is;
+        most = q.most;
+        nameless = q.nameless;
+        named = q.named;
+        marked = q.marked;
+        plain = q.plain;
+        width = q.width;
+        unclosed = λ z. absurd (omega arith);
+      })))
 
   pub head_sure : {kind : ℕ} {k : Kind} → Says kind k → Sure (λ d n. Headed f kind s at d) (decl_at f k s at)
   unfolding decl_at message_at enum_at flags_at union_at newtype_at other_at impl_at measured marks_size marked
   head_sure message =
-      sure_bind _ name_sure_here (λ x n q.
+      closed_head message_at (omega arith)
+      (sure_bind _ name_sure_here (λ x n q.
       sure_bind _ (marks_sure_here s n) (λ m k r.
       sure_bind _ (itself [] (counted field_at s k)) (λ fs i _.
-      sure_ok (with_marks (number message_kind) (omega arith) q r (no_width_lem f s _ _ refl) fs []))))
+      sure_ok (with_marks (number message_kind) (omega arith) q r (no_width_lem f s _ _ refl) fs [])))))
   head_sure enum =
-      sure_bind _ name_sure_here (λ x n q.
+      closed_head (enum_at f) (omega arith)
+      (sure_bind _ name_sure_here (λ x n q.
       sure_bind _ (marks_sure_here s n) (λ m k r.
       sure_bind _ (width_sure_here f wire_bits_at s k (wire_bits_is s k)) (λ w j v.
       sure_bind _ (itself [] (counted bare_at s j)) (λ vs i _.
-      sure_ok (with_marks (number enum_kind) (omega arith) q r (its_width f s _ refl (r.2 ∙ ap (λ (i : ℕ). i + 1) q.2) v) [] vs)))))
+      sure_ok (with_marks (number enum_kind) (omega arith) q r (its_width f s _ refl (r.2 ∙ ap (λ (i : ℕ). i + 1) q.2) v) [] vs))))))
   head_sure flags =
-      sure_bind _ name_sure_here (λ x n q.
+      closed_head (flags_at f) (omega arith)
+      (sure_bind _ name_sure_here (λ x n q.
       sure_bind _ (width_sure_here f wire_bytes_at s n (wire_bytes_is s n)) (λ w j v.
       sure_bind _ (itself [] (counted bare_at s j)) (λ vs i _.
-      sure_ok (without (number flags_kind) (omega arith) (omega arith) q (its_width f s _ refl (let z : name_end s at ≡ name_end s at + 0 = omega arith in q.2 ∙ z) v) [] vs no_type))))
+      sure_ok (without (number flags_kind) (omega arith) (omega arith) q (its_width f s _ refl (let z : name_end s at ≡ name_end s at + 0 = omega arith in q.2 ∙ z) v) [] vs no_type)))))
   head_sure union =
-      sure_bind _ name_sure_here (λ x n q.
-      sure_bind _ (itself [] (counted variant_at s n)) (λ vs i _. sure_ok (without (number union_kind) (omega arith) (omega arith) q (no_width_lem f s _ _ refl) [] vs no_type)))
+      closed_head (union_at f) (omega arith)
+      (sure_bind _ name_sure_here (λ x n q.
+      sure_bind _ (itself [] (counted (variant_at f) s n)) (λ vs i _. sure_ok (without (number union_kind) (omega arith) (omega arith) q (no_width_lem f s _ _ refl) [] vs no_type))))
   head_sure newtype =
       sure_bind _ name_sure_here (λ x n q.
       sure_bind _ (itself no_type (type_at s n)) (λ t i _. sure_ok (without (number newtype_kind) (omega arith) (omega arith) q (no_width_lem f s _ _ refl) [] [] t)))
@@ -114,6 +140,7 @@ module _ (f : ℕ) (s : List ℕ) (at : ℕ) where
     marked = λ z. absurd (omega arith);
     plain = λ _. refl;
     width = no_width_lem f s _ _ refl;
+    unclosed = λ _. refl;
   })
   head_sure (other _ _) = sure_no
 

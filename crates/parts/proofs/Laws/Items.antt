@@ -1,5 +1,6 @@
 -- Items at places of the image: ordinal and name, and what each shape has after them. Assumes nothing.
-use mathlib.Core.Path.{◌≡◌, sym, ap, ap₂, ◌∙◌}
+use mathlib.Core.Path.{◌≡◌, refl, sym, ap, ap₂, ◌∙◌}
+use mathlib.Core.Bool.{true, false≢true}
 use Rattle.std.specs.Prelude.{None}
 use mathlib.Core.List.{List, []}
 use Prim.Native.Nat.{ℕ, ◌+◌, ◌-◌, ◌≤◌, ◌<◌}
@@ -9,10 +10,13 @@ use Rattle.image.specs.Schema.{Name, no_type, Field, Variant}
 use Rattle.image.specs.Parse.{Parsed, ok, bind, little_endian, number_at, many, counted}
 use Rattle.image.specs.Names.{name_at}
 use Rattle.image.specs.Types.{type_of, type_at}
+use Rattle.image.specs.Tombstones.{tombstones_at}
+use Rattle.image.specs.Image.{format}
 use Rattle.image.specs.Fields.{marks_of, marks_at, plain, encoding_at, limit_at, field_at, bare_at, variant_at}
 use Rattle.image.specs.WellFormed.{Good, value_or, end_of}
 use Rattle.image.proofs.Laws.Good.{good_first, within_good, within_value, within_end, many_first, many_rest}
-use Rattle.parts.specs.Promise.{no_field, no_variant, NameHere, name_in, name_end, TypeHere, tree_in, type_end, ItemOf, item_at, ItemHere, item_end, ItemsHere, ItemsListed, items_end, places_from, items_at, bare_in, ordinal_in, item_name, variant_in, variant_items, field_in, marks_place, encoding_place, limit_place, type_place}
+use Rattle.parts.specs.Promise.{no_field, no_variant, NameHere, name_in, name_end, TypeHere, tree_in, type_end, ItemOf, item_at, ItemHere, item_end, ItemsHere, ItemsListed, items_end, places_from, items_at, bare_in, ordinal_in, is_named, item_name, number_in, Closed, tombstones_in, tombstones_end, variant_tombstones, variant_in, variant_items, field_in, marks_place, encoding_place, limit_place, type_place}
+use Rattle.parts.specs.declared.Run.{Run}
 use Rattle.parts.specs.declared.Shape.{Shape}
 use Rattle.parts.specs.declared.Shape.TheVariants as shape
 use Rattle.parts.proofs.Laws.Steps.{good_is, then_is, then_good, number_is, number_there, marks_is, name_is}
@@ -116,7 +120,7 @@ module _ {A : Type 0} (p : List ℕ → ℕ → Parsed A) (s : List ℕ) (at : �
 pub record BareParts (s : List ℕ) (at : ℕ) : Type 0 where
   pub inside : at + 4 ≤ length s
   pub name : NameHere s (at + 4)
-  pub value : bare_in s at ≡ record { ordinal = little_endian 4 (drop at s); name = name_in s (at + 4); fields = [] }
+  pub value : bare_in s at ≡ record { ordinal = little_endian 4 (drop at s); name = name_in s (at + 4); fields = []; tombstones = [] }
   pub end : item_end shape.Bare s at ≡ name_end s (at + 4)
 
 pub bare_parts : (s : List ℕ) (at : ℕ) → ItemHere shape.Bare s at → BareParts s at
@@ -127,7 +131,7 @@ bare_parts s at g =
 
 -- an ordinal and a name are all that it needs
 bare_there : (s : List ℕ) (at : ℕ) → at + 4 ≤ length s → NameHere s (at + 4)
-    → bare_at s at ≡ ok (record { ordinal = little_endian 4 (drop at s); name = name_in s (at + 4); fields = [] }) (name_end s (at + 4))
+    → bare_at s at ≡ ok (record { ordinal = little_endian 4 (drop at s); name = name_in s (at + 4); fields = []; tombstones = [] }) (name_end s (at + 4))
 unfolding bare_at
 bare_there s at l n = then_is _ (number_there s at 4 l) ∙ then_is _ (name_is s (at + 4) n)
 
@@ -135,46 +139,78 @@ bare_good : (s : List ℕ) (at : ℕ) → at + 4 ≤ length s → NameHere s (at
 unfolding Good
 bare_good s at l n = rw (bare_there s at l n) tt
 
--- a variant of a union
+-- a variant of a union: its fields, and after them its tombstones
 pub record VariantParts (s : List ℕ) (at : ℕ) : Type 0 where
   pub inside : at + 4 ≤ length s
   pub name : NameHere s (at + 4)
   pub count : name_end s (at + 4) + 2 ≤ length s
-  pub items : Good (many field_at (variant_items s at).count s (variant_items s at).start)
+  pub items : ItemsHere shape.Field s (variant_items s at).count (variant_items s at).start
+  pub closed : Closed s (variant_tombstones s at)
   pub value : variant_in s at ≡ record {
     ordinal = little_endian 4 (drop at s);
     name = name_in s (at + 4);
     fields = value_or [] (many field_at (variant_items s at).count s (variant_items s at).start);
+    tombstones = tombstones_in s (variant_tombstones s at);
   }
-  pub end : item_end shape.Variant s at ≡ items_end shape.Field s (variant_items s at).count (variant_items s at).start
+  pub end : item_end shape.Variant s at ≡ tombstones_end s (variant_tombstones s at)
 
 pub variant_parts : (s : List ℕ) (at : ℕ) → ItemHere shape.Variant s at → VariantParts s at
-unfolding ItemHere item_at item_end items_end variant_in value_or end_of variant_at keyed variant_items
+unfolding ItemHere ItemsHere item_at item_end items_end variant_in value_or end_of variant_at keyed variant_items Closed tombstones_in tombstones_end variant_tombstones
 variant_parts s at g =
     let c = name_end s (at + 4) in
-    let k = key_is s at (λ o x n. bind (counted field_at s n) (λ fs m. ok (record { ordinal = o; name = x; fields = fs }) m)) g in
-    let b = good_first [] (counted field_at s c) _ (rw k at g) in
+    let f = format s in
+    let rest = λ (o : ℕ) (x : Name) (fs : List Field) (n : ℕ). bind (tombstones_at f s n) (λ ts m. ok (record { ordinal = o; name = x; fields = fs; tombstones = ts }) m) in
+    let k = key_is s at (λ o x n. bind (counted field_at s n) (λ fs m. rest o x fs m)) g in
+    let g₂ = rw k at g in
+    let b = good_first [] (counted field_at s c) _ g₂ in
     let e = counted_is field_at s c b ∙ good_is [] _ (counted_good field_at s c b) in
-    let d = k ∙ then_is _ e in
+    let t = good_first [] (tombstones_at f s _) _ (then_good _ e g₂) in
+    let d = k ∙ then_is _ e ∙ then_is _ (good_is [] _ t) in
     record {
       inside = key_inside s at _ g;
       name = key_name s at _ g;
       count = count_inside field_at s c b;
       items = counted_good field_at s c b;
+      closed = t;
       value = ap (value_or no_variant) d;
       end = ap end_of d;
     }
 
--- the key of every item is a bare one's
+-- every item starts with a number, and its key is a bare one's
 module _ (s : List ℕ) (at : ℕ) where
-  pub item_bare : (h : Shape) → ItemHere h s at → ItemHere shape.Bare s at
-  unfolding ItemHere item_at
-  item_bare shape.Field g = let p = field_parts_lem s at g in bare_good s at p.inside p.name
-  item_bare shape.Bare g = g
-  item_bare shape.Variant g = let p = variant_parts s at g in bare_good s at p.inside p.name
+  number_good : at + 4 ≤ length s → ItemHere shape.Number s at
+  unfolding ItemHere item_at Good
+  number_good l = rw (number_there s at 4 l) tt
 
-  pub ordinal_is : ItemHere shape.Bare s at → ordinal_in s at ≡ little_endian 4 (drop at s)
-  ordinal_is g = ap (λ (v : Variant). v.ordinal) (bare_parts s at g).value
+  pub item_number : (h : Shape) → ItemHere h s at → ItemHere shape.Number s at
+  item_number shape.Field g = number_good (field_parts_lem s at g).inside
+  item_number shape.Bare g = number_good (bare_parts s at g).inside
+  item_number shape.Variant g = number_good (variant_parts s at g).inside
+  item_number shape.Number g = g
+
+  pub number_inside : ItemHere shape.Number s at → at + 4 ≤ length s
+  unfolding ItemHere item_at
+  number_inside g = (number_is s at 4 g).1
+
+  pub number_ordinal : ItemHere shape.Number s at → number_in s at ≡ ordinal_in s at
+  unfolding ItemHere item_at number_in ordinal_in value_or
+  number_ordinal g = ap (value_or 0) (number_is s at 4 g).0
+
+  pub number_end : ItemHere shape.Number s at → item_end shape.Number s at ≡ at + 4
+  unfolding ItemHere item_at item_end end_of
+  number_end g = ap end_of (number_is s at 4 g).0
+
+  -- of a shape that has a name
+  pub item_bare : (h : Shape) → is_named h ≡ true → ItemHere h s at → ItemHere shape.Bare s at
+  unfolding ItemHere item_at
+  item_bare shape.Field e g = let p = field_parts_lem s at g in bare_good s at p.inside p.name
+  item_bare shape.Bare e g = g
+  item_bare shape.Variant e g = let p = variant_parts s at g in bare_good s at p.inside p.name
+  item_bare shape.Number e g = absurd (false≢true e)
+
+  pub bare_ordinal : ItemHere shape.Bare s at → (bare_in s at).ordinal ≡ ordinal_in s at
+  unfolding ordinal_in
+  bare_ordinal g = ap (λ (v : Variant). v.ordinal) (bare_parts s at g).value
 
   pub name_is_bare : ItemHere shape.Bare s at → item_name s at ≡ name_in s (at + 4)
   name_is_bare g = ap (λ (v : Variant). v.name) (bare_parts s at g).value
@@ -182,10 +218,11 @@ module _ (s : List ℕ) (at : ℕ) where
   -- the values of a field's parts, and of a variant's
   module _ (g : ItemHere shape.Field s at) where
     pub field_ordinal : (field_in s at).ordinal ≡ ordinal_in s at
-    field_ordinal = ap (λ (f : Field). f.ordinal) (field_parts_lem s at g).value ∙ sym (ordinal_is (item_bare shape.Field g))
+    unfolding ordinal_in
+    field_ordinal = ap (λ (f : Field). f.ordinal) (field_parts_lem s at g).value
 
     pub field_name : (field_in s at).name ≡ item_name s at
-    field_name = ap (λ (f : Field). f.name) (field_parts_lem s at g).value ∙ sym (name_is_bare (item_bare shape.Field g))
+    field_name = ap (λ (f : Field). f.name) (field_parts_lem s at g).value ∙ sym (name_is_bare (item_bare shape.Field refl g))
 
     pub field_type : (field_in s at).type ≡ tree_in s (type_place s at)
     field_type = ap (λ (f : Field). f.type) (field_parts_lem s at g).value
@@ -195,10 +232,29 @@ module _ (s : List ℕ) (at : ℕ) where
 
   module _ (g : ItemHere shape.Variant s at) where
     pub variant_ordinal_lem : (variant_in s at).ordinal ≡ ordinal_in s at
-    variant_ordinal_lem = ap (λ (v : Variant). v.ordinal) (variant_parts s at g).value ∙ sym (ordinal_is (item_bare shape.Variant g))
+    unfolding ordinal_in
+    variant_ordinal_lem = ap (λ (v : Variant). v.ordinal) (variant_parts s at g).value
 
     pub variant_name_lem : (variant_in s at).name ≡ item_name s at
-    variant_name_lem = ap (λ (v : Variant). v.name) (variant_parts s at g).value ∙ sym (name_is_bare (item_bare shape.Variant g))
+    variant_name_lem = ap (λ (v : Variant). v.name) (variant_parts s at g).value ∙ sym (name_is_bare (item_bare shape.Variant refl g))
+
+    pub variant_closed : Closed s (variant_tombstones s at)
+    variant_closed = (variant_parts s at g).closed
+
+    -- as the code finds their place
+    module _ {r : Run} {n : ℕ} (e : r ≡ variant_items s at) (q : n ≡ items_end shape.Field s r.count r.start) where
+      place_is : n ≡ variant_tombstones s at
+      unfolding variant_tombstones
+      place_is = rw e at q
+
+      pub place_closed : Closed s n
+      place_closed = rw place_is variant_closed
+
+      pub place_end : {m : ℕ} → m ≡ tombstones_end s n → m ≡ item_end shape.Variant s at
+      place_end u = rw place_is at u ∙ sym (variant_parts s at g).end
+
+    pub variant_struck : (variant_in s at).tombstones ≡ tombstones_in s (variant_tombstones s at)
+    variant_struck = ap (λ (v : Variant). v.tombstones) (variant_parts s at g).value
 
     pub variant_listed : ItemsListed shape.Field s (variant_items s at) (field_in s) (variant_in s at).fields
     unfolding ItemsHere field_in places_from item_end item_at
@@ -210,30 +266,33 @@ no_item : (h : Shape) → ItemOf h
 no_item shape.Field = no_field
 no_item shape.Bare = no_variant
 no_item shape.Variant = no_variant
+no_item shape.Number = 0
 
 -- so many items: the first, and the rest
 module _ (h : Shape) (s : List ℕ) (c at : ℕ) (l : 0 < c) (g : ItemsHere h s c at) where
   pub items_first : ItemHere h s at
   unfolding ItemHere ItemsHere
-  items_first = many_first (no_item h) (item_at h) c s at l g
+  items_first = many_first (no_item h) (item_at h (format s)) c s at l g
 
   pub items_rest : ItemsHere h s (c - 1) (item_end h s at)
   unfolding ItemsHere item_end
-  items_rest = many_rest (no_item h) (item_at h) c s at l g
+  items_rest = many_rest (no_item h) (item_at h (format s)) c s at l g
 
   pub items_turn : (d n : ℕ) → d + 1 ≡ c → n ≡ item_end h s at → ItemsHere h s d n × (items_end h s d n ≡ items_end h s c at)
   unfolding ItemsHere item_end items_end
   items_turn d n q e =
       let z : d ≡ c - 1 = omega arith in
-      rw z (many_turn (no_item h) (item_at h) s c at n l g e)
+      rw z (many_turn (no_item h) (item_at h (format s)) s c at n l g e)
 
 pub items_done : (h : Shape) (s : List ℕ) (c at : ℕ) → c ≤ 0 → items_end h s c at ≡ at
 unfolding items_end
-items_done h s c at l = many_done (no_item h) (item_at h) s c at l
+items_done h s c at l = many_done (no_item h) (item_at h (format s)) s c at l
 
 -- what the code needs
-pub ruleset bares = (bare_parts, ordinal_is, name_is_bare)
+pub ruleset numbers = (number_inside, number_end)
 
-pub ruleset variants = (variant_parts, variant_listed)
+pub ruleset bares = (bare_parts, name_is_bare)
+
+pub ruleset variants = (variant_parts, variant_listed, place_closed, place_end)
 
 pub ruleset runs = (items_first, items_turn, items_done)

@@ -9,16 +9,18 @@ use borrow.Author.Tests.{ltb-true, leb-true, le-leb, lt-ltb}
 use lib.ListN.{length, get_or, drop, length-drop}
 use lib.Seq.{drop-drop, get_or-drop, get_or-take, ext_get_or, length-take-le}
 use lib.Dec.{ltb, leb, eqb}
-use Rattle.image.specs.Schema.{Label, Ty}
+use Rattle.image.specs.Schema.{Label, Ty, Decl}
 use Rattle.image.specs.Parse.{Parsed, ok, no, bind, pick, shift, within, part, little_endian, byte_at, code_at, number_at, many, counted}
 use Rattle.image.specs.Names.{name_bytes, name_at, names_at}
 use Rattle.image.specs.Types.{Follows, code, sub_byte, identity, size, nothing, bits, unknown, follows_tag, inner_types, after_tag, label_of, inner_at, type_of, type_at}
 use Rattle.image.specs.Fields.{marks_at, encoding_of, encoding_at, limit_at, field_at, bare_at, variant_at}
 use Rattle.image.specs.Kinds.{Kind, message, enum, flags, union, newtype, config, alias, trait, impl, other, kind_of}
 use Rattle.image.specs.Codes.{number, config_kind, alias_kind, trait_kind}
+use Rattle.image.specs.Formats.{stored}
+use Rattle.image.specs.Tombstones.{tombstones_at}
 use Rattle.image.specs.Widths.{wire_bits_at, wire_bytes_at, width_at}
 use Rattle.image.specs.Image.{format}
-use Rattle.image.specs.Bodies.{message_at, enum_at, flags_at, union_at, newtype_at, other_at, impl_at, decl_at, body_of}
+use Rattle.image.specs.Bodies.{message_at, enum_at, flags_at, union_at, newtype_at, other_at, impl_at, closed, decl_at, body_of}
 use Rattle.parts.specs.Promise.{body_at}
 use Rattle.image.specs.WellFormed.{Good, value_or, end_of}
 use Rattle.image.proofs.Laws.Names.{part_length}
@@ -251,13 +253,24 @@ module _ {by : ℕ} {t s : List ℕ} (h : Part by t s) where
   unfolding bare_at
   bare_kept at = kept_bind _ _ (number_kept h 4 at) (λ o n₁. kept_bind _ _ (name_kept h 8 8 n₁) (λ x n₂. kept_ok refl))
 
-  variant_kept : (at : ℕ) → Kept by (variant_at t at) (variant_at s (by + at))
+  -- what a format stores, and tombstones
+  stored_kept : {A : Type 0} (stores : Bool) (absent : A) (p : List ℕ → ℕ → Parsed A) → ((at : ℕ) → Kept by (p t at) (p s (by + at))) → (at : ℕ)
+      → Kept by (stored stores absent p t at) (stored stores absent p s (by + at))
+  unfolding stored
+  stored_kept stores absent p k at = kept_pick stores (k at) (kept_ok refl)
+
+  tombstones_kept : (f at : ℕ) → Kept by (tombstones_at f t at) (tombstones_at f s (by + at))
+  unfolding tombstones_at
+  tombstones_kept f at = stored_kept _ _ _ (counted_kept h (number_at 4) (number_kept h 4)) at
+
+  variant_kept : (f at : ℕ) → Kept by (variant_at f t at) (variant_at f s (by + at))
   unfolding variant_at
-  variant_kept at =
+  variant_kept f at =
       kept_bind _ _ (number_kept h 4 at) (λ o n₁.
       kept_bind _ _ (name_kept h 8 8 n₁) (λ x n₂.
       kept_bind _ _ (counted_kept h field_at field_kept n₂) (λ fs n₃.
-      kept_ok refl)))
+      kept_bind _ _ (tombstones_kept f n₃) (λ ts n₄.
+      kept_ok refl))))
 
   -- widths
   wire_bits_kept : (at : ℕ) → Kept by (wire_bits_at t at) (wire_bits_at s (by + at))
@@ -271,7 +284,7 @@ module _ {by : ℕ} {t s : List ℕ} (h : Part by t s) where
   width_kept : (f : ℕ) (wire : List ℕ → ℕ → Parsed ℕ) → ((at : ℕ) → Kept by (wire t at) (wire s (by + at))) → (at : ℕ)
       → Kept by (width_at f wire t at) (width_at f wire s (by + at))
   unfolding width_at
-  width_kept f wire k at = kept_pick _ (kept_bind _ _ (k at) (λ w n. kept_ok refl)) (kept_ok refl)
+  width_kept f wire k at = stored_kept _ _ _ (λ at. kept_bind _ _ (k at) (λ w n. kept_ok refl)) at
 
   -- declarations, in a format
   message_kept : (at : ℕ) → Kept by (message_at t at) (message_at s (by + at))
@@ -296,9 +309,9 @@ module _ {by : ℕ} {t s : List ℕ} (h : Part by t s) where
       kept_bind _ _ (counted_kept h bare_at bare_kept n₂) (λ vs n₃.
       kept_ok refl)))
 
-  union_kept : (at : ℕ) → Kept by (union_at t at) (union_at s (by + at))
+  union_kept : (f at : ℕ) → Kept by (union_at f t at) (union_at f s (by + at))
   unfolding union_at
-  union_kept at = kept_bind _ _ (name_kept h 8 8 at) (λ x n₁. kept_bind _ _ (counted_kept h variant_at variant_kept n₁) (λ vs n₂. kept_ok refl))
+  union_kept f at = kept_bind _ _ (name_kept h 8 8 at) (λ x n₁. kept_bind _ _ (counted_kept h (variant_at f) (variant_kept f) n₁) (λ vs n₂. kept_ok refl))
 
   newtype_kept : (at : ℕ) → Kept by (newtype_at t at) (newtype_at s (by + at))
   unfolding newtype_at
@@ -308,12 +321,17 @@ module _ {by : ℕ} {t s : List ℕ} (h : Part by t s) where
   unfolding other_at
   other_kept kind at = kept_bind _ _ (name_kept h 8 8 at) (λ x n. kept_ok refl)
 
+  closed_kept : (f : ℕ) (p : List ℕ → ℕ → Parsed Decl) → ((at : ℕ) → Kept by (p t at) (p s (by + at))) → (at : ℕ)
+      → Kept by (closed f p t at) (closed f p s (by + at))
+  unfolding closed
+  closed_kept f p k at = kept_bind _ _ (k at) (λ d n. kept_bind _ _ (tombstones_kept f n) (λ ts m. kept_ok refl))
+
   decl_kept : (f : ℕ) (kind : Kind) (at : ℕ) → Kept by (decl_at f kind t at) (decl_at f kind s (by + at))
   unfolding decl_at impl_at
-  decl_kept f message at = message_kept at
-  decl_kept f enum at = enum_kept f at
-  decl_kept f flags at = flags_kept f at
-  decl_kept f union at = union_kept at
+  decl_kept f message at = closed_kept f message_at message_kept at
+  decl_kept f enum at = closed_kept f (enum_at f) (enum_kept f) at
+  decl_kept f flags at = closed_kept f (flags_at f) (flags_kept f) at
+  decl_kept f union at = closed_kept f (union_at f) (union_kept f) at
   decl_kept f newtype at = newtype_kept at
   decl_kept f config at = other_kept (number config_kind) at
   decl_kept f alias at = other_kept (number alias_kind) at

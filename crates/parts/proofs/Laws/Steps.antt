@@ -11,7 +11,7 @@ use lib.ListN.{length, get_or, take, drop}
 use Rattle.image.specs.Parse.{Parsed, ok, no, bind, pick, part, little_endian, byte_at, code_at, number_at}
 use Rattle.image.specs.Names.{name_at}
 use Rattle.image.specs.Fields.{marks_of, marks_at}
-use Rattle.image.specs.Formats.{has_widths}
+use Rattle.image.specs.Formats.{has_widths, stored}
 use Rattle.image.specs.Widths.{wire_bits_at, wire_bytes_at, width_at}
 use Rattle.image.specs.WellFormed.{Good, value_or, end_of}
 use Rattle.image.proofs.Laws.Sure.{Sure, sure_ok, sure_no, Named, byte_sure, code_sure, number_sure, name_sure}
@@ -95,7 +95,7 @@ module _ (s : List ℕ) (at : ℕ) where
   -- in a format that stores no width nothing is read
   pub width_is : (f : ℕ) (wire : List ℕ → ℕ → Parsed ℕ) → (Good (wire s at) → Byte-read (wire s at)) → Good (width_at f wire s at)
       → (width_at f wire s at ≡ ok (cond (has_widths f) (Some (get_or s at 0)) None) (at + cond (has_widths f) 1 0)) × (has_widths f ≡ true → at < length s)
-  unfolding width_at pick
+  unfolding width_at stored pick
   width_is f wire h g = go (has_widths f) g
     where
       go : (b : Bool) → Good (pick b (bind (wire s at) (λ w n. ok (Some w) n)) (ok None at))
