@@ -26,7 +26,7 @@ use Rattle.rules.specs.Changes.{Bump, patch, minor, major, level, Change, only}
 use Rattle.rules.specs.Clauses.{compare_namespaces, Reading, Context, context, compare_types, field_text, compare_field_names, compare_encodings, compare_deprecated, compare_fields, field_rules, compare_field_sets, compare_messages, variant_gone, variant_came, enum_bump, enum_rules, compare_non_exhaustive, compare_enums, flags_rules, compare_flags, union_rules, compare_unions, compare_newtypes, compare_kind, kind_changed, compare_alike, compare_decls, decl_rules, changes}
 use Rattle.rules.proofs.Equal.{same_trans, pairs, numbers, marks, options, name_lists}
 use Rattle.rules.proofs.Types.{encodings}
-use Rattle.rules.proofs.Readings.{level_of, Lawful}
+use Rattle.rules.proofs.Readings.{level_of, Odd, Lawful}
 
 -- nothing is worse than Major
 pub bump_bound : (b : Bump) → level b ≤ 2
@@ -39,10 +39,10 @@ pub largest_two : (cs : List Change) → largest level_of cs ≤ 2
 largest_two cs = largest_bound level_of 2 cs (all (λ c. bump_bound c.bump) cs)
 
 -- a change of bump Major in one of the first two is enough
-first_major : {b : ℕ} {xs ys zs : List Change} → 2 ≤ largest level_of xs → Chained level_of b xs ys zs
+pub first_major : {b : ℕ} {xs ys zs : List Change} → 2 ≤ largest level_of xs → Chained level_of b xs ys zs
 first_major {zs = zs} h = chained (λ κ i j l. omega (arith, largest_two zs))
 
-second_major : {b : ℕ} {xs ys zs : List Change} → 2 ≤ largest level_of ys → Chained level_of b xs ys zs
+pub second_major : {b : ℕ} {xs ys zs : List Change} → 2 ≤ largest level_of ys → Chained level_of b xs ys zs
 second_major {zs = zs} h = chained (λ κ i j l. omega (arith, largest_two zs))
 
 -- ---- a test that reports a change
@@ -151,7 +151,7 @@ enums_chained b d₁ d₂ d₃ x y z =
 
 -- ---- the clauses, over any lawful reading
 
-module _ {r : Reading} {odd : Ty → Bool} (lawful : Lawful r odd) (P Q R : Registry) where
+module _ {r : Reading} {odd : Odd} (lawful : Lawful r odd) (P Q R : Registry) where
   -- to the second view, from it, and past it
   abbrev to : Context
   to = context r P Q
@@ -245,7 +245,7 @@ module _ {r : Reading} {odd : Ty → Bool} (lawful : Lawful r odd) (P Q R : Regi
 
 -- ---- all clauses
 
-pub changes_chained : {r : Reading} {odd : Ty → Bool} → Lawful r odd → (x y z : View) → Rising name_of before x.standing
+pub changes_chained : {r : Reading} {odd : Odd} → Lawful r odd → (x y z : View) → Rising name_of before x.standing
     → Rising name_of before z.standing
     → Chained level_of 0 (changes r x y) (changes r y z) (changes r x z)
 unfolding changes decl_rules largest level

@@ -1,7 +1,7 @@
 -- Where a part of each declaration is forgotten, what is read of a registry and of a view stays the same if kinds, names and the ids that
 -- are named stay. Assumes nothing.
 use mathlib.Core.Path.{◌≡◌, refl, sym, ap, ◌∙◌}
-use mathlib.Core.Bool.{Bool, ◌&&◌}
+use mathlib.Core.Bool.{◌&&◌}
 use mathlib.Core.List.{List, [], ◌∷◌, map, flat_map}
 use Rattle.std.specs.Prelude.{Option, None, Some, option_map}
 use Prim.Native.Nat.{ℕ, zero, suc}
@@ -14,8 +14,9 @@ use Rattle.maps.proofs.Mapped.{pass_same, survivors_map, lookup_map}
 use Rattle.image.specs.Schema.{Label, Ty, leaf, one, two, Decl}
 use Rattle.rules.specs.Survivors.{Registry, stands_for, resolved, listed, name_of, View}
 use Rattle.rules.specs.Types.{name_or_none, resolve_label, resolve}
-use Rattle.rules.specs.Verdict.{alias, is_alias, any, alias_pair}
+use Rattle.rules.specs.Verdict.{alias, is_alias, alias_pair}
 use Rattle.rules.specs.Reached.{named_of, named_from, resolvable, IdSet, mark, mark_all, named_by, follow, up_from, round, rounds}
+use Rattle.rules.proofs.Any.{any_same, any_map}
 use Rattle.rules.proofs.Reached.{named_from_lem}
 
 -- what stays of a declaration
@@ -76,14 +77,9 @@ module _ {g : Decl → Decl} (k : Keeps g) where
   is_alias_forgotten None = refl
   is_alias_forgotten (Some d) = rw (k.kind d)
 
-  any_forgotten : (p q : Decl → Bool) → ((d : Decl) → p (g d) ≡ q d) → (m : List Decl) → any p (map g m) ≡ any q m
-  unfolding any
-  any_forgotten p q h [] = refl
-  any_forgotten p q h (d ∷ m) = rw (h d, any_forgotten p q h m)
-
   pub alias_forgotten : (v w : View) → alias_pair (view_left g v) (view_left g w) ≡ alias_pair v w
   unfolding alias_pair alias
-  alias_forgotten v w = any_forgotten _ _ same v.standing
+  alias_forgotten v w = any_map _ g v.standing ∙ any_same _ _ same v.standing
     where
       same : (d : Decl) → alias (g d) && is_alias (lookup name_of before (g d).name (map g w.standing))
           ≡ alias d && is_alias (lookup name_of before d.name w.standing)

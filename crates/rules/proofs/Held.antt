@@ -10,19 +10,21 @@ use lib.Dec.{leb}
 use lib.ListN.{length, get_or, drop}
 use Rattle.maps.specs.Lists.{total, All}
 use Rattle.image.specs.Schema.{Name, Encoding, Label, Ty, Decl, Schema}
-use Rattle.image.specs.Parse.{Parsed, ok, shift, within, part, many, counted}
+use Rattle.image.specs.Parse.{Parsed, ok, shift, within, part, number_at, many, counted}
 use Rattle.image.specs.Names.{name_at, names_at}
 use Rattle.image.specs.Types.{Follows, code, sub_byte, identity, size, nothing, bits, unknown, follows_tag, inner_types, after_tag, label_of, inner_at, type_of, type_at}
 use Rattle.image.specs.Fields.{plain, delta, marks_at, encoding_of, encoding_at, limit_at, field_at, bare_at, variant_at}
 use Rattle.image.specs.Kinds.{kind_of}
 use Rattle.image.specs.Widths.{wire_bits_at, wire_bytes_at, width_at}
-use Rattle.image.specs.Bodies.{message_at, enum_at, flags_at, union_at, newtype_at, other_at, impl_at, decl_at, body_of}
+use Rattle.image.specs.Formats.{stored}
+use Rattle.image.specs.Tombstones.{tombstones_at}
+use Rattle.image.specs.Bodies.{message_at, enum_at, flags_at, union_at, newtype_at, other_at, impl_at, closed, decl_at, body_of}
 use Rattle.image.specs.Image.{entry_count, id_count, segment_count, segments_at, ids_at, tables_of, entry_offset, entry_length, entry_of, entries_of, read_image}
 use Rattle.image.proofs.Laws.Sure.{Sure, sure_ok, sure_no, sure_bind, sure_pick, sure_need, sure_then, byte_sure, code_sure, number_sure, name_sure, names_sure, Head, head_sure}
 use Rattle.image.proofs.Laws.Repeats.{ids_length}
 use Rattle.image.proofs.Laws.Names.{part_length}
 use Rattle.maps.proofs.Tests.{both}
-use Rattle.rules.proofs.Sizes.{names_size, type_size, field_size, variant_size, decl_size}
+use Rattle.rules.proofs.Sizes.{names_size, numbers_size, type_size, field_size, variant_size, decl_size}
 
 -- a value of this size stands between the position and the one after it
 abbrev Takes : {A : Type 0} → (A → ℕ) → ℕ → A → ℕ → Type 0
@@ -138,19 +140,31 @@ field_takes s at =
     yields _ n₆ (omega (arith, q₁.next))))))))
 
 bare_takes : (s : List ℕ) (at : ℕ) → Sure (Takes variant_size at) (bare_at s at)
-unfolding bare_at variant_size total
+unfolding bare_at variant_size numbers_size total
 bare_takes s at =
     sure_bind _ (number_sure 4 s at) (λ o n₁ q₁.
     sure_bind _ (name_takes 8 s n₁) (λ x n₂ q₂.
     yields _ n₂ (omega (arith, q₁.next))))
 
-variant_takes : (s : List ℕ) (at : ℕ) → Sure (Takes variant_size at) (variant_at s at)
+-- ---- tombstones, in any format
+
+tombstones_take : (f : ℕ) (s : List ℕ) (at : ℕ) → Sure (Takes numbers_size at) (tombstones_at f s at)
+unfolding tombstones_at stored numbers_size total
+tombstones_take f s at =
+    sure_pick _
+    (λ e. sure_then (counted_take (number_at 4) (λ n. 1) s (λ i. sure_then (number_sure 4 s i) (λ n m q. omega (arith, q.next))) at) (λ ts n q. omega (arith, q)))
+    (λ e. yields [] at (omega arith))
+
+-- ---- variants and bits
+
+variant_takes : (f : ℕ) (s : List ℕ) (at : ℕ) → Sure (Takes variant_size at) (variant_at f s at)
 unfolding variant_at variant_size
-variant_takes s at =
+variant_takes f s at =
     sure_bind _ (number_sure 4 s at) (λ o n₁ q₁.
     sure_bind _ (name_takes 8 s n₁) (λ x n₂ q₂.
     sure_bind _ (counted_take field_at field_size s (field_takes s) n₂) (λ fs n₃ q₃.
-    yields _ n₃ (omega (arith, q₁.next)))))
+    sure_bind _ (tombstones_take f s n₃) (λ ts n₄ q₄.
+    yields _ n₄ (omega (arith, q₁.next))))))
 
 -- ---- widths, in any format
 
@@ -164,33 +178,43 @@ bytes_take s at = sure_bind _ (byte_sure 8 s at) (λ b n q. sure_need _ _ (λ h.
 
 width_takes : (f : ℕ) (wire : List ℕ → ℕ → Parsed ℕ) (s : List ℕ) → ((at : ℕ) → Sure (λ w n. at ≤ n) (wire s at)) → (at : ℕ)
     → Sure (λ w n. at ≤ n) (width_at f wire s at)
-unfolding width_at
+unfolding width_at stored
 width_takes f wire s h at = sure_pick _ (λ e. sure_bind _ (h at) (λ w n q. yields (Some w) n q)) (λ e. yields None at (omega arith))
 
 -- ---- bodies: with the kind, at least a byte each
 
+-- before its tombstones, and with them
+module _ (f : ℕ) (p : List ℕ → ℕ → Parsed Decl) (s : List ℕ) (at : ℕ) where
+  closed_takes : Sure (λ d n. at + decl_size d ≤ n + 1) (p s at) → Sure (λ d n. at + decl_size d ≤ n + 1) (closed f p s at)
+  unfolding closed decl_size
+  closed_takes h = sure_bind _ h (λ d n q. sure_bind _ (tombstones_take f s n) (λ ts m r. yields _ m (omega arith)))
+
 decl_takes : (f kind : ℕ) (s : List ℕ) (at : ℕ) → Sure (λ d n. at + decl_size d ≤ n + 1) (decl_at f (kind_of kind) s at)
-unfolding kind_of decl_at message_at enum_at flags_at union_at newtype_at other_at impl_at decl_size type_size names_size total
+unfolding kind_of decl_at message_at enum_at flags_at union_at newtype_at other_at impl_at decl_size type_size names_size numbers_size total
 decl_takes f zero s at =
-    sure_bind _ (name_takes 8 s at) (λ x n₁ q₁.
+    closed_takes f message_at s at
+    (sure_bind _ (name_takes 8 s at) (λ x n₁ q₁.
     sure_bind _ (marks_take s n₁) (λ m n₂ q₂.
     sure_bind _ (counted_take field_at field_size s (field_takes s) n₂) (λ fs n₃ q₃.
-    yields _ n₃ (omega arith))))
+    yields _ n₃ (omega arith)))))
 decl_takes f (suc zero) s at =
-    sure_bind _ (name_takes 8 s at) (λ x n₁ q₁.
+    closed_takes f (enum_at f) s at
+    (sure_bind _ (name_takes 8 s at) (λ x n₁ q₁.
     sure_bind _ (marks_take s n₁) (λ m n₂ q₂.
     sure_bind _ (width_takes f wire_bits_at s (bits_take s) n₂) (λ w n₃ q₃.
     sure_bind _ (counted_take bare_at variant_size s (bare_takes s) n₃) (λ vs n₄ q₄.
-    yields _ n₄ (omega arith)))))
+    yields _ n₄ (omega arith))))))
 decl_takes f (suc (suc zero)) s at =
-    sure_bind _ (name_takes 8 s at) (λ x n₁ q₁.
+    closed_takes f (flags_at f) s at
+    (sure_bind _ (name_takes 8 s at) (λ x n₁ q₁.
     sure_bind _ (width_takes f wire_bytes_at s (bytes_take s) n₁) (λ w n₂ q₂.
     sure_bind _ (counted_take bare_at variant_size s (bare_takes s) n₂) (λ vs n₃ q₃.
-    yields _ n₃ (omega arith))))
+    yields _ n₃ (omega arith)))))
 decl_takes f (suc (suc (suc zero))) s at =
-    sure_bind _ (name_takes 8 s at) (λ x n₁ q₁.
-    sure_bind _ (counted_take variant_at variant_size s (variant_takes s) n₁) (λ vs n₂ q₂.
-    yields _ n₂ (omega arith)))
+    closed_takes f (union_at f) s at
+    (sure_bind _ (name_takes 8 s at) (λ x n₁ q₁.
+    sure_bind _ (counted_take (variant_at f) variant_size s (variant_takes f s) n₁) (λ vs n₂ q₂.
+    yields _ n₂ (omega arith))))
 decl_takes f (suc (suc (suc (suc zero)))) s at =
     sure_bind _ (name_takes 8 s at) (λ x n₁ q₁. sure_bind _ (type_at_takes s n₁) (λ t n₂ q₂. yields _ n₂ (omega arith)))
 decl_takes f (suc (suc (suc (suc (suc zero))))) s at = sure_bind _ (name_takes 8 s at) (λ x n q. yields _ n (omega arith))

@@ -1,16 +1,18 @@
--- Equal, Types: the tests are sound. Chain, Self, Swap: the three claims of the distance rule, of the clauses over any views and any sound
--- reading of types. Answer: the four cases of two images. Distance: the distance rule. Refusals: when each number is given.
--- MendedRefusals: when each is by the mended verdict.
+-- Equal, Types: the tests are sound. Any: the test whether one of a list passes. Mirror, Readings: what the three claims ask for. Chain, Self,
+-- Swap: the three claims of the distance rule, of the clauses over any views and any lawful reading. Answer: the four cases of two images.
+-- Distance: the distance rule. Refusals: when each number is given. MendedRefusals: when each is by the mended verdict.
 -- Calls: what both calls say together.
 -- Unreported: the kinds that no clause reports, whose counts are always 0. Sizes, Texts, Scales, Weights, Held, Bound: how long a report can be.
+-- Tombstones, TombstoneLines: R-10, what is reported of numbers that are struck off, and how long its lines are.
 -- ReachedSets, Reached: what is computed is what is reached through named nodes. Standing: what stands with a set of ids. Imports: the
--- verdict with imports. Agreed: readings that agree on the types that are compared. Widths: a reading that reports widths. Mended: the three
--- answers of the type comparison, and the mended verdict.
--- Forgotten: what is read where a part of each declaration is forgotten. Ignored: the earlier verdicts ignore widths.
--- Computed: what is unfolded to compute. Edges, ImportEdges, MendedEdges, Pinned, PinnedImports, PinnedMended, PinnedIgnored: what is
--- computed from the definitions alone.
+-- verdict with imports. Agreed: readings that agree on the types that are compared. Widths: R-6, what is reported of widths. Otherwise: a
+-- reading that reports nothing besides the clauses. Mended: the three answers of the type comparison, and the mended verdict.
+-- Forgotten: what is read where a part of each declaration is forgotten. Ignored: the earlier verdicts ignore widths and tombstones.
+-- Computed: what is unfolded to compute. Edges, ImportEdges, MendedEdges, TombstoneEdges, Pinned, PinnedImports, PinnedMended,
+-- PinnedIgnored: what is computed from the definitions alone.
 pub mod Equal
 pub mod Types
+pub mod Any
 pub mod Mirror
 pub mod Readings
 pub mod Chain
@@ -26,6 +28,7 @@ pub mod Refusals
 pub mod MendedRefusals
 pub mod Calls
 pub mod Unreported
+pub mod Tombstones
 pub mod Sizes
 pub mod Texts
 pub mod Scales
@@ -35,6 +38,8 @@ pub mod Bound
 pub mod Imports
 pub mod Agreed
 pub mod Widths
+pub mod TombstoneLines
+pub mod Otherwise
 pub mod Mended
 pub mod Forgotten
 pub mod Ignored
@@ -42,6 +47,7 @@ pub mod Computed
 pub mod Edges
 pub mod ImportEdges
 pub mod MendedEdges
+pub mod TombstoneEdges
 pub mod Pinned
 pub mod PinnedImports
 pub mod PinnedMended

@@ -1,16 +1,18 @@
--- R-5: the three answers of the type comparison, and the mended verdict, which R-6 adds to: where it is that of document 01, and its bound and
--- distance rule, by the laws over any reading. Assumes nothing.
+-- R-5: the three answers of the type comparison, and the mended verdict, which R-6 and R-10 add to: where it is that of document 01, and its
+-- bound and distance rule, by the laws over any reading. Assumes nothing.
 use mathlib.Core.Path.{◌≡◌, refl, sym, ap, ◌∙◌, subst}
 use mathlib.Core.Bool.{Bool, true, false, not, ◌&&◌, ◌||◌, and-false, false≢true}
 use mathlib.Core.Logic.{⊎_elim, ◌↔◌}
-use mathlib.Core.List.Memᴰ
 use mathlib.Core.List.{List, [], ◌∷◌}
 use Rattle.std.specs.Prelude.{Option, None, Some}
 use Rattle.std.proofs.lemmas.Option.{none-some}
 use Prim.Native.Nat.{◌+◌}
 use native.Mathlib.Omega.{arith}
+use borrow.Author.Tests.{ltb-true}
+use lib.Dec.{ltb}
 use Rattle.maps.specs.Lists.{All}
-use Rattle.image.specs.Schema.{Ty, Schema}
+use Rattle.image.specs.Schema.{Ty, Decl, Schema}
+use Rattle.image.specs.Kinds.{Kind, kind_of, message, enum, flags, union, newtype, config, alias, trait, impl, other}
 use Rattle.image.specs.Codes.{number, mixed_refusal, both_sides}
 use Rattle.image.specs.Parse.{Parsed, ok, no}
 use Rattle.image.specs.Image.{read_image}
@@ -18,25 +20,35 @@ use Rattle.std.proofs.lemmas.Bool.{false_from_ne_true}
 use Rattle.maps.proofs.Tests.{no_both}
 use Rattle.maps.proofs.Reorderings.{In}
 use Rattle.rules.specs.Equal.{Sound, never}
-use Rattle.rules.specs.Survivors.{View, view_of}
+use Rattle.rules.specs.Survivors.{declarations, View, view_of}
 use Rattle.rules.specs.Types.{resolve, same_label, same_type, holds_vector}
-use Rattle.rules.specs.Changes.{kind_at, ordinal_kinds, WidthChanged}
+use Rattle.rules.specs.Changes.{Change, kind_count, ordinal_kinds}
 use Rattle.rules.specs.Clauses.{clauses_by, changes, compared_types}
-use Rattle.rules.specs.Verdict.{any}
-use Rattle.rules.specs.Outcome.{selected, select}
+use Rattle.rules.specs.Verdict.{count_of, any}
+use Rattle.rules.specs.Tombstones.{among, used_by_fields, used, compare_last, compare_last_in, uses, variant_uses, decl_uses, schema_uses, struck_used, uses_struck}
+use Rattle.rules.specs.Outcome.{Outcome, selected, select}
 use Rattle.rules.specs.Answer.{Fault, fault, plain_reading, plain, compared, first_fault, judged, on_side, alias_check, compare_pair, accept_new, accept_old, outcome, verdict_by}
 use Rattle.rules.specs.Distance.{vector_compared, holds_vectors, DistanceRule}
 use Rattle.rules.specs.Widths.{mixed}
-use Rattle.rules.specs.Mended.{equal, alike, different, equal_trees, likeness_by, likeness, read_as, ThreeAnswers, mended_type, mended_reading, mended, Otherwise}
+use Rattle.rules.specs.Mended.{equal, alike, different, equal_trees, likeness_by, likeness, read_as, ThreeAnswers, mended_type, mended_reading, mended, mended_kinds, Otherwise}
 use Rattle.rules.proofs.Types.{labels, tree_equal, tree_self, types, holds_resolved}
 use Rattle.rules.proofs.Agreed.{changes_agree}
 use Rattle.rules.proofs.Answer.{count_selected}
 use Rattle.rules.proofs.Standing.{view_rises}
 use Rattle.rules.proofs.MendedRefusals.{mixed_fault, unmixed_checks, mended_numbers, mended_numbered}
 use Rattle.rules.proofs.Bound.{Bounded, survivors_sized}
-use Rattle.rules.proofs.Distance.{even_distance_rule}
-use Rattle.rules.proofs.Unreported.{Ordinary}
-use Rattle.rules.proofs.Widths.{widths_lawful, widths_ordinary, widths_light, without_widths}
+use Rattle.rules.proofs.Any.{any_same, any_never, none_in}
+use Rattle.rules.proofs.Distance.{read_distance_rule}
+use Rattle.rules.proofs.Readings.{Odd, Lawful}
+use Rattle.rules.proofs.Self.{odd_variants, odd_decl, odd_view}
+use Rattle.rules.proofs.Sizes.{variant_size, decl_size}
+use Rattle.rules.proofs.Scales.{heavy, type_one}
+use Rattle.rules.proofs.Weights.{Light}
+use Rattle.rules.proofs.Unreported.{Adds, Ordinary, adds_ordinary}
+use Rattle.rules.proofs.Widths.{widths_besides, widths_of, widths_weight}
+use Rattle.rules.proofs.Tombstones.{struck_of, last_besides, last_in_besides}
+use Rattle.rules.proofs.TombstoneLines.{last_weight, last_in_weight}
+use Rattle.rules.proofs.Otherwise.{both_all, uncounted, without_besides}
 
 -- ---- the answers
 
@@ -118,22 +130,12 @@ both_false : (b : Bool) → (b && b) ≡ false → b ≡ false
 both_false true q = q
 both_false false q = q
 
-either_false : (a : Bool) {b : Bool} → (a || b) ≡ false → (a ≡ false) × (b ≡ false)
-either_false true q = absurd (false≢true (sym q))
-either_false false q = (refl, q)
-
 without : (t u : Ty) → (holds_vector t && holds_vector u) ≡ false → mended_type t u ≡ same_type t u
 without t u e = mended_trees t u ∙ (go (equal_trees t u) refl ∙ sym (split t u))
   where
     go : (a : Bool) → equal_trees t u ≡ a → equal_trees t u ≡ (equal_trees t u && not (holds_vector t))
     go true p = rw (p, both_false (holds_vector t) (subst (λ v. (holds_vector t && holds_vector v) ≡ false) (sym (trees_same t u p)) e))
     go false p = rw p
-
-none_in : {A : Type 0} (p : A → Bool) {a : A} {l : List A} → any p l ≡ false → In a l → p a ≡ false
-unfolding any
-none_in {A = A} p {a = a} {l = []} e x5 = elim x5 [ ]
-none_in p {l = b ∷ l} e (Memᴰ.head q) = rw q (either_false (p b) e).0
-none_in p {l = b ∷ l} e (Memᴰ.tail m) = none_in p (either_false (p b) e).1 m
 
 views_agree : (x y : View) → (any holds_vector (compared_types x) && any holds_vector (compared_types y)) ≡ false
     → changes (clauses_by mended_type) x y ≡ changes plain_reading x y
@@ -147,15 +149,34 @@ views_agree x y e =
     go true p {t} i j = rw (none_in holds_vector (rw p at e) j) (and-false (holds_vector t))
     go false p i j = rw (none_in holds_vector p i)
 
--- and where no width has changed, all that is reported is the same
+-- ---- what is reported besides: widths, then the clauses, then tombstones
+
+mended_adds : Adds mended_kinds mended_reading
+unfolding among any compare_last compare_last_in
+mended_adds = record {
+  first = widths_of mended_kinds refl;
+  last = λ x y. struck_of mended_kinds refl refl x.name x.tombstones (used y) y.tombstones;
+  last_in = λ d v w. struck_of mended_kinds refl refl d v.tombstones (used_by_fields w.fields) w.tombstones;
+}
+
+-- where none of these kinds is counted, all that is reported is the same
 changes_otherwise : (x y : View) → (any holds_vector (compared_types x) && any holds_vector (compared_types y)) ≡ false
-    → select (compared (changes mended_reading x y)) (5 + kind_at WidthChanged) ≡ 0 → changes mended_reading x y ≡ changes plain_reading x y
-changes_otherwise x y e w =
-    without_widths mended_type x y (sym (count_selected (kind_at WidthChanged) (omega arith) (changes mended_reading x y)) ∙ w) ∙ views_agree x y e
+    → All (λ j. count_of j (changes mended_reading x y) ≡ 0) mended_kinds → changes mended_reading x y ≡ changes plain_reading x y
+changes_otherwise x y e z =
+    without_besides mended_kinds mended_reading mended_adds x y (uncounted mended_kinds _ z) ∙ views_agree x y e
+
+-- as the verdict call tells them
+abbrev Uncounted : Outcome → Type 0
+Uncounted o = All (λ j. select o (5 + j) ≡ 0) mended_kinds
+
+counted_none : (cs : List Change) → Uncounted (compared cs) → All (λ j. count_of j cs ≡ 0) mended_kinds
+unfolding All
+counted_none cs z =
+    both_all {P = λ j. ltb j kind_count ≡ true} {Q = λ j. select (compared cs) (5 + j) ≡ 0}
+    (λ j l q. sym (count_selected j (ltb-true j kind_count l) cs) ∙ q) mended_kinds (refl, (refl, (refl, tt))) z
 
 -- of two images of which 16 is not given
-pair_otherwise : (x y : Schema) → (select (compare_pair mended x y) 0 ≡ number mixed_refusal → ⊥)
-    → select (compare_pair mended x y) (5 + kind_at WidthChanged) ≡ 0
+pair_otherwise : (x y : Schema) → (select (compare_pair mended x y) 0 ≡ number mixed_refusal → ⊥) → Uncounted (compare_pair mended x y)
     → (any holds_vector (compared_types (view_of x)) && any holds_vector (compared_types (view_of y))) ≡ false → compare_pair mended x y ≡ compare_pair plain x y
 unfolding compare_pair judged select selected
 pair_otherwise x y n w e =
@@ -167,15 +188,14 @@ pair_otherwise x y n w e =
 
     go : (o : Option Fault) → first_fault mended.pair x y ≡ o
         → judged o (compared (changes mended_reading (view_of x) (view_of y))) ≡ judged o (compared (changes plain_reading (view_of x) (view_of y)))
-    go None q = ap compared (changes_otherwise (view_of x) (view_of y) e (rw q at w))
+    go None q = ap compared (changes_otherwise (view_of x) (view_of y) e (counted_none _ (rw q at w)))
     go (Some f) q = refl
 
 pub otherwise : Otherwise
 unfolding holds_vectors vector_compared verdict_by outcome accept_old accept_new on_side judged
 otherwise old new = go (read_image old) (read_image new)
   where
-    go : (r q : Parsed Schema) → (select (accept_old mended r q) 0 ≡ number mixed_refusal → ⊥)
-        → select (accept_old mended r q) (5 + kind_at WidthChanged) ≡ 0
+    go : (r q : Parsed Schema) → (select (accept_old mended r q) 0 ≡ number mixed_refusal → ⊥) → Uncounted (accept_old mended r q)
         → (vector_compared view_of r && vector_compared view_of q) ≡ false → accept_old mended r q ≡ accept_old plain r q
     go (ok x m) (ok y n) f w e = pair_otherwise x y f w e
     go (ok x m) (no k) f w e = refl
@@ -183,10 +203,17 @@ otherwise old new = go (read_image old) (read_image new)
 
 -- ---- the mended verdict
 
+mended_light : Light mended_reading
+unfolding heavy decl_size variant_size
+mended_light = record {
+  decls = λ x y h. omega (arith, widths_weight x y, last_weight x y (omega (arith, h)), type_one x.inner);
+  variants = λ d h v w. omega (arith, last_in_weight d h v w);
+}
+
 pub mended_bounded : Bounded mended
 mended_bounded = record {
   view = survivors_sized;
-  light = widths_light mended_type;
+  light = mended_light;
   alone = λ x k e. absurd (none-some k e);
   pair = λ x y f e.
       let q = mended_numbers x y f e in
@@ -195,9 +222,41 @@ mended_bounded = record {
 
 -- the three counts that are always 0
 pub mended_ordinary : All (λ j. Ordinary j mended_reading) ordinal_kinds
-unfolding All
-mended_ordinary = (widths_ordinary mended_type _ refl, (widths_ordinary mended_type _ refl, (widths_ordinary mended_type _ refl, tt)))
+unfolding All among any
+mended_ordinary = (adds_ordinary mended_adds _ refl, (adds_ordinary mended_adds _ refl, (adds_ordinary mended_adds _ refl, tt)))
 
--- "there every image that gets a verdict against itself is at distance 0 from itself. The chain rule covers the mended verdict as well."
-pub mended_distance_rule : DistanceRule (verdict_by mended) never
-mended_distance_rule = even_distance_rule mended mended_numbered view_rises (widths_lawful mended_types)
+-- no type is odd, and a body is if it uses what it strikes off
+abbrev mended_odd : Odd
+mended_odd = record {
+  types = never;
+  first = never;
+  last = λ d. uses d.tombstones (used d);
+  last_in = λ v. uses v.tombstones (used_by_fields v.fields);
+}
+
+mended_lawful : Lawful mended_reading mended_odd
+mended_lawful = record { types = mended_types; first = widths_besides; last = last_besides; last_in = last_in_besides }
+
+odd_used : (s : Schema) → odd_view mended_odd (view_of s) ≡ schema_uses s
+unfolding odd_view odd_decl odd_variants decl_uses variant_uses schema_uses view_of
+odd_used s =
+    ap (λ b. b || any (odd_decl mended_odd) (declarations s)) (any_never (compared_types (view_of s)))
+    ∙ any_same (odd_decl mended_odd) decl_uses (λ d. ap (λ b. uses d.tombstones (used d) || b) (go (kind_of d.kind) d)) (declarations s)
+  where
+    go : (k : Kind) (d : Decl) → odd_variants mended_odd k d ≡ variant_uses k d
+    go message d = refl
+    go enum d = refl
+    go flags d = refl
+    go union d = refl
+    go newtype d = refl
+    go config d = refl
+    go alias d = refl
+    go trait d = refl
+    go impl d = refl
+    go other d = refl
+
+-- R-5: "there every image that gets a verdict against itself is at distance 0 from itself. The chain rule covers the mended verdict as well.";
+-- R-10: "one that strikes off a number and uses it .. is now at distance 2 from itself; every other one stays at 0"
+pub mended_distance_rule : DistanceRule (verdict_by mended) uses_struck
+unfolding uses_struck struck_used
+mended_distance_rule = read_distance_rule mended mended_numbered view_rises mended_lawful struck_used (λ s n. odd_used s)

@@ -1,6 +1,6 @@
 -- When two images get a mended verdict and when each refusal, exactly as specs/MendedRefusals says. Assumes nothing.
 use mathlib.Core.Path.{◌≡◌, refl, sym, ap, ◌∙◌}
-use mathlib.Core.Bool.{Bool, true, false, or-true}
+use mathlib.Core.Bool.{Bool, true, false, not, ◌||◌, beq, or-true}
 use Rattle.std.specs.Prelude.{None, Some}
 use Rattle.std.proofs.lemmas.Option.{none-some}
 use mathlib.Core.List.{List, [], ◌∷◌}
@@ -9,7 +9,7 @@ use Prim.Native.Nat.{ℕ, ◌≤◌, ◌<◌}
 use native.Mathlib.Omega.{arith}
 use borrow.Author.Tests.{eqb-true}
 use lib.Dec.{eqb}
-use Rattle.std.proofs.lemmas.Bool.{false_from_ne_true}
+use Rattle.std.proofs.lemmas.Bool.{false_from_ne_true, ne_eqb}
 use Rattle.maps.proofs.Tests.{no_both}
 use Rattle.image.specs.Schema.{Schema}
 use Rattle.image.specs.Codes.{number, both_sides}
@@ -82,16 +82,26 @@ mended_numbered = record {
 module _ (x y : Schema) where
   mixed_found : mixed x y ≡ true → Mixed x y
   unfolding mixed
-  mixed_found e = go (eqb x.format 1) refl
+  mixed_found e = go (eqb x.format 1) (eqb y.format 1) (eqb x.format 3) (eqb y.format 3) refl refl refl refl e
     where
-      go : (u : Bool) → eqb x.format 1 ≡ u → Mixed x y
-      go true p = Mixed.old (eqb-true x.format 1 p)
-      go false p = Mixed.new (eqb-true y.format 1 (rw p at e))
+      not_three : (s : Schema) → eqb s.format 3 ≡ false → ¬ (s.format ≡ 3)
+      not_three s p q = no_both (rw q) p
+
+      go : (a b c d : Bool) → eqb x.format 1 ≡ a → eqb y.format 1 ≡ b → eqb x.format 3 ≡ c → eqb y.format 3 ≡ d → (a || (b || not (beq c d))) ≡ true
+          → Mixed x y
+      go true b c d p q r s f = Mixed.old (eqb-true x.format 1 p)
+      go false true c d p q r s f = Mixed.new (eqb-true y.format 1 q)
+      go false false true false p q r s f = Mixed.old_three (eqb-true x.format 3 r) (not_three y s)
+      go false false false true p q r s f = Mixed.new_three (eqb-true y.format 3 s) (not_three x r)
+      go false false true true p q r s f = no_both f refl
+      go false false false false p q r s f = no_both f refl
 
   mixed_given : Mixed x y → mixed x y ≡ true
   unfolding mixed
   mixed_given (Mixed.old p) = rw p
   mixed_given (Mixed.new p) = rw p (or-true (eqb x.format 1))
+  mixed_given (Mixed.old_three p n) = rw (p, ne_eqb y.format 3 n) (or-true (eqb y.format 1))
+  mixed_given (Mixed.new_three p n) = rw (p, ne_eqb x.format 3 n) (or-true (eqb x.format 1))
 
   pub mixed_exactly : Faulty mended 16 x y ↔ Mixed x y
   mixed_exactly = (λ q. go q.0 (mended_fault x y q.0 q.1) q.2, λ m. (fault 16 (number both_sides), mixed_fault x y (mixed_given m), refl))

@@ -1,10 +1,12 @@
--- The kind under which the same is counted the other way: added for removed and removed for added. Assumes nothing.
+-- The kind under which the same is counted the other way: added for removed and removed for added; and the kinds that need not be counted
+-- both ways. Assumes nothing.
 use mathlib.Core.Path.{◌≡◌, refl, sym, ap, ◌∙◌}
-use mathlib.Core.Bool.{Bool, true, false, cond}
+use mathlib.Core.Bool.{Bool, true, false, cond, ◌||◌}
 use Prim.Native.Nat.{ℕ}
 use lib.Dec.{eqb}
 use borrow.Author.Tests.{eqb-true, eqb-false}
-use Rattle.rules.specs.Changes.{kind_at, FieldAdded, FieldRemoved, VariantAdded, VariantRemoved, DeclarationAdded, DeclarationRemoved, FlagsBitAdded, FlagsBitRemoved}
+use Rattle.rules.specs.Changes.{kind_at, FieldAdded, FieldRemoved, FieldDeprecated, VariantAdded, VariantRemoved, DeclarationAdded, DeclarationRemoved, FlagsBitAdded, FlagsBitRemoved, TombstoneReused, TombstoneDropped}
+use Rattle.maps.proofs.Tests.{no_both}
 use Rattle.rules.proofs.Equal.{numbers}
 
 unfoldable pub exchange : ℕ → ℕ → ℕ → ℕ
@@ -57,3 +59,15 @@ mirror_test i j =
     let h : ℕ → ℕ = λ k. exchange (kind_at VariantAdded) (kind_at VariantRemoved) (g k) in
     exchange_test (kind_at FlagsBitAdded) (kind_at FlagsBitRemoved) i j ∙ (exchange_test (kind_at DeclarationAdded) (kind_at DeclarationRemoved) (f i) (f j)
     ∙ (exchange_test (kind_at VariantAdded) (kind_at VariantRemoved) (g i) (g j) ∙ exchange_test (kind_at FieldAdded) (kind_at FieldRemoved) (h i) (h j)))
+
+-- deprecations; and R-10: of its two kinds, that they "need not be equal both ways"
+unfoldable pub one_way : ℕ → Bool
+one_way k = eqb (kind_at FieldDeprecated) k || (eqb (kind_at TombstoneReused) k || eqb (kind_at TombstoneDropped) k)
+
+-- one of them is not a kind that is counted both ways
+pub apart : (j k : ℕ) → one_way j ≡ false → one_way k ≡ true → eqb k j ≡ false
+apart j k e w = go (eqb k j) refl
+  where
+    go : (u : Bool) → eqb k j ≡ u → u ≡ false
+    go true p = no_both (rw (eqb-true k j p) at w) e
+    go false p = refl

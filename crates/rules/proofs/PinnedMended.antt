@@ -1,4 +1,4 @@
--- What is pinned of R-5 and R-6 over byte lists holds, by computation from the definitions alone. Assumes nothing.
+-- What is pinned of R-5, R-6 and R-10 over byte lists holds, by computation from the definitions alone. Assumes nothing.
 use mathlib.Core.Path.{refl}
 use Rattle.rules.specs.Distance.{Verdict, distance, count_between, Steps}
 use Rattle.rules.specs.PinnedImports.{imports_told}
@@ -47,6 +47,38 @@ pinned_mended = record {
   widening = (refl, (refl, tt));
   widened_last = refl;
   widths = refl;
+  lamp_plain = refl;
+  lamp_imports = refl;
+  lamp_reused = refl;
+  lamp_selectors = refl;
+  lamp_dropped = refl;
+  lamp_added = refl;
+  lamp_steps = (refl, (refl, tt));
+  lamp_ends = refl;
+  lamp_first = refl;
+  lamp_second = refl;
+  lamp_whole = refl;
+  lamp_first_plain = refl;
+  panel_steps = (refl, (refl, tt));
+  panel_ends = refl;
+  panel_first = refl;
+  panel_second = refl;
+  panel_whole = refl;
+  panel_whole_plain = refl;
+  reused = refl;
+  reused_back = refl;
+  dropped = refl;
+  dropped_back = refl;
+  reused_plain = refl;
+  dropped_imports = refl;
+  uses_told = refl;
+  uses_distance = refl;
+  uses_distance_plain = refl;
+  uses_distance_imports = refl;
+  uses_none_distance = refl;
+  panel_widened = refl;
+  panel_count = refl;
+  panel_all = refl;
   both_mixed = refl;
   old_mixed = refl;
   new_mixed = refl;
@@ -55,13 +87,29 @@ pinned_mended = record {
   mixed_refused = refl;
   mixed_aliases = refl;
   aliases = refl;
+  three_two = refl;
+  two_three = refl;
+  three_one = refl;
+  one_three = refl;
+  three_two_empty = refl;
+  two_two = refl;
+  three_three = refl;
+  three_plain = refl;
+  three_imports = refl;
+  aliases_three = refl;
+  aliases_mixed = refl;
   new_refused = refl;
   three_bytes = refl;
   three_bytes_plain = refl;
   no_width = refl;
   no_width_plain = refl;
+  no_count = refl;
+  short_count = refl;
+  short_tombstone = refl;
+  byte_left = refl;
   format = refl;
   format_imports = refl;
+  format_mended = refl;
   removed = refl;
   added = refl;
 }

@@ -8,6 +8,9 @@ use Rattle.image.specs.Schema.{Name, Ty, leaf, one, two, Field, Variant, Decl}
 unfoldable pub names_size : List Name → ℕ
 names_size ns = total (λ n. 1 + length n) ns
 
+unfoldable pub numbers_size : List ℕ → ℕ
+numbers_size ns = total (λ n. 1) ns
+
 unfoldable pub type_size : Ty → ℕ
 type_size (leaf l) = 1 + names_size l.names
 type_size (one l t) = 1 + names_size l.names + type_size t
@@ -17,7 +20,7 @@ unfoldable pub field_size : Field → ℕ
 field_size f = length f.name + (f.encoding.deltas + type_size f.type)
 
 unfoldable pub variant_size : Variant → ℕ
-variant_size v = 1 + (length v.name + total field_size v.fields)
+variant_size v = 1 + (length v.name + (total field_size v.fields + numbers_size v.tombstones))
 
 unfoldable pub decl_size : Decl → ℕ
-decl_size d = length d.name + (total field_size d.fields + (total variant_size d.variants + type_size d.inner))
+decl_size d = length d.name + (total field_size d.fields + (total variant_size d.variants + (type_size d.inner + numbers_size d.tombstones)))

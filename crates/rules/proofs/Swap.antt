@@ -1,4 +1,4 @@
--- The counts of a comparison and of the opposite one: what is removed one way is added the other way, and all else but deprecations is
+-- The counts of a comparison and of the opposite one: what is removed one way is added the other way, and all else but what need not be is
 -- counted alike. Over any views whose standing declarations rise by name, and any lawful reading. Assumes nothing.
 use mathlib.Core.Path.{◌≡◌, refl, sym, ap, ◌∙◌}
 use mathlib.Core.Bool.{Bool, true, false, cond, not}
@@ -27,8 +27,8 @@ use Rattle.rules.specs.Clauses.{compare_namespaces, Reading, Context, context, c
 use Rattle.rules.specs.Verdict.{count_of}
 use Rattle.rules.proofs.Equal.{same_sym, pairs, numbers, marks, options, names, name_lists}
 use Rattle.rules.proofs.Types.{encodings}
-use Rattle.rules.proofs.Mirror.{exchange, mirror, mirror_test}
-use Rattle.rules.proofs.Readings.{Lawful}
+use Rattle.rules.proofs.Mirror.{exchange, mirror, mirror_test, one_way, apart}
+use Rattle.rules.proofs.Readings.{Odd, Lawful}
 
 module _ (j : ℕ) where
   -- xs one way counts under j what ys the other way counts under its mirror
@@ -106,9 +106,9 @@ module _ (j : ℕ) where
       (variants_swap (enum_rules d y.marks) (enum_rules e x.marks) (λ v. single_swap _ _ refl) (λ v. single_swap _ _ refl)
       (λ v w. nothing_swap) x.variants y.variants)
 
-  -- ---- deprecations are counted under neither
+  -- ---- where deprecations are counted under neither
 
-  module _ (apart : eqb (kind_at FieldDeprecated) j ≡ false) where
+  module _ (both : one_way j ≡ false) where
     none_of : (i : ℕ) (test : Bool) (c : Change) → eqb c.kind i ≡ false → count_of i (only test c) ≡ 0
     unfolding count_of count total only
     none_of i true c h = rw h
@@ -116,12 +116,14 @@ module _ (j : ℕ) where
 
     deprecated_swap : (d e : Name) (n o : Option Name) (t u : List ℕ) (l m : Marks)
         → Opposed (compare_deprecated d n t l m) (compare_deprecated e o u m l)
-    unfolding compare_deprecated mirror exchange
-    deprecated_swap d e n o t u l m = none_of j _ _ apart ∙ sym (none_of (mirror j) _ _ (sym (mirror_test (kind_at FieldDeprecated) j) ∙ apart))
+    unfolding compare_deprecated mirror exchange one_way
+    deprecated_swap d e n o t u l m =
+        let p : eqb (kind_at FieldDeprecated) j ≡ false = apart j (kind_at FieldDeprecated) both refl in
+        none_of j _ _ p ∙ sym (none_of (mirror j) _ _ (sym (mirror_test (kind_at FieldDeprecated) j) ∙ p))
 
     -- ---- the clauses, over any lawful reading
 
-    module _ {r : Reading} {odd : Ty → Bool} (lawful : Lawful r odd) (P Q : Registry) where
+    module _ {r : Reading} {odd : Odd} (lawful : Lawful r odd) (P Q : Registry) where
       -- one way and the other
       abbrev there : Context
       there = context r P Q
@@ -164,7 +166,7 @@ module _ (j : ℕ) where
         unions_swap =
             variants_swap (union_rules there x.name) (union_rules back y.name) (λ v. single_swap _ _ refl) (λ v. single_swap _ _ refl)
             (λ v w. append_swap (compare_field_sets there _ v.fields w.fields) _ (compare_field_sets back _ w.fields v.fields) _
-            (sets_swap _ _ v.fields w.fields) (lawful.last_in.swap j apart _ _ v w tt)) x.variants y.variants
+            (sets_swap _ _ v.fields w.fields) (lawful.last_in.swap j both _ _ v w tt)) x.variants y.variants
 
         kinds_swap : (k : Kind) → Opposed (compare_kind k there x y) (compare_kind k back y x)
         unfolding compare_kind compare_newtypes
@@ -182,10 +184,10 @@ module _ (j : ℕ) where
         alike_swap : x.kind ≡ y.kind → Opposed (compare_alike there x y) (compare_alike back y x)
         unfolding compare_alike
         alike_swap p =
-            append_swap (r.first x y) _ (r.first y x) _ (lawful.first.swap j apart x.name y.name x y p)
+            append_swap (r.first x y) _ (r.first y x) _ (lawful.first.swap j both x.name y.name x y p)
             (append_swap (compare_kind (kind_of x.kind) there x y) _ (compare_kind (kind_of y.kind) back y x) _
             (kinds_swap (kind_of x.kind) ∙ ap (λ k. count_of (mirror j) (compare_kind (kind_of k) back y x)) p)
-            (lawful.last.swap j apart x.name y.name x y p))
+            (lawful.last.swap j both x.name y.name x y p))
 
         decls_swap : Opposed (compare_decls there x y) (compare_decls back y x)
         unfolding compare_decls kind_changed mirror exchange
@@ -198,13 +200,13 @@ module _ (j : ℕ) where
 
 -- ---- all clauses
 
-pub changes_swap : {r : Reading} {odd : Ty → Bool} → Lawful r odd → (j : ℕ) → eqb (kind_at FieldDeprecated) j ≡ false → (x y : View)
+pub changes_swap : {r : Reading} {odd : Odd} → Lawful r odd → (j : ℕ) → one_way j ≡ false → (x y : View)
     → Rising name_of before x.standing → Rising name_of before y.standing
     → count_of j (changes r x y) ≡ count_of (mirror j) (changes r y x)
 unfolding changes decl_rules mirror exchange
-changes_swap {r = r} lawful j apart x y p q =
+changes_swap {r = r} lawful j both x y p q =
     append_swap j (compare_namespaces x.namespace y.namespace) _ (compare_namespaces y.namespace x.namespace) _
     (namespaces_swap j x.namespace y.namespace)
     (maps_swap j name_of by_name (decl_rules (context r x.registry y.registry)) (decl_rules (context r y.registry x.registry))
-    (λ d. single_swap j _ _ refl) (λ d. single_swap j _ _ refl) (λ d e k. decls_swap j apart lawful x.registry y.registry d e)
+    (λ d. single_swap j _ _ refl) (λ d. single_swap j _ _ refl) (λ d e k. decls_swap j both lawful x.registry y.registry d e)
     x.standing y.standing p q)

@@ -1,14 +1,15 @@
--- "The three `..OrdinalChanged` counts are 0.", and so is that of WidthChanged "in the earlier verdicts": the clauses report no such change,
+-- "The three `..OrdinalChanged` counts are 0.", and so are those of R-6 and R-10 "in the earlier verdicts": the clauses report no such change,
 -- whatever they compare, and so does no verdict that reports none besides. Assumes nothing.
 use mathlib.Core.Path.{◌≡◌, refl, ◌∙◌}
-use mathlib.Core.Bool.{Bool, true, false, cond, ◌||◌}
+use mathlib.Core.Bool.{Bool, true, false, cond, ◌&&◌, ◌||◌}
 use Rattle.std.specs.Prelude.{Option, None, Some}
 use mathlib.Core.List.{List, [], ◌∷◌, ◌++◌, flat_map}
 use Prim.Native.Nat.{ℕ, ◌+◌, ◌<◌}
 use native.Mathlib.Omega.{arith}
-use borrow.Author.Tests.{eqb-true}
+use borrow.Author.Tests.{eqb-true, ltb-true}
 use lib.Dec.{eqb, ltb}
-use Rattle.maps.proofs.Tests.{no_both}
+use Rattle.maps.proofs.Lists.{all_map}
+use Rattle.maps.proofs.Tests.{no_both, both}
 use Rattle.maps.specs.Lists.{total, count, All}
 use Rattle.maps.specs.Orders.{before}
 use Rattle.maps.specs.Keyed.{lookup}
@@ -16,12 +17,14 @@ use Rattle.maps.specs.Compare.{Rules, unmatched, matched, between, compare}
 use Rattle.image.specs.Schema.{Name, Marks, Ty, Field, Variant, Decl, Schema}
 use Rattle.image.specs.Kinds.{Kind, kind_of, message, enum, flags, union, newtype, config, alias, trait, impl, other}
 use Rattle.rules.specs.Survivors.{name_of, ordinal_of, field_map, variant_ordinal, variant_map, View}
-use Rattle.rules.specs.Changes.{Bump, Change, only, kind_count, kind_at, ordinal_kinds, FieldOrdinalChanged, VariantOrdinalChanged, FlagsBitOrdinalChanged, WidthChanged}
+use Rattle.rules.specs.Changes.{Bump, Change, only, kind_count, kind_at, ordinal_kinds, FieldOrdinalChanged, VariantOrdinalChanged, FlagsBitOrdinalChanged, WidthChanged, TombstoneReused, TombstoneDropped}
 use Rattle.rules.specs.Clauses.{compare_namespaces, Reading, clauses_by, Context, context, compare_types, compare_field_names, compare_encodings, compare_deprecated, compare_fields, field_rules, compare_field_sets, compare_messages, variant_gone, variant_came, enum_rules, compare_non_exhaustive, compare_enums, flags_rules, compare_flags, union_rules, compare_unions, compare_newtypes, compare_kind, kind_changed, compare_alike, compare_decls, decl_rules, changes}
 use Rattle.rules.specs.Verdict.{count_of}
 use Rattle.rules.specs.Outcome.{Outcome, select}
 use Rattle.rules.specs.Answer.{Policy, verdict_by, usual}
 use Rattle.rules.specs.Refusals.{Decided, old_refused, old_alone, new_refused, new_alone, pair_refused, verdict}
+use Rattle.rules.specs.Tombstones.{among}
+use Rattle.rules.specs.Mended.{mended_kinds}
 use Rattle.rules.specs.Distance.{count_between}
 use Rattle.rules.proofs.Outcomes.{refusal_is}
 use Rattle.rules.proofs.Answer.{decided, count_selected}
@@ -29,12 +32,18 @@ use Rattle.rules.proofs.Answer.{decided, count_selected}
 -- ---- what all reported changes have
 
 module _ {C : Type 0} (P : C → Type 0) where
-  all_append : (xs ys : List C) → All P xs → All P ys → All P (xs ++ ys)
+  pub all_append : (xs ys : List C) → All P xs → All P ys → All P (xs ++ ys)
   unfolding All
   all_append [] ys h k = k
   all_append (x ∷ xs) ys h k = (h.0, all_append xs ys h.1 k)
 
-  all_flat_map : {A : Type 0} (f : A → List C) → ((a : A) → All P (f a)) → (l : List A) → All P (flat_map f l)
+  -- and what both of two lists have
+  pub all_parts : (xs ys : List C) → All P (xs ++ ys) → All P xs × All P ys
+  unfolding All
+  all_parts [] ys h = (tt, h)
+  all_parts (x ∷ xs) ys h = let t = all_parts xs ys h.1 in ((h.0, t.0), t.1)
+
+  pub all_flat_map : {A : Type 0} (f : A → List C) → ((a : A) → All P (f a)) → (l : List A) → All P (flat_map f l)
   unfolding All flat_map
   all_flat_map f h [] = tt
   all_flat_map f h (a ∷ l) = all_append (f a) (flat_map f l) (h a) (all_flat_map f h l)
@@ -58,26 +67,42 @@ module _ {C : Type 0} (P : C → Type 0) where
         (all_append _ _ (all_flat_map _ (λ f. all_unmatched r.came came f (lookup key lt (key f) m)) n)
         (all_flat_map _ (λ e. all_matched e (lookup key lt (key e) n)) m))
 
+-- of a change that is reported if a test passes
+pub only_all : (P : Change → Type 0) (test : Bool) (c : Change) → P c → All P (only test c)
+unfolding only All
+only_all P true c h = (h, tt)
+only_all P false c h = tt
+
 -- ---- the clauses
 
--- the kinds that no clause reports: the three, and R-6's
+-- the kinds that no clause reports: the three, and those of R-6 and R-10
 unfoldable pub outside : ℕ → Bool
 outside kind =
-    eqb kind (kind_at FieldOrdinalChanged) || (eqb kind (kind_at VariantOrdinalChanged) || (eqb kind (kind_at FlagsBitOrdinalChanged) || eqb kind (kind_at WidthChanged)))
+    eqb kind (kind_at FieldOrdinalChanged) || (eqb kind (kind_at VariantOrdinalChanged) || (eqb kind (kind_at FlagsBitOrdinalChanged)
+    || (eqb kind (kind_at WidthChanged) || (eqb kind (kind_at TombstoneReused) || eqb kind (kind_at TombstoneDropped)))))
 
 -- a change of another kind than j
 abbrev pub Other : ℕ → Change → Type 0
 Other j c = eqb c.kind j ≡ false
 
 module _ (j : ℕ) where
-  pub only_other : (test : Bool) (c : Change) → Other j c → All (Other j) (only test c)
-  unfolding only All
-  only_other true c h = (h, tt)
-  only_other false c h = tt
-
   pub nothing_other : All (Other j) []
   unfolding All
   nothing_other = tt
+
+  pub none_counted : (cs : List Change) → All (Other j) cs → count_of j cs ≡ 0
+  unfolding count_of count total All
+  none_counted [] h = refl
+  none_counted (c ∷ cs) h = rw h.0 (omega (arith, none_counted cs h.1))
+
+-- of these kinds; and what a reading reports besides the clauses is of them
+abbrev pub Of : List ℕ → Change → Type 0
+Of kinds c = among c.kind kinds ≡ true
+
+pub record Adds (kinds : List ℕ) (r : Reading) : Type 0 where
+  pub first : (x y : Decl) → All (Of kinds) (r.first x y)
+  pub last : (x y : Decl) → All (Of kinds) (r.last x y)
+  pub last_in : (d : Name) (v w : Variant) → All (Of kinds) (r.last_in d v w)
 
 -- no such change is reported besides
 pub record Ordinary (j : ℕ) (r : Reading) : Type 0 where
@@ -87,6 +112,21 @@ pub record Ordinary (j : ℕ) (r : Reading) : Type 0 where
 
 pub clauses_ordinary : (same : Ty → Ty → Bool) (j : ℕ) → Ordinary j (clauses_by same)
 clauses_ordinary same j = record { first = λ x y. nothing_other j; last = λ x y. nothing_other j; last_in = λ d v w. nothing_other j }
+
+-- a kind that is not among those of what is reported besides
+pub adds_ordinary : {kinds : List ℕ} {r : Reading} → Adds kinds r → (j : ℕ) → among j kinds ≡ false → Ordinary j r
+adds_ordinary {kinds = kinds} a j e = record {
+  first = λ x y. all_map other _ (a.first x y);
+  last = λ x y. all_map other _ (a.last x y);
+  last_in = λ d v w. all_map other _ (a.last_in d v w);
+}
+  where
+    other : (c : Change) → Of kinds c → Other j c
+    other c o = go (eqb c.kind j) refl
+      where
+        go : (b : Bool) → eqb c.kind j ≡ b → b ≡ false
+        go true p = no_both (rw (eqb-true c.kind j p) at o) e
+        go false p = refl
 
 module _ (j : ℕ) (out : outside j ≡ true) where
   -- a kind that is not among them is another
@@ -98,7 +138,7 @@ module _ (j : ℕ) (out : outside j ≡ true) where
       go false p = refl
 
   test_other : (test : Bool) (c : Change) → outside c.kind ≡ false → All (Other j) (only test c)
-  test_other test c e = only_other j test c (apart c.kind e)
+  test_other test c e = only_all (Other j) test c (apart c.kind e)
 
   one_other : (c : Change) → outside c.kind ≡ false → All (Other j) (c ∷ [])
   unfolding All
@@ -176,14 +216,8 @@ module _ (j : ℕ) (out : outside j ≡ true) where
       (λ d. one_other _ refl) (λ d. one_other _ refl) (decls_other (context r x.registry y.registry) o) x.standing
       y.standing)
 
-  -- ---- the counts
+  -- ---- the counts, of any verdict
 
-  none_counted : (cs : List Change) → All (Other j) cs → count_of j cs ≡ 0
-  unfolding count_of count total All
-  none_counted [] h = refl
-  none_counted (c ∷ cs) h = rw h.0 (omega (arith, none_counted cs h.1))
-
-  -- of any verdict
   pub none_selected : j < kind_count → (p : Policy) → Ordinary j p.reading → (old new : List ℕ) → count_between (verdict_by p) j old new ≡ 0
   unfolding count_between verdict_by
   none_selected l p o old new = go (decided p old new)
@@ -195,7 +229,7 @@ module _ (j : ℕ) (out : outside j ≡ true) where
       go (new_alone a q i) = (refusal_is _ _).rest (5 + j) (omega arith)
       go (pair_refused a b i) = (refusal_is _ _).rest (5 + j) (omega arith)
       go (verdict {x = x} {y = y} a b i) =
-          count_selected j l (changes p.reading (p.view x) (p.view y)) ∙ none_counted _ (changes_other p.reading o (p.view x) (p.view y))
+          count_selected j l (changes p.reading (p.view x) (p.view y)) ∙ none_counted j _ (changes_other p.reading o (p.view x) (p.view y))
 
 -- the three, of any verdict that reports none of them besides
 pub no_ordinal_changed : (p : Policy) → All (λ j. Ordinary j p.reading) ordinal_kinds → (old new : List ℕ)
@@ -210,8 +244,12 @@ no_ordinal_changed p o old new = (
 )
 
 -- "always 0 in the earlier verdicts", which report the clauses alone, over any view and however types are read
-pub no_width_changed : (view : Schema → View) (same : Ty → Ty → Bool) (old new : List ℕ)
-    → count_between (verdict_by (usual view (clauses_by same))) (kind_at WidthChanged) old new ≡ 0
-unfolding outside
-no_width_changed view same old new =
-    none_selected (kind_at WidthChanged) refl (omega arith) (usual view (clauses_by same)) (clauses_ordinary same (kind_at WidthChanged)) old new
+pub no_mended_changed : (view : Schema → View) (same : Ty → Ty → Bool) (old new : List ℕ)
+    → All (λ kind. count_between (verdict_by (usual view (clauses_by same))) kind old new ≡ 0) mended_kinds
+unfolding All outside
+no_mended_changed view same old new = all_map none mended_kinds (refl, (refl, (refl, tt)))
+  where
+    none : (j : ℕ) → (outside j && ltb j kind_count) ≡ true → count_between (verdict_by (usual view (clauses_by same))) j old new ≡ 0
+    none j e =
+        let h = both (outside j) (ltb j kind_count) e in
+        none_selected j h.0 (ltb-true j kind_count h.1) (usual view (clauses_by same)) (clauses_ordinary same j) old new

@@ -13,11 +13,11 @@ level patch = 0
 level minor = 1
 level major = 2
 
--- the kinds of change, in the order of `ChangeKind`; after them that of R-6
+-- the kinds of change, in the order of `ChangeKind`; after them those of R-6 and R-10
 pub data ChangeKind : Type 0 where
   FieldAdded FieldRemoved FieldTypeChanged FieldOrdinalChanged FieldRenamed FieldDeprecated FieldEncodingChanged VariantAdded : ChangeKind
   VariantRemoved VariantOrdinalChanged DeclarationAdded DeclarationRemoved DeclarationKindChanged NamespaceChanged : ChangeKind
-  NonExhaustiveChanged FlagsBitAdded FlagsBitRemoved FlagsBitOrdinalChanged WidthChanged : ChangeKind
+  NonExhaustiveChanged FlagsBitAdded FlagsBitRemoved FlagsBitOrdinalChanged WidthChanged TombstoneReused TombstoneDropped : ChangeKind
 
 -- by their places in it
 abbrev pub kind_at : ChangeKind → ℕ
@@ -40,6 +40,8 @@ kind_at FlagsBitAdded = 15
 kind_at FlagsBitRemoved = 16
 kind_at FlagsBitOrdinalChanged = 17
 kind_at WidthChanged = 18
+kind_at TombstoneReused = 19
+kind_at TombstoneDropped = 20
 
 -- "The three `..OrdinalChanged`"
 abbrev pub ordinal_kinds : List ℕ
@@ -47,7 +49,7 @@ ordinal_kinds = (kind_at FieldOrdinalChanged) ∷ kind_at VariantOrdinalChanged 
 
 -- how many kinds are counted
 abbrev pub kind_count : ℕ
-kind_count = 19
+kind_count = 21
 
 -- each member as `check` fills it
 pub record Change : Type 0 where

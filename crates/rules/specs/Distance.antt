@@ -28,7 +28,7 @@ unfoldable pub last : Image → List Image → Image
 last a [] = a
 last a (b ∷ rest) = last b rest
 
--- the kinds that are neither removals nor additions nor deprecations
+-- the kinds that are neither removals nor additions nor deprecations, nor those of R-10, which "need not be equal both ways"
 abbrev pub other_kinds : List ℕ
 other_kinds =
     (kind_at FieldTypeChanged) ∷ kind_at FieldOrdinalChanged ∷ kind_at FieldRenamed ∷ kind_at FieldEncodingChanged ∷ kind_at VariantOrdinalChanged ∷ (kind_at DeclarationKindChanged)
@@ -58,7 +58,7 @@ module _ (verdict : Image → Image → ℕ → ℕ) where
   largest_step a (b ∷ rest) = max (distance a b) (largest_step b rest)
 
   -- "each of the counts of removed declarations, fields, variants and flag bits one way equals the count of the same added the other way.
-  -- All other counts, except that of deprecations, are the same both ways."
+  -- All other counts, except that of deprecations, are the same both ways."; R-10: nor need its two be
   pub record Swapped (a b : Image) : Type 0 where
     pub declarations : count_between (kind_at DeclarationRemoved) a b ≡ count_between (kind_at DeclarationAdded) b a
     pub fields : count_between (kind_at FieldRemoved) a b ≡ count_between (kind_at FieldAdded) b a
@@ -73,7 +73,7 @@ module _ (verdict : Image → Image → ℕ → ℕ) where
     pub chain : (first second : Image) (rest : List Image) → Steps first (second ∷ rest) → Verdict first (last second rest) →
         distance first (last second rest) ≤ largest_step first (second ∷ rest)
     -- "For every image that gets a verdict against itself, that distance is 0 exactly when no type compared in it holds a vector,
-    -- quaternion or matrix node, and otherwise 2."
+    -- quaternion or matrix node, and otherwise 2."; of the mended verdict, when it does not use what it strikes off
     pub self : (a : Image) → Verdict a a → distance a a ≡ cond (odd a) 2 0
     -- "For every two images that get verdicts both ways", the counts change places.
     pub swap : (a b : Image) → Verdict a b → Verdict b a → Swapped a b

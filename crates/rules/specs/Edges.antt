@@ -62,7 +62,7 @@ abbrev pub non_exhaustive : Marks
 non_exhaustive = record { deprecated = false; non_exhaustive = true }
 
 abbrev pub variant : ℕ → String → Variant
-variant ordinal name = record { ordinal = ordinal; name = bytes name; fields = [] }
+variant ordinal name = record { ordinal = ordinal; name = bytes name; fields = []; tombstones = [] }
 
 abbrev pub enum : Marks → List Variant → Schema
 enum marks vs = schema (decl (number enum_kind) (bytes "A") marks None [] vs no_type) []

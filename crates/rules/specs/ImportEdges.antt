@@ -62,7 +62,7 @@ abbrev pub field_naming : Field
 field_naming = field 0 "x" unmarked None (named 1)
 
 abbrev pub variant_naming : Variant
-variant_naming = record { ordinal = 0; name = bytes "x"; fields = field_naming ∷ [] }
+variant_naming = record { ordinal = 0; name = bytes "x"; fields = field_naming ∷ []; tombstones = [] }
 
 -- what is told where a schema holds B, a newtype of u8, and then of f32; and that this is seen
 abbrev pub changing : Policy → (Option Decl → Schema) → List ℕ

@@ -1,11 +1,12 @@
 -- What is right, in the order of document 01: Survivors, Types, Text (how types are shown), Changes, Clauses (the eight clauses),
 -- Verdict, Report; Outcome, Answer: the calls over byte lists. Equal: tests of equality. Reached, Imports: R-2, what is reached through
--- named nodes, and the verdict over it. Widths: R-6, what is reported of widths, and when two images are mixed. Mended: R-5, the three answers
--- of the type comparison, and the mended verdict.
+-- named nodes, and the verdict over it. Widths: R-6, what is reported of widths, and when two images are mixed. Tombstones: R-10, what is
+-- reported of numbers that are struck off, and what holds of it. Mended: R-5, the three answers of the type comparison, and the mended
+-- verdict.
 -- Statements that are proved of them: Refusals (when each number is given), Distance (demand 3), Edges (document 01's edges), Pinned (what
--- the Rust answered), ImportEdges and PinnedImports (R-2, on small schemas and over byte lists), MendedEdges and PinnedMended (R-5 and R-6, the
--- same), MendedRefusals (R-6, when each number is given by the mended verdict), Ignored and PinnedIgnored (R-6, that the earlier
--- verdicts ignore widths, and images on which the mended one does not).
+-- the Rust answered), ImportEdges and PinnedImports (R-2, on small schemas and over byte lists), MendedEdges, TombstoneEdges and PinnedMended
+-- (R-5, R-6 and R-10, the same), MendedRefusals (R-6 and R-10, when each number is given by the mended verdict), Ignored and PinnedIgnored
+-- (R-6 and R-10, that the earlier verdicts ignore widths and tombstones, and images on which the mended one does not).
 pub mod Equal
 pub mod Survivors
 pub mod Types
@@ -19,6 +20,7 @@ pub mod Answer
 pub mod Reached
 pub mod Imports
 pub mod Widths
+pub mod Tombstones
 pub mod Mended
 pub mod Refusals
 pub mod MendedRefusals
@@ -27,6 +29,7 @@ pub mod Distance
 pub mod Edges
 pub mod ImportEdges
 pub mod MendedEdges
+pub mod TombstoneEdges
 pub mod Pinned
 pub mod PinnedImports
 pub mod PinnedMended

@@ -1,14 +1,16 @@
 -- R-5, "Three answers from the type comparison": what it says of two types, and the mended verdict, which reads the third answer as equal and
--- reports widths (Widths). The clauses and the stages are those of document 01. Assumes nothing.
+-- reports widths (Widths) and tombstones (Tombstones). The clauses and the stages are those of document 01. Assumes nothing.
 use Rattle.std.specs.Prelude.{◌≡◌, Bool, true, false, cond, ◌&&◌, ◌↔◌, List, [], ◌∷◌, ℕ, ◌+◌, None}
+use Rattle.maps.specs.Lists.{All}
 use Rattle.image.specs.Codes.{number, mixed_refusal}
 use Rattle.image.specs.Schema.{Ty}
 use Rattle.rules.specs.Survivors.{view_of}
 use Rattle.rules.specs.Types.{same_label, same_tree, same_type, holds_vector}
-use Rattle.rules.specs.Changes.{kind_at, WidthChanged}
+use Rattle.rules.specs.Changes.{kind_at, WidthChanged, TombstoneReused, TombstoneDropped}
 use Rattle.rules.specs.Clauses.{Reading}
 use Rattle.rules.specs.Answer.{Policy, alias_check, outcome, checked, verdict_by}
 use Rattle.rules.specs.Widths.{compare_widths, mixed_check}
+use Rattle.rules.specs.Tombstones.{compare_last, compare_last_in}
 use Rattle.rules.specs.Distance.{holds_vectors}
 
 -- ---- the answer
@@ -54,16 +56,21 @@ pub record ThreeAnswers (t u : Ty) : Type 0 where
 unfoldable pub mended_type : Ty → Ty → Bool
 mended_type t u = read_as true (likeness t u)
 
--- R-6: WidthChanged stands "first in that declaration"
+-- R-6: WidthChanged stands "first in that declaration"; R-10: what is told of tombstones "last in their declaration or variant"
 abbrev pub mended_reading : Reading
-mended_reading = record { same = mended_type; first = compare_widths; last = λ d e. []; last_in = λ n v w. [] }
+mended_reading = record { same = mended_type; first = compare_widths; last = compare_last; last_in = compare_last_in }
 
 -- R-6: 16 is tested "after 10 and before 11"
 abbrev pub mended : Policy
 mended = record { alone = λ s. None; pair = mixed_check ∷ alias_check view_of ∷ []; view = view_of; reading = mended_reading }
 
+-- the kinds that this verdict alone reports
+abbrev pub mended_kinds : List ℕ
+mended_kinds = kind_at WidthChanged ∷ kind_at TombstoneReused ∷ kind_at TombstoneDropped ∷ []
+
 -- Of images that are not refused by 16, where no type that is compared in one of the two holds a vector, quaternion or matrix, and no width
--- has changed, verdict and report are those of document 01.
+-- has changed and no tombstone was reused or dropped, verdict and report are those of document 01.
 abbrev pub Otherwise : Type 0
-Otherwise = (old new : List ℕ) → (verdict_by mended old new 0 ≡ number mixed_refusal → ⊥) → verdict_by mended old new (5 + kind_at WidthChanged) ≡ 0
+Otherwise = (old new : List ℕ) → (verdict_by mended old new 0 ≡ number mixed_refusal → ⊥)
+    → All (λ kind. verdict_by mended old new (5 + kind) ≡ 0) mended_kinds
     → (holds_vectors view_of old && holds_vectors view_of new) ≡ false → outcome mended old new ≡ checked old new

@@ -42,7 +42,7 @@ having name t = message (field 0 name unmarked None t ∷ [])
 
 -- a union with a variant that has such a field
 abbrev pub within : Ty → Schema
-within t = union (record { ordinal = 0; name = bytes "v"; fields = field 0 "x" unmarked None t ∷ [] } ∷ [])
+within t = union (record { ordinal = 0; name = bytes "v"; fields = field 0 "x" unmarked None t ∷ []; tombstones = [] } ∷ [])
 
 -- a message with a field that names B, a newtype of a type
 abbrev pub by_field : Ty → Schema

@@ -1,4 +1,4 @@
--- R-6, of the mended verdict: when each number is given, with which side. 1 to 10 come first, then 16, then 11. Assumes nothing.
+-- R-6 and R-10, of the mended verdict: when each number is given, with which side. 1 to 10 come first, then 16, then 11. Assumes nothing.
 use Rattle.std.specs.Prelude.{◌≡◌, ◌↔◌, List, ℕ, ◌≤◌}
 use Rattle.image.specs.Schema.{Schema}
 use Rattle.image.specs.Codes.{number, not_refused, alias_pair_refusal, full_refusal, mixed_refusal}
@@ -8,10 +8,12 @@ use Rattle.rules.specs.Answer.{verdict_by, report_by}
 use Rattle.rules.specs.Refusals.{AcceptedPair, Sided, AliasPair}
 use Rattle.rules.specs.Mended.{mended}
 
--- "16 mixed, in the mended verdict if either image or both are format 1"
+-- "16 mixed, in the mended verdict if either image or both are format 1"; it "also covers one image of format 3 against one that is not"
 pub data Mixed (x y : Schema) : Type 0 where
   old : x.format ≡ 1 → Mixed x y
   new : y.format ≡ 1 → Mixed x y
+  old_three : x.format ≡ 3 → ¬ (y.format ≡ 3) → Mixed x y
+  new_three : y.format ≡ 3 → ¬ (x.format ≡ 3) → Mixed x y
 
 -- a number that the call on two images gives, up to a last one of those of document 01
 pub data Given (last n : ℕ) : Type 0 where

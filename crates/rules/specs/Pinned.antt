@@ -141,7 +141,7 @@ abbrev pub vector : List ℕ
 vector = image ("01 00 01 00 01 00 00 00" ∷ "10 00 07 00" ∷ "00 00 00 00" ∷ "04 01 41 04 0b 00 09" ∷ [])
 
 pub record Pinned : Type 0 where
-  -- the whole report and all 24 selectors
+  -- the whole report and all 26 selectors
   pub rich_report : told rich_old rich_new ≡ lines
       ("NamespaceChanged;Major;;-;namespace changed from 'ride.a' to 'ride.b.c'"
       ∷ "DeclarationRemoved;Major;;-;impl '' was removed"
@@ -175,7 +175,7 @@ pub record Pinned : Type 0 where
       ∷ "FieldAdded;Major;U::was;+h;field 'h' @2 was added"
       ∷ "Breaking;Major;30"
       ∷ [])
-  pub rich_selectors : selected (checked rich_old rich_new) ≡ 0 ∷ 0 ∷ 2 ∷ 1 ∷ 2156 ∷ 2 ∷ 2 ∷ 4 ∷ 0 ∷ 1 ∷ 2 ∷ 2 ∷ 2 ∷ 2 ∷ 0 ∷ 4 ∷ 3 ∷ 2 ∷ 1 ∷ 1 ∷ 1 ∷ 1 ∷ 0 ∷ 0 ∷ []
+  pub rich_selectors : selected (checked rich_old rich_new) ≡ 0 ∷ 0 ∷ 2 ∷ 1 ∷ 2156 ∷ 2 ∷ 2 ∷ 4 ∷ 0 ∷ 1 ∷ 2 ∷ 2 ∷ 2 ∷ 2 ∷ 0 ∷ 4 ∷ 3 ∷ 2 ∷ 1 ∷ 1 ∷ 1 ∷ 1 ∷ 0 ∷ 0 ∷ 0 ∷ 0 ∷ []
   -- one name under different ids is equal; one id with different names is not
   pub same_name : told at_one at_two ≡ lines ("Compatible;Patch;0" ∷ [])
   pub same_id : told at_one another ≡ lines ("FieldTypeChanged;Major;A;-;newtype 'A' inner type changed from B to C" ∷ "Breaking;Major;1" ∷ [])

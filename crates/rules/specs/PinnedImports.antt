@@ -52,8 +52,8 @@ pub record PinnedImports : Type 0 where
   pub moved : imports_told both_listed at_one ≡ lines ("Compatible;Patch;0" ∷ [])
   pub moved_distance_plain : distance verdict_of both_listed at_one ≡ 2
   pub moved_distance : distance imports_of both_listed at_one ≡ 0
-  -- all 24 selectors of the first
-  pub selectors : selected (outcome imports at_one field_inside) ≡ 0 ∷ 0 ∷ 2 ∷ 1 ∷ 62 ∷ 1 ∷ 0 ∷ 0 ∷ 0 ∷ 0 ∷ 0 ∷ 0 ∷ 0 ∷ 0 ∷ 0 ∷ 0 ∷ 0 ∷ 0 ∷ 0 ∷ 0 ∷ 0 ∷ 0 ∷ 0 ∷ 0 ∷ []
+  -- all 26 selectors of the first
+  pub selectors : selected (outcome imports at_one field_inside) ≡ 0 ∷ 0 ∷ 2 ∷ 1 ∷ 62 ∷ 1 ∷ 0 ∷ 0 ∷ 0 ∷ 0 ∷ 0 ∷ 0 ∷ 0 ∷ 0 ∷ 0 ∷ 0 ∷ 0 ∷ 0 ∷ 0 ∷ 0 ∷ 0 ∷ 0 ∷ 0 ∷ 0 ∷ 0 ∷ 0 ∷ []
   -- the chain of the three: its distance is that of its largest step, by both verdicts
   pub steps : Steps imports_of both_listed (at_one ∷ field_inside ∷ [])
   pub ends : Verdict imports_of both_listed field_inside

@@ -9,13 +9,13 @@ use Rattle.rules.specs.Text.{joined, word}
 use Rattle.rules.specs.Changes.{level, Change}
 use Rattle.rules.specs.Verdict.{bump_of, result_at}
 
--- the names of `ChangeKind`, with R-6's at the end, of `BumpKind` and of `CompatResult`
+-- the names of `ChangeKind`, with those of R-6 and R-10 at the end, of `BumpKind` and of `CompatResult`
 abbrev pub change_names : List String
 change_names =
     "FieldAdded" ∷ "FieldRemoved" ∷ "FieldTypeChanged" ∷ "FieldOrdinalChanged" ∷ "FieldRenamed" ∷ "FieldDeprecated"
     ∷ "FieldEncodingChanged" ∷ "VariantAdded" ∷ "VariantRemoved" ∷ "VariantOrdinalChanged" ∷ "DeclarationAdded" ∷ "DeclarationRemoved"
     ∷ "DeclarationKindChanged" ∷ "NamespaceChanged" ∷ "NonExhaustiveChanged" ∷ "FlagsBitAdded" ∷ "FlagsBitRemoved"
-    ∷ "FlagsBitOrdinalChanged" ∷ "WidthChanged" ∷ []
+    ∷ "FlagsBitOrdinalChanged" ∷ "WidthChanged" ∷ "TombstoneReused" ∷ "TombstoneDropped" ∷ []
 
 abbrev pub bump_names : List String
 bump_names = "Patch" ∷ "Minor" ∷ "Major" ∷ []
