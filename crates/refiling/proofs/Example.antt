@@ -9,7 +9,7 @@ use lib.ListN.{get_or}
 use Rattle.maps.specs.Lists.{All}
 use Rattle.maps.specs.Reordered.{here, later, nothing, each, EachTwo, Once}
 use Rattle.maps.proofs.Tests.{no_both}
-use Rattle.image.specs.Schema.{Name, unmarked, label, Ty, leaf, two, no_type, Field, Variant, Decl, decl, Schema}
+use Rattle.image.specs.Schema.{Name, unmarked, label, Ty, leaf, two, no_type, Field, Variant, Decl, decl, struck, Schema}
 use Rattle.image.specs.Parse.{ok}
 use Rattle.image.specs.Image.{read_image}
 use Rattle.rules.specs.Equal.{same_name}
@@ -20,7 +20,7 @@ use Rattle.rules.specs.Pinned.{told}
 use Rattle.rules.proofs.Equal.{names}
 use Rattle.rules.proofs.Computed.{reads, reports}
 use Rattle.refiling.specs.Refiling.{entries, Impls, NamesOnce, NumbersOnce, NoRepeats, Unresolvable, RefiledId, unresolvable, a_leaf, a_one, a_two, RefiledDecl, Renumbered, Refiled, RefiledImage}
-use Rattle.refiling.specs.Example.{first, first_anew, first_widened, second, second_anew, second_widened, Example}
+use Rattle.refiling.specs.Example.{first, first_anew, first_widened, first_struck, second, second_anew, second_widened, second_struck, Example}
 use Rattle.refiling.proofs.Tables.{Rows, renumbered_by, moved_id, plain_field, item, stays, primitive_anew, named_anew, field_anew, item_anew, decl_anew}
 use Rattle.refiling.proofs.FilingOrder.{refiled_image, filing_order}
 use Rattle.refiling.proofs.Relation.{refilings}
@@ -61,22 +61,22 @@ abbrev h : ℕ → Field
 h id = plain_field 1 (104 ∷ []) (named_type id)
 
 abbrev x : Variant
-x = item 0 (120 ∷ []) []
+x = item 0 (120 ∷ []) [] []
 
-abbrev y : List Field → Variant
-y fs = item 1 (121 ∷ []) fs
+abbrev y : List Field → List ℕ → Variant
+y fs tombstones = item 1 (121 ∷ []) fs tombstones
 
 abbrev p : Variant
-p = item 0 (112 ∷ []) []
+p = item 0 (112 ∷ []) [] []
 
 abbrev q : Variant
-q = item 1 (113 ∷ []) []
+q = item 1 (113 ∷ []) [] []
 
 abbrev r : Variant
-r = item 0 (114 ∷ []) []
+r = item 0 (114 ∷ []) [] []
 
 abbrev s : Variant
-s = item 1 (115 ∷ []) []
+s = item 1 (115 ∷ []) [] []
 
 -- map<E, bits { i, j }>
 abbrev map_of : ℕ → Ty
@@ -87,25 +87,25 @@ ride = (114 ∷ 105 ∷ 100 ∷ 101 ∷ []) ∷ []
 
 abbrev R : Registry
 R =
-    Some (message (a (around 5 (named_type 1)) ∷ b 9 ∷ [])) ∷ Some (union (x ∷ y (f ∷ g 0 ∷ []) ∷ [])) ∷ Some (flags None (p ∷ q ∷ []))
+    Some (message (a (around 5 (named_type 1)) ∷ b 9 ∷ [])) ∷ Some (union (x ∷ y (f ∷ g 0 ∷ []) [] ∷ [])) ∷ Some (flags None (p ∷ q ∷ []))
     ∷ Some impl ∷ Some impl ∷ []
 
--- with the width that F has
-abbrev R' : Option ℕ → Registry
-R' w =
-    None ∷ Some (flags w (q ∷ p ∷ [])) ∷ Some impl ∷ Some (union (y (g 5 ∷ f ∷ []) ∷ x ∷ [])) ∷ Some impl
-    ∷ Some (message (b 0 ∷ a (around 5 (named_type 3)) ∷ [])) ∷ []
+-- with the width that F has, and what F, y, U and M strike off
+abbrev R' : Option ℕ → List ℕ → List ℕ → List ℕ → List ℕ → Registry
+R' w tf ty tu tm =
+    None ∷ Some (struck (flags w (q ∷ p ∷ [])) tf) ∷ Some impl ∷ Some (struck (union (y (g 5 ∷ f ∷ []) ty ∷ x ∷ [])) tu) ∷ Some impl
+    ∷ Some (struck (message (b 0 ∷ a (around 5 (named_type 3)) ∷ [])) tm) ∷ []
 
 abbrev S : Registry
 S =
-    Some (message (a u8 ∷ b 5 ∷ [])) ∷ Some (union (y (f ∷ h 1 ∷ []) ∷ [])) ∷ Some (flags None (p ∷ [])) ∷ Some (enum None (r ∷ s ∷ []))
+    Some (message (a u8 ∷ b 5 ∷ [])) ∷ Some (union (y (f ∷ h 1 ∷ []) [] ∷ [])) ∷ Some (flags None (p ∷ [])) ∷ Some (enum None (r ∷ s ∷ []))
     ∷ Some (newtype (map_of 3)) ∷ Some config ∷ []
 
--- with the widths that E and F have
-abbrev S' : Option ℕ → Option ℕ → Registry
-S' v w =
-    Some (newtype (map_of 2)) ∷ Some config ∷ Some (enum v (s ∷ r ∷ [])) ∷ Some (flags w (p ∷ [])) ∷ Some (union (y (h 4 ∷ f ∷ []) ∷ []))
-    ∷ Some (message (b 1 ∷ a u8 ∷ [])) ∷ []
+-- with the widths that E and F have, and what E, y and U strike off
+abbrev S' : Option ℕ → Option ℕ → List ℕ → List ℕ → List ℕ → Registry
+S' v w te ty tu =
+    Some (newtype (map_of 2)) ∷ Some config ∷ Some (struck (enum v (s ∷ r ∷ [])) te) ∷ Some (flags w (p ∷ []))
+    ∷ Some (struck (union (y (h 4 ∷ f ∷ []) ty ∷ [])) tu) ∷ Some (message (b 1 ∷ a u8 ∷ [])) ∷ []
 
 abbrev ride_of : ℕ → Registry → List ℕ → Schema
 ride_of format registry ids = record { format = format; registry = registry; ids = ids; namespace = ride }
@@ -114,25 +114,33 @@ first_read : read_image first ≡ ok (ride_of 1 R (0 ∷ 1 ∷ 2 ∷ 3 ∷ 9 ∷
 unfolding reads
 first_read = refl
 
-first_anew_read : read_image first_anew ≡ ok (ride_of 1 (R' None) (4 ∷ 5 ∷ 0 ∷ 3 ∷ 1 ∷ 2 ∷ [])) 161
+first_anew_read : read_image first_anew ≡ ok (ride_of 1 (R' None [] [] [] []) (4 ∷ 5 ∷ 0 ∷ 3 ∷ 1 ∷ 2 ∷ [])) 161
 unfolding reads
 first_anew_read = refl
 
-first_widened_read : read_image first_widened ≡ ok (ride_of 2 (R' (Some 1)) (4 ∷ 5 ∷ 0 ∷ 3 ∷ 1 ∷ 2 ∷ [])) 162
+first_widened_read : read_image first_widened ≡ ok (ride_of 2 (R' (Some 1) [] [] [] []) (4 ∷ 5 ∷ 0 ∷ 3 ∷ 1 ∷ 2 ∷ [])) 162
 unfolding reads
 first_widened_read = refl
+
+first_struck_read : read_image first_struck ≡ ok (ride_of 3 (R' (Some 1) (7 ∷ []) (2 ∷ []) (9 ∷ 9 ∷ []) (0 ∷ [])) (4 ∷ 5 ∷ 0 ∷ 3 ∷ 1 ∷ 2 ∷ [])) 192
+unfolding reads
+first_struck_read = refl
 
 second_read : read_image second ≡ ok (ride_of 1 S (0 ∷ 1 ∷ 2 ∷ 3 ∷ 4 ∷ [])) 173
 unfolding reads
 second_read = refl
 
-second_anew_read : read_image second_anew ≡ ok (ride_of 1 (S' None None) (0 ∷ 3 ∷ 5 ∷ 2 ∷ 4 ∷ [])) 173
+second_anew_read : read_image second_anew ≡ ok (ride_of 1 (S' None None [] [] []) (0 ∷ 3 ∷ 5 ∷ 2 ∷ 4 ∷ [])) 173
 unfolding reads
 second_anew_read = refl
 
-second_widened_read : read_image second_widened ≡ ok (ride_of 2 (S' (Some 8) (Some 4)) (0 ∷ 3 ∷ 5 ∷ 2 ∷ 4 ∷ [])) 175
+second_widened_read : read_image second_widened ≡ ok (ride_of 2 (S' (Some 8) (Some 4) [] [] []) (0 ∷ 3 ∷ 5 ∷ 2 ∷ 4 ∷ [])) 175
 unfolding reads
 second_widened_read = refl
+
+second_struck_read : read_image second_struck ≡ ok (ride_of 3 (S' (Some 8) (Some 4) (5 ∷ []) (0 ∷ []) (0 ∷ [])) (0 ∷ 3 ∷ 5 ∷ 2 ∷ 4 ∷ [])) 197
+unfolding reads
+second_struck_read = refl
 
 -- ---- no repeats
 
@@ -198,13 +206,14 @@ to i = get_or (5 ∷ 3 ∷ 1 ∷ 4 ∷ 2 ∷ []) i 0
 abbrev from : ℕ → ℕ
 from j = get_or (0 ∷ 2 ∷ 4 ∷ 1 ∷ 3 ∷ 0 ∷ []) j 0
 
-module _ (format : ℕ) (w : Option ℕ) where
+module _ (format : ℕ) (w : Option ℕ) (tf ty tu tm : List ℕ) where
   -- the unresolvable id
-  lost : RefiledId R (R' w) to 9 0
+  lost : RefiledId R (R' w tf ty tu tm) to 9 0
   unfolding Unresolvable stands_for
   lost = unresolvable refl refl
 
-  message_anew : RefiledDecl R (R' w) to (message (a (around 5 (named_type 1)) ∷ b 9 ∷ [])) (message (b 0 ∷ a (around 5 (named_type 3)) ∷ []))
+  message_anew : RefiledDecl R (R' w tf ty tu tm) to (message (a (around 5 (named_type 1)) ∷ b 9 ∷ []))
+      (struck (message (b 0 ∷ a (around 5 (named_type 3)) ∷ [])) tm)
   unfolding stands_for
   message_anew =
       decl_anew 0 _
@@ -212,7 +221,7 @@ module _ (format : ℕ) (w : Option ℕ) where
       (each (field_anew 1 _ (named_anew lost)) nothing here) (later here))
       nothing (primitive_anew 0)
 
-  union_anew : RefiledDecl R (R' w) to (union (x ∷ y (f ∷ g 0 ∷ []) ∷ [])) (union (y (g 5 ∷ f ∷ []) ∷ x ∷ []))
+  union_anew : RefiledDecl R (R' w tf ty tu tm) to (union (x ∷ y (f ∷ g 0 ∷ []) [] ∷ [])) (struck (union (y (g 5 ∷ f ∷ []) ty ∷ x ∷ [])) tu)
   unfolding stands_for
   union_anew =
       decl_anew 3 _ nothing
@@ -223,22 +232,22 @@ module _ (format : ℕ) (w : Option ℕ) where
       nothing here) (later here))
       (primitive_anew 0)
 
-  flags_anew : RefiledDecl R (R' w) to (flags None (p ∷ q ∷ [])) (flags w (q ∷ p ∷ []))
+  flags_anew : RefiledDecl R (R' w tf ty tu tm) to (flags None (p ∷ q ∷ [])) (struck (flags w (q ∷ p ∷ [])) tf)
   flags_anew = decl_anew 2 _ nothing (each (item_anew 0 _ nothing) (each (item_anew 1 _ nothing) nothing here) (later here)) (primitive_anew 0)
 
-  impl_anew : RefiledDecl R (R' w) to impl impl
+  impl_anew : RefiledDecl R (R' w tf ty tu tm) to impl impl
   impl_anew = decl_anew 8 _ nothing nothing (primitive_anew 0)
 
-  first_renumbered : Renumbered R (R' w) to from
+  first_renumbered : Renumbered R (R' w tf ty tu tm) to from
   unfolding Rows stands_for
   first_renumbered =
-      renumbered_by R (R' w) to from (
+      renumbered_by R (R' w tf ty tu tm) to from (
         (_, refl, refl, message_anew),
         ((_, refl, refl, union_anew), ((_, refl, refl, flags_anew), ((_, refl, refl, impl_anew), ((_, refl, refl, impl_anew), tt)))),
       )
       ((_, refl, refl), ((_, refl, refl), ((_, refl, refl), ((_, refl, refl), ((_, refl, refl), tt)))))
 
-  first_anew_lem : Refiled (ride_of 1 R (0 ∷ 1 ∷ 2 ∷ 3 ∷ 9 ∷ 4 ∷ [])) (ride_of format (R' w) (4 ∷ 5 ∷ 0 ∷ 3 ∷ 1 ∷ 2 ∷ []))
+  first_anew_lem : Refiled (ride_of 1 R (0 ∷ 1 ∷ 2 ∷ 3 ∷ 9 ∷ 4 ∷ [])) (ride_of format (R' w tf ty tu tm) (4 ∷ 5 ∷ 0 ∷ 3 ∷ 1 ∷ 2 ∷ []))
   unfolding stands_for
   first_anew_lem = record {
     to = to;
@@ -261,14 +270,14 @@ on i = get_or (5 ∷ 4 ∷ 3 ∷ 2 ∷ 0 ∷ 1 ∷ []) i 9
 abbrev off : ℕ → ℕ
 off j = get_or (4 ∷ 5 ∷ 3 ∷ 2 ∷ 1 ∷ 0 ∷ []) j 9
 
-module _ (format : ℕ) (v w : Option ℕ) where
-  later_message : RefiledDecl S (S' v w) on (message (a u8 ∷ b 5 ∷ [])) (message (b 1 ∷ a u8 ∷ []))
+module _ (format : ℕ) (v w : Option ℕ) (te ty tu : List ℕ) where
+  later_message : RefiledDecl S (S' v w te ty tu) on (message (a u8 ∷ b 5 ∷ [])) (message (b 1 ∷ a u8 ∷ []))
   unfolding stands_for
   later_message =
       decl_anew 0 _ (each (field_anew 0 _ (primitive_anew 1)) (each (field_anew 1 _ (named_anew (moved_id 5 refl))) nothing here) (later here))
       nothing (primitive_anew 0)
 
-  later_union : RefiledDecl S (S' v w) on (union (y (f ∷ h 1 ∷ []) ∷ [])) (union (y (h 4 ∷ f ∷ []) ∷ []))
+  later_union : RefiledDecl S (S' v w te ty tu) on (union (y (f ∷ h 1 ∷ []) [] ∷ [])) (struck (union (y (h 4 ∷ f ∷ []) ty ∷ [])) tu)
   unfolding stands_for
   later_union =
       decl_anew 3 _ nothing
@@ -278,25 +287,25 @@ module _ (format : ℕ) (v w : Option ℕ) where
       nothing here)
       (primitive_anew 0)
 
-  later_flags : RefiledDecl S (S' v w) on (flags None (p ∷ [])) (flags w (p ∷ []))
+  later_flags : RefiledDecl S (S' v w te ty tu) on (flags None (p ∷ [])) (flags w (p ∷ []))
   later_flags = decl_anew 2 _ nothing (each (item_anew 0 _ nothing) nothing here) (primitive_anew 0)
 
-  enum_anew : RefiledDecl S (S' v w) on (enum None (r ∷ s ∷ [])) (enum v (s ∷ r ∷ []))
+  enum_anew : RefiledDecl S (S' v w te ty tu) on (enum None (r ∷ s ∷ [])) (struck (enum v (s ∷ r ∷ [])) te)
   enum_anew = decl_anew 1 _ nothing (each (item_anew 0 _ nothing) (each (item_anew 1 _ nothing) nothing here) (later here)) (primitive_anew 0)
 
-  newtype_anew : RefiledDecl S (S' v w) on (newtype (map_of 3)) (newtype (map_of 2))
+  newtype_anew : RefiledDecl S (S' v w te ty tu) on (newtype (map_of 3)) (newtype (map_of 2))
   unfolding stands_for
   newtype_anew =
       decl_anew 4 _ nothing nothing
       (a_two (stays 8 0 [] (λ e. omega arith)) (named_anew (moved_id 3 refl)) (a_leaf (stays 16 0 _ (λ e. omega arith))))
 
-  config_anew : RefiledDecl S (S' v w) on config config
+  config_anew : RefiledDecl S (S' v w te ty tu) on config config
   config_anew = decl_anew 5 _ nothing nothing (primitive_anew 0)
 
-  second_renumbered : Renumbered S (S' v w) on off
+  second_renumbered : Renumbered S (S' v w te ty tu) on off
   unfolding Rows stands_for
   second_renumbered =
-      renumbered_by S (S' v w) on off (
+      renumbered_by S (S' v w te ty tu) on off (
         (_, refl, refl, later_message),
         (
           (_, refl, refl, later_union),
@@ -308,7 +317,7 @@ module _ (format : ℕ) (v w : Option ℕ) where
       )
       ((_, refl, refl), ((_, refl, refl), ((_, refl, refl), ((_, refl, refl), ((_, refl, refl), ((_, refl, refl), tt))))))
 
-  second_anew_lem : Refiled (ride_of 1 S (0 ∷ 1 ∷ 2 ∷ 3 ∷ 4 ∷ [])) (ride_of format (S' v w) (0 ∷ 3 ∷ 5 ∷ 2 ∷ 4 ∷ []))
+  second_anew_lem : Refiled (ride_of 1 S (0 ∷ 1 ∷ 2 ∷ 3 ∷ 4 ∷ [])) (ride_of format (S' v w te ty tu) (0 ∷ 3 ∷ 5 ∷ 2 ∷ 4 ∷ []))
   unfolding stands_for
   second_anew_lem = record {
     to = on;
@@ -326,16 +335,22 @@ module _ (format : ℕ) (v w : Option ℕ) where
 -- ---- the reports
 
 old_anew_lem : RefiledImage NoRepeats first first_anew
-old_anew_lem = refiled_image first_read first_anew_read first_once (first_anew_lem 1 None)
+old_anew_lem = refiled_image first_read first_anew_read first_once (first_anew_lem 1 None [] [] [] [])
 
 old_widened : RefiledImage NoRepeats first first_widened
-old_widened = refiled_image first_read first_widened_read first_once (first_anew_lem 2 (Some 1))
+old_widened = refiled_image first_read first_widened_read first_once (first_anew_lem 2 (Some 1) [] [] [] [])
+
+old_struck : RefiledImage NoRepeats first first_struck
+old_struck = refiled_image first_read first_struck_read first_once (first_anew_lem 3 (Some 1) (7 ∷ []) (2 ∷ []) (9 ∷ 9 ∷ []) (0 ∷ []))
 
 new_anew_lem : RefiledImage NoRepeats second second_anew
-new_anew_lem = refiled_image second_read second_anew_read second_once (second_anew_lem 1 None None)
+new_anew_lem = refiled_image second_read second_anew_read second_once (second_anew_lem 1 None None [] [] [])
 
 new_widened : RefiledImage NoRepeats second second_widened
-new_widened = refiled_image second_read second_widened_read second_once (second_anew_lem 2 (Some 8) (Some 4))
+new_widened = refiled_image second_read second_widened_read second_once (second_anew_lem 2 (Some 8) (Some 4) [] [] [])
+
+new_struck : RefiledImage NoRepeats second second_struck
+new_struck = refiled_image second_read second_struck_read second_once (second_anew_lem 3 (Some 8) (Some 4) (5 ∷ []) (0 ∷ []) (0 ∷ []))
 
 old_same : RefiledImage NoRepeats first first
 old_same = refiled_image first_read first_read first_once (refilings.itself _)
@@ -361,4 +376,9 @@ example = record {
   new_widened = new_widened;
   both_widened = same_told first_widened second_widened old_widened new_widened;
   either = same_told first_widened second_anew old_widened new_anew_lem;
+  old_struck = old_struck;
+  new_struck = new_struck;
+  both_struck = same_told first_struck second_struck old_struck new_struck;
+  struck_old = same_told first_struck second_anew old_struck new_anew_lem;
+  struck_new = same_told first_widened second_struck old_widened new_struck;
 }

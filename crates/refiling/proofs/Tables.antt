@@ -6,7 +6,7 @@ use mathlib.Core.List.{List, [], ◌∷◌}
 use Prim.Native.Nat.{ℕ, zero, suc}
 use native.Mathlib.Omega.{arith}
 use Rattle.maps.specs.Reordered.{Reordered}
-use Rattle.image.specs.Schema.{Name, unmarked, label, Ty, Field, Variant, Decl, decl}
+use Rattle.image.specs.Schema.{Name, unmarked, label, Ty, Field, Variant, Decl, decl, struck}
 use Rattle.rules.specs.Survivors.{Registry, stands_for}
 use Rattle.rules.specs.Edges.{named as named_type, primitive}
 use Rattle.refiling.specs.Refiling.{RefiledId, renumbered, RefiledLabel, named, other, RefiledType, a_leaf, RefiledField, RefiledVariant, RefiledDecl, Renumbered}
@@ -52,8 +52,9 @@ abbrev pub plain_field : ℕ → Name → Ty → Field
 plain_field ordinal name t =
     record { ordinal = ordinal; name = name; marks = unmarked; encoding = record { deltas = 0; base = 0 }; limit = None; type = t }
 
-abbrev pub item : ℕ → Name → List Field → Variant
-item ordinal name fs = record { ordinal = ordinal; name = name; fields = fs }
+-- with the numbers that it strikes off
+abbrev pub item : ℕ → Name → List Field → List ℕ → Variant
+item ordinal name fs tombstones = record { ordinal = ordinal; name = name; fields = fs; tombstones = tombstones }
 
 module _ {R S : Registry} {to : ℕ → ℕ} where
   -- an id that has an entry, by its new number
@@ -73,10 +74,11 @@ module _ {R S : Registry} {to : ℕ → ℕ} where
   pub field_anew : (ordinal : ℕ) (name : Name) {t u : Ty} → RefiledType R S to t u → RefiledField R S to (plain_field ordinal name t) (plain_field ordinal name u)
   field_anew ordinal name r = record { ordinal = refl; name = refl; marks = refl; encoding = refl; limit = refl; type = r }
 
-  pub item_anew : (ordinal : ℕ) (name : Name) {fs gs : List Field} → Reordered (RefiledField R S to) fs gs
-      → RefiledVariant R S to (item ordinal name fs) (item ordinal name gs)
+  pub item_anew : (ordinal : ℕ) (name : Name) {fs gs : List Field} {a b : List ℕ} → Reordered (RefiledField R S to) fs gs
+      → RefiledVariant R S to (item ordinal name fs a) (item ordinal name gs b)
   item_anew ordinal name r = record { ordinal = refl; name = refl; fields = r }
 
-  pub decl_anew : (k : ℕ) (n : Name) {w x : Option ℕ} {fs gs : List Field} {vs ws : List Variant} {t u : Ty} → Reordered (RefiledField R S to) fs gs
-      → Reordered (RefiledVariant R S to) vs ws → RefiledType R S to t u → RefiledDecl R S to (decl k n unmarked w fs vs t) (decl k n unmarked x gs ws u)
+  pub decl_anew : (k : ℕ) (n : Name) {w x : Option ℕ} {fs gs : List Field} {vs ws : List Variant} {t u : Ty} {a b : List ℕ}
+      → Reordered (RefiledField R S to) fs gs → Reordered (RefiledVariant R S to) vs ws → RefiledType R S to t u
+      → RefiledDecl R S to (struck (decl k n unmarked w fs vs t) a) (struck (decl k n unmarked x gs ws u) b)
   decl_anew k n r s q = record { kind = refl; name = refl; marks = refl; fields = r; variants = s; inner = q }

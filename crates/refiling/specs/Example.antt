@@ -1,4 +1,4 @@
--- R-13 at work: two releases, each filed anew, in either format, with the report that all pairs get; how the readings of its premise differ; and what
+-- R-13 at work: two releases, each filed anew, in each format, with the report that all pairs get; how the readings of its premise differ; and what
 -- can't be left out of it. Assumes nothing.
 use Rattle.std.specs.Prelude.{◌≡◌, List, [], ◌∷◌, map, ℕ, None, Some}
 use Prim.Native.String.{String}
@@ -58,6 +58,22 @@ first_widened =
     ∷ "00 01 4d 00 02 00 01 00 00 00 01 62 00 00 00 03 00 00 00 00 00 00 00 00 01 61 00 00 00 05 03 03 00 00 00"
     ∷ [])
 
+-- So filed in format 3: F strikes off 7, y of U 2, U 9 twice, and M 0, which it uses.
+abbrev pub first_struck : List ℕ
+first_struck =
+    image
+    ("03 00 06 00 06 00 01 00"
+    ∷ "00 00 00 00 3d 00 18 00 55 00 01 00 56 00 40 00 96 00 01 00 97 00 29 00"
+    ∷ "04 00 00 00 05 00 00 00 00 00 00 00 03 00 00 00 01 00 00 00 02 00 00 00"
+    ∷ "04 72 69 64 65"
+    ∷ "02 01 46 01 02 00 01 00 00 00 01 71 00 00 00 00 01 70 01 00 07 00 00 00"
+    ∷ "08"
+    ∷ "03 01 55 02 00 01 00 00 00 01 79 02 00 01 00 00 00 01 67 00 00 00 03 05 00 00 00 00 00 00 00 01 66 00 00 00 00 01 01 00 02 00 00 00"
+    ∷ "00 00 00 00 01 78 00 00 00 00 02 00 09 00 00 00 09 00 00 00"
+    ∷ "08"
+    ∷ "00 01 4d 00 02 00 01 00 00 00 01 62 00 00 00 03 00 00 00 00 00 00 00 00 01 61 00 00 00 05 03 03 00 00 00 01 00 00 00 00 00"
+    ∷ [])
+
 -- A later release: 0 M of `@0 a: u8` and `@1 b: K`; 1 U of `@1 y` with `@0 f: u8` and `@1 h: U`; 2 F of `@0 p`; 3 E, an enum of `@0 r` and
 -- `@1 s`; 4 N, a newtype of `map<E, bits { i, j }>`; 5 K, a config that is not listed. Listed: 0 1 2 3 4.
 abbrev pub second : List ℕ
@@ -107,6 +123,23 @@ second_widened =
     ∷ "00 01 4d 00 02 00 01 00 00 00 01 62 00 00 00 03 01 00 00 00 00 00 00 00 01 61 00 00 00 00 01"
     ∷ [])
 
+-- So filed in format 3: E strikes off 5, y of U 0, which it uses, and U 0, which was x.
+abbrev pub second_struck : List ℕ
+second_struck =
+    image
+    ("03 00 06 00 05 00 01 00"
+    ∷ "39 00 0f 00 48 00 03 00 4b 00 19 00 64 00 0e 00 72 00 32 00 a4 00 21 00"
+    ∷ "00 00 00 00 03 00 00 00 05 00 00 00 02 00 00 00 04 00 00 00"
+    ∷ "04 72 69 64 65"
+    ∷ "04 01 4e 08 03 02 00 00 00 10 02 01 69 01 6a"
+    ∷ "05 01 4b"
+    ∷ "01 01 45 00 08 02 00 01 00 00 00 01 73 00 00 00 00 01 72 01 00 05 00 00 00"
+    ∷ "02 01 46 04 01 00 00 00 00 00 01 70 00 00"
+    ∷ "03 01 55 01 00 01 00 00 00 01 79 02 00 01 00 00 00 01 68 00 00 00 03 04 00 00 00 00 00 00 00 01 66 00 00 00 00 01 01 00 00 00 00 00"
+    ∷ "01 00 00 00 00 00"
+    ∷ "00 01 4d 00 02 00 01 00 00 00 01 62 00 00 00 03 01 00 00 00 00 00 00 00 01 61 00 00 00 00 01 00 00"
+    ∷ [])
+
 pub record Example : Type 0 where
   pub old : RefiledImage NoRepeats first first_anew
   pub new : RefiledImage NoRepeats second second_anew
@@ -130,6 +163,12 @@ pub record Example : Type 0 where
   pub new_widened : RefiledImage NoRepeats second second_widened
   pub both_widened : told first_widened second_widened ≡ told first second
   pub either : told first_widened second_anew ≡ told first second
+  -- and in format 3, also beside images of the others
+  pub old_struck : RefiledImage NoRepeats first first_struck
+  pub new_struck : RefiledImage NoRepeats second second_struck
+  pub both_struck : told first_struck second_struck ≡ told first second
+  pub struck_old : told first_struck second_anew ≡ told first second
+  pub struck_new : told first_widened second_struck ≡ told first second
 
 -- ---- the readings of the premise
 

@@ -82,13 +82,13 @@ module _ (R S : Registry) (to : ℕ → ℕ) where
     pub limit : f.limit ≡ g.limit
     pub type : RefiledType f.type g.type
 
-  -- a variant of an enum or a union, or a bit of flags
+  -- A variant of an enum or a union, or a bit of flags. That it keeps what it strikes off is not asked: the report of 01 skips it.
   pub record RefiledVariant (v w : Variant) : Type 0 where
     pub ordinal : v.ordinal ≡ w.ordinal
     pub name : v.name ≡ w.name
     pub fields : Reordered RefiledField v.fields w.fields
 
-  -- that it keeps its width is not asked: the report of 01 does not read it
+  -- that it keeps its width and what it strikes off is not asked: the report of 01 reads neither
   pub record RefiledDecl (d e : Decl) : Type 0 where
     pub kind : d.kind ≡ e.kind
     pub name : d.name ≡ e.name
