@@ -55,8 +55,11 @@ newtype_text name = bytes "newtype " ++ (quoted name ++ bytes " inner")
 abbrev pub field_name_text : Name → List ℕ
 field_name_text name = bytes "field " ++ quoted name
 
-abbrev pub field_ordinal_text : ℕ → List ℕ
-field_ordinal_text ordinal = bytes "field @" ++ decimal ordinal
+abbrev pub at_text : ℕ → List ℕ
+at_text ordinal = bytes " @" ++ decimal ordinal
+
+abbrev pub ordinal_text : List ℕ → ℕ → List ℕ
+ordinal_text what ordinal = what ++ at_text ordinal
 
 abbrev pub subject_text : Subject → List ℕ
 subject_text subject.Namespace = bytes "namespace"
@@ -68,7 +71,8 @@ subject_text (subject.DeclName name) = quoted name.now
 subject_text (subject.Newtype name) = newtype_text name.now
 subject_text (subject.Item word name ordinal) = numbered (word_text word) name.now ordinal
 subject_text (subject.FieldName name) = field_name_text name.now
-subject_text (subject.FieldOrdinal ordinal) = field_ordinal_text ordinal
+subject_text (subject.FieldOrdinal ordinal) = ordinal_text (bytes "field") ordinal
+subject_text (subject.Tombstone ordinal) = ordinal_text (bytes "tombstone") ordinal
 
 abbrev pub verb_text : Verb → List ℕ
 verb_text verb.Removed = bytes " was removed"
@@ -78,6 +82,8 @@ verb_text verb.Renamed = bytes " renamed"
 verb_text verb.TypeChanged = bytes " type changed"
 verb_text verb.EncodingChanged = bytes " encoding changed"
 verb_text verb.Deprecated = bytes " was marked @deprecated"
+verb_text verb.Reused = bytes " was reused"
+verb_text verb.Dropped = bytes " was dropped"
 
 abbrev pub value_text : Value → List ℕ
 value_text (value.Name name) = quoted name.now

@@ -56,6 +56,8 @@ pub enum Subject<'a> {
     FieldName(&'a [u8]),
     // field @1
     FieldOrdinal(u32),
+    // tombstone @3
+    Tombstone(u32),
 }
 
 // What happened to the subject.
@@ -68,6 +70,8 @@ pub enum Verb {
     TypeChanged,
     EncodingChanged,
     Deprecated,
+    Reused,
+    Dropped,
 }
 
 // What is shown of one of the two images: the name of an item, the kind, the mark or the width of a declaration, a type, the encoding of a
@@ -104,6 +108,8 @@ fn put_verb(w: &mut Writer<'_>, verb: Verb)
         Verb::TypeChanged => w.text(b" type changed"),
         Verb::EncodingChanged => w.text(b" encoding changed"),
         Verb::Deprecated => w.text(b" was marked @deprecated"),
+        Verb::Reused => w.text(b" was reused"),
+        Verb::Dropped => w.text(b" was dropped"),
     }
 }
 

@@ -1,7 +1,7 @@
 // What a detail says something of.
 ghost use Rattle.rules.specs.Changes.{numbered};
 ghost use Rattle.text.specs.Writers.{Adds};
-ghost use Rattle.details.specs.Details.{word_text, decl_text, newtype_text, field_name_text, field_ordinal_text, subject_text};
+ghost use Rattle.details.specs.Details.{word_text, decl_text, newtype_text, field_name_text, at_text, ordinal_text, subject_text};
 
 use crate::names::put_quoted;
 use crate::words::put_kind;
@@ -21,6 +21,15 @@ fn put_item_word(w: &mut Writer<'_>, word: Word)
     }
 }
 
+//  @1
+#[tactic(auto, using(text::proofs::Writers::after_after), unfolding(image::specs::Words::bytes))]
+fn put_at(w: &mut Writer<'_>, ordinal: u32)
+    ensures { Adds w.old (at_text ordinal) w.new }
+{
+    w.text(b" @");
+    w.number(ordinal as u64);
+}
+
 // field 'limit' @1
 #[tactic(auto, using(text::proofs::Writers::after_after), unfolding(rules::specs::Changes::numbered, image::specs::Words::bytes))]
 fn put_item(w: &mut Writer<'_>, word: Word, name: &[u8], ordinal: u32)
@@ -29,8 +38,7 @@ fn put_item(w: &mut Writer<'_>, word: Word, name: &[u8], ordinal: u32)
     put_item_word(w, word);
     w.byte(b' ');
     put_quoted(w, name);
-    w.text(b" @");
-    w.number(ordinal as u64);
+    put_at(w, ordinal);
 }
 
 // message 'Drive'
@@ -62,13 +70,13 @@ fn put_field_name(w: &mut Writer<'_>, name: &[u8])
     put_quoted(w, name);
 }
 
-// field @1
+// field @1, tombstone @3
 #[tactic(auto, using(text::proofs::Writers::after_after), unfolding(image::specs::Words::bytes))]
-fn put_field_ordinal(w: &mut Writer<'_>, ordinal: u32)
-    ensures { Adds w.old (field_ordinal_text ordinal) w.new }
+fn put_ordinal(w: &mut Writer<'_>, what: &[u8], ordinal: u32)
+    ensures { Adds w.old (ordinal_text what.now ordinal) w.new }
 {
-    w.text(b"field @");
-    w.number(ordinal as u64);
+    w.text(what);
+    put_at(w, ordinal);
 }
 
 // What the detail says something of.
@@ -86,6 +94,7 @@ pub fn put_subject(w: &mut Writer<'_>, subject: Subject<'_>)
         Subject::Newtype(name) => put_newtype(w, name),
         Subject::Item(word, name, ordinal) => put_item(w, word, name, ordinal),
         Subject::FieldName(name) => put_field_name(w, name),
-        Subject::FieldOrdinal(ordinal) => put_field_ordinal(w, ordinal),
+        Subject::FieldOrdinal(ordinal) => put_ordinal(w, b"field", ordinal),
+        Subject::Tombstone(ordinal) => put_ordinal(w, b"tombstone", ordinal),
     }
 }

@@ -1,15 +1,20 @@
-// Changes and their lines: what a line shows, and the report, the one place where a change is counted and its line written.
+// Changes and their lines: what a line shows, and the report, the one place where a change is counted and its line written; and the changes
+// of numbers that were struck off.
 #![tactic(auto)]
 
 mod reporting;
+mod tombstones;
 pub mod words;
 
 ghost use Rattle.std.specs.Prelude.{◌≡◌, [], ◌∷◌};
 ghost use Rattle.tally.specs.Tallies.{no_change};
+ghost use Rattle.details.specs.Details.{declaration_of};
 ghost use Rattle.lines.specs.Sites.{change_of};
+ghost use Rattle.lines.specs.Tombstones.{tombstone_change};
 ghost use Rattle.lines.specs.Reports.{buffer_of, with_text, Reports, Ends};
 
 use crate::reporting::{Line, line_into};
+use crate::tombstones::tombstone;
 use details::{Detail, Scope};
 use tally::{Bump, ChangeKind, Tally};
 use types::Reading;
@@ -22,6 +27,13 @@ pub struct Site<'a> {
     pub scope: Scope<'a>,
     pub field: Option<&'a [u8]>,
     pub detail: Detail<'a>,
+}
+
+// What became of a number that was struck off.
+#[derive(Clone, Copy)]
+pub enum Fate {
+    Reused,
+    Dropped,
 }
 
 // The report so far: its lines, as far as the buffer reaches, how long they are, and the tally of their changes; and how the images are
@@ -57,6 +69,13 @@ impl Report<'_> {
     {
         self.put(site);
         self.tally = self.tally.with_change(site.kind, site.bump);
+    }
+
+    // Of a number that was struck off in what a scope names: what became of it.
+    pub fn emit_tombstone(&mut self, fate: Fate, scope: Scope<'_>, number: u32)
+        ensures { Reports self.old (tombstone_change fate (declaration_of scope.entry) number ∷ []) self.new }
+    {
+        self.emit(tombstone(fate, scope, number));
     }
 
     // "Last line, in the same way: result, bump, number of changes."

@@ -29,6 +29,8 @@ pub fn put_change(w: &mut Writer<'_>, kind: ChangeKind)
         ChangeKind::FlagsBitRemoved => w.text(b"FlagsBitRemoved"),
         ChangeKind::FlagsBitOrdinalChanged => w.text(b"FlagsBitOrdinalChanged"),
         ChangeKind::WidthChanged => w.text(b"WidthChanged"),
+        ChangeKind::TombstoneReused => w.text(b"TombstoneReused"),
+        ChangeKind::TombstoneDropped => w.text(b"TombstoneDropped"),
     }
 }
 

@@ -36,6 +36,8 @@ kind_number kind.FlagsBitAdded = kind_at spec.FlagsBitAdded
 kind_number kind.FlagsBitRemoved = kind_at spec.FlagsBitRemoved
 kind_number kind.FlagsBitOrdinalChanged = kind_at spec.FlagsBitOrdinalChanged
 kind_number kind.WidthChanged = kind_at spec.WidthChanged
+kind_number kind.TombstoneReused = kind_at spec.TombstoneReused
+kind_number kind.TombstoneDropped = kind_at spec.TombstoneDropped
 
 -- the number of a bump, and the bump of the requirements that it is; the other way round, the bump of a number and that of the requirements
 abbrev pub level_of : Bump → ℕ

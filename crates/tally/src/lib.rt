@@ -6,7 +6,7 @@ ghost use Rattle.rules.specs.Changes.{kind_count};
 ghost use Rattle.rules.specs.Verdict.{result_at};
 ghost use Rattle.tally.specs.Tallies.{kind_number, level_of, larger, no_change, result_number, with_change};
 
-// The kinds of change, in the order of compat.rs, each with its place among the counts; after them the one of widths.
+// The kinds of change, in the order of compat.rs, each with its place among the counts; after them those of R-6 and R-10.
 #[derive(Clone, Copy, Debug, PartialEq, Eq)]
 pub enum ChangeKind {
     FieldAdded = 0,
@@ -28,6 +28,8 @@ pub enum ChangeKind {
     FlagsBitRemoved = 16,
     FlagsBitOrdinalChanged = 17,
     WidthChanged = 18,
+    TombstoneReused = 19,
+    TombstoneDropped = 20,
 }
 
 impl ChangeKind {
@@ -41,7 +43,7 @@ impl ChangeKind {
 }
 
 // How many kinds are counted.
-pub const KINDS: usize = 19;
+pub const KINDS: usize = 21;
 
 // The weight of a change, from the least to the largest.
 #[derive(Clone, Copy, Debug, PartialEq, Eq, PartialOrd, Ord)]

@@ -81,3 +81,11 @@ returns-in-FlagsBitOrdinalChanged c = adds_as (rw c.in-FlagsBitOrdinalChanged.is
 pub returns-in-WidthChanged : goal.returns-in-WidthChanged
 unfolding bytes change_word word
 returns-in-WidthChanged c = adds_as (rw c.in-WidthChanged.is refl) c.text-in-WidthChanged.ensures
+
+pub returns-in-TombstoneReused : goal.returns-in-TombstoneReused
+unfolding bytes change_word word
+returns-in-TombstoneReused c = adds_as (rw c.in-TombstoneReused.is refl) c.text-in-TombstoneReused.ensures
+
+pub returns-in-TombstoneDropped : goal.returns-in-TombstoneDropped
+unfolding bytes change_word word
+returns-in-TombstoneDropped c = adds_as (rw c.in-TombstoneDropped.is refl) c.text-in-TombstoneDropped.ensures
