@@ -1,6 +1,7 @@
 -- The change of an item that stands on one side only: it is gone, or it came. Assumes nothing.
 use Rattle.std.specs.Prelude.{List, ◌++◌, ℕ, Some}
-use Rattle.parts.specs.Promise.{ordinal_in, item_name}
+use Rattle.parts.specs.Promise.{ordinal_in}
+use Rattle.members.specs.Handles.{name_in}
 use Rattle.members.specs.declared.handles.Item.{Item}
 use Rattle.rules.specs.Changes.{Change, change, numbered}
 use Rattle.tally.specs.Tallies.{kind_number, bump_value}
@@ -17,11 +18,11 @@ use Rattle.items.specs.declared.Side.TheVariants as side
 
 -- WORD 'NAME' @ORDINAL
 abbrev pub item_text : Word → Item → List ℕ
-item_text w i = numbered (word_text w) (item_name i.image.bytes.now i.at) (ordinal_in i.image.bytes.now i.at)
+item_text w i = numbered (word_text w) (name_in i) (ordinal_in i.image.bytes.now i.at)
 
 abbrev pub lone_change : ChangeKind → Bump → Scope → Word → Verb → Item → Change
 lone_change kind bump scope w v i =
-    change (kind_number kind) (bump_value bump) (declaration_of scope) (Some (item_name i.image.bytes.now i.at)) (item_text w i ++ verb_text v)
+    change (kind_number kind) (bump_value bump) (declaration_of scope) (Some (name_in i)) (item_text w i ++ verb_text v)
 
 abbrev pub gone_of : ChangeKind → Scope → Word → Item → Change
 gone_of kind scope w i = lone_change kind Bump.Major scope w Verb.Removed i

@@ -43,7 +43,8 @@ use Rattle.survivors.proofs.Walks.{rest_decls, decls_start, decls_done, decls_tu
 use Rattle.reached.specs.Marks.{Started, Marked, StandsAt, Listed, OverSurvivors}
 use Rattle.reached.specs.Named.{named_items}
 use Rattle.reached.proofs.Marking.{ready_in, marked_in, marked_none, marked_as, Owing, owing_start, owing_ready, owing_turn, owing_done}
-use Rattle.reached.proofs.Walks.{fields_named, variants_named, each, listed_marked}
+use Rattle.survivors.proofs.Walks.{each}
+use Rattle.reached.proofs.Walks.{fields_named, variants_named, listed_marked}
 
 -- ---- a declaration by its kind
 

@@ -21,7 +21,7 @@ use Rattle.survivors.specs.Answers.{Among, StandsIn, NextItem}
 use Rattle.survivors.specs.declared.standing.StandingItems.{StandingItems}
 use Rattle.survivors.specs.Runs.{item_of, item_map, items_of, Holds}
 use Rattle.survivors.proofs.Runs.{items_hold, listed_hold, next_among, among_shape}
-use Rattle.survivors.proofs.Walks.{rest_items, items_start, items_done, items_turn}
+use Rattle.survivors.proofs.Walks.{each, rest_items, items_start, items_done, items_turn}
 use Rattle.reached.specs.Marks.{Marked}
 use Rattle.reached.specs.Named.{item_names, named_items}
 use Rattle.reached.proofs.Marking.{ready_in, marked_in, marked_as, Owing, owing_start, owing_ready, owing_turn, owing_done}
@@ -42,11 +42,6 @@ variants_named vs =
     (all (λ v. fields_named v.fields) (variant_map vs))
 
 -- ---- a walk
-
--- what stands under a key gives, whatever another map has there
-unfoldable pub each : {A : Type 0} → (A → List ℕ) → Option A → Option A → List ℕ
-each f None o = []
-each f (Some a) o = f a
 
 module _ (h : Shape) (x : Items) where
   -- what is yet to be marked from an ordinal on

@@ -13,6 +13,7 @@ use Rattle.survivors.specs.Runs.{item_map, items_of}
 unfoldable pub item_names : (h : Shape) → ItemOf h → List ℕ
 item_names shape.Field f = named_in f.type
 item_names shape.Bare v = []
+item_names shape.Number n = []
 item_names shape.Variant v = flat_map (λ f. named_in f.type) (field_map v.fields)
 
 -- those that stand

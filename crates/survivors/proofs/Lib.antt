@@ -4,3 +4,4 @@ pub mod Laws
 pub mod Declarations
 pub mod Runs
 pub mod Walks
+pub mod Used

@@ -19,11 +19,12 @@ use Rattle.parts.specs.declared.Shape.{Shape}
 use Rattle.parts.specs.declared.Shape.TheVariants as shape
 use Rattle.parts.specs.declared.Run.{Run}
 use Rattle.parts.specs.declared.handles.Image.{Image}
-use Rattle.parts.proofs.Promise.{places_none, places_more, items_first, items_rest, field_ordinal, variant_ordinal_lem}
+use Rattle.parts.proofs.Promise.{places_none, places_more, items_first, items_rest, number_ordinal, bare_ordinal, field_ordinal, variant_ordinal_lem}
 use Rattle.members.specs.Handles.{ItemsAt, places_of}
 use Rattle.members.specs.declared.handles.Items.{Items}
 use Rattle.members.specs.declared.handles.Item.{Item}
 use Rattle.rules.specs.Survivors.{field_map, variant_map}
+use Rattle.rules.specs.Tombstones.{rising_numbers}
 use Rattle.survivors.proofs.Laws.Better.{some_map}
 use Rattle.survivors.specs.Items.{place_map}
 use Rattle.survivors.specs.Answers.{ordinal_at, place_of, Among, ItemAt, StandsUnder, StandsNext}
@@ -41,10 +42,11 @@ listed_hold a l = record { shape = a.shape; are = rw (a.image, a.run) l.are }
 -- ---- items by rising ordinal
 
 stands : (h : Shape) (xs : List (ItemOf h)) → item_map h xs ≡ survivors (item_ordinal h) ltb xs
-unfolding field_map variant_map
+unfolding field_map variant_map rising_numbers
 stands shape.Field xs = refl
 stands shape.Bare xs = refl
 stands shape.Variant xs = refl
+stands shape.Number xs = refl
 
 pub items_rising : (h : Shape) (xs : List (ItemOf h)) → Rising (item_ordinal h) ltb (item_map h xs)
 items_rising h xs = rw (stands h xs) (rising (item_ordinal h) by_number xs)
@@ -54,8 +56,9 @@ items_rising h xs = rw (stands h xs) (rising (item_ordinal h) by_number xs)
 -- the ordinal at an item's place is its own
 ordinal_is : (h : Shape) (s : List ℕ) (at : ℕ) → ItemHere h s at → item_ordinal h (item_in h s at) ≡ ordinal_in s at
 ordinal_is shape.Field s at g = field_ordinal s at g
-ordinal_is shape.Bare s at g = refl
+ordinal_is shape.Bare s at g = bare_ordinal s at g
 ordinal_is shape.Variant s at g = variant_ordinal_lem s at g
+ordinal_is shape.Number s at g = number_ordinal s at g
 
 pub item_ordinal_lem : (h : Shape) (i : Item) → i.shape ≡ h → item_ordinal h (item_of h i) ≡ ordinal_at i
 item_ordinal_lem h i e = rw (← e) (ordinal_is i.shape i.image.bytes.now i.at i.here)

@@ -57,6 +57,11 @@ decls_less ds {after = after} f {d} e =
 
 -- ---- items
 
+-- what stands under a key gives, whatever another map has there
+unfoldable pub each : {A C : Type 0} → (A → List C) → Option A → Option A → List C
+each f None o = []
+each f (Some a) o = f a
+
 unfoldable pub rest_items : {C : Type 0} → (h : Shape) → (Option (ItemOf h) → Option (ItemOf h) → List C) → List (ItemOf h) → List (ItemOf h) → Option ℕ → List C
 rest_items h g xs ys after = rest (item_ordinal h) ltb g (item_map h xs) (item_map h ys) after
 

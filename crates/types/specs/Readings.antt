@@ -6,7 +6,7 @@ use Rattle.rules.specs.Mended.{mended_reading}
 use Rattle.types.specs.declared.Reading.{Reading}
 use Rattle.types.specs.declared.Reading.TheVariants.{Plain, Mended}
 
--- plain: as document 01 says; mended: as R-5 and R-6 do
+-- plain: as document 01 says; mended: as R-5, R-6 and R-10 do
 unfoldable pub reading_of : Reading → Definition
 reading_of Plain = plain_reading
 reading_of Mended = mended_reading

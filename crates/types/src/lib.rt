@@ -7,7 +7,7 @@ pub mod names;
 pub mod namespaces;
 pub mod nodes;
 
-// How two images are read, as document 01 says, or mended: when their types are equal, and whether widths are reported.
+// How two images are read, as document 01 says, or mended: when their types are equal, and whether widths and tombstones are reported.
 #[derive(Clone, Copy, Debug, PartialEq, Eq)]
 pub enum Reading {
     Plain,

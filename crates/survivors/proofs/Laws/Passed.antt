@@ -16,7 +16,7 @@ use Rattle.maps.proofs.Walking.{following_least}
 use Rattle.maps.proofs.Searches.{seen_here, seen_other, has_here, has_other, has_nil, lookup_has}
 use Rattle.parts.specs.Promise.{ItemHere, item_end, places_from, ordinal_in}
 use Rattle.parts.specs.declared.Shape.TheVariants as shape
-use Rattle.parts.proofs.Promise.{places_none, places_more, items_first, item_bare}
+use Rattle.parts.proofs.Promise.{places_none, places_more, items_first, item_number}
 use Rattle.members.specs.Places.{First, Others}
 use Rattle.members.specs.declared.places.Places.{Places}
 use Rattle.survivors.specs.Items.{nearer_ordinal, place_map, ItemSurvives, Placed, ItemFollows}
@@ -39,8 +39,8 @@ module _ {x y : Places} (p : Part x y) where
     pub part_here : ItemHere x.shape x.bytes.now at
     part_here = rw (← p.shape, ← p.bytes, f.is) (items_first y.shape y.bytes.now y.run.count y.run.start f.some y.here)
 
-    pub part_bare : ItemHere shape.Bare x.bytes.now at
-    part_bare = item_bare x.bytes.now at x.shape part_here
+    pub part_number : ItemHere shape.Number x.bytes.now at
+    part_number = item_number x.bytes.now at x.shape part_here
 
   pub part_others : {z : Places} → Others y z → Part x z
   part_others o = record { bytes = o.bytes ∙ p.bytes; shape = o.shape ∙ p.shape }
@@ -83,8 +83,8 @@ module _ {x : Places} {k : ℕ} where
     found_end e = record { place = rw (none_left y e) at v.place; here = v.here }
 
     module _ {at : ℕ} (f : First y at) where
-      pub found_bare : ItemHere shape.Bare x.bytes.now at
-      found_bare = part_bare v.part f
+      pub found_number : ItemHere shape.Number x.bytes.now at
+      found_number = part_number v.part f
 
       module _ {z : Places} (o : Others y z) {n : ℕ} (e : n ≡ ordinal_in x.bytes.now at) where
         pub found_same : n ≡ k → Found x k (Some at) z
@@ -118,8 +118,8 @@ module _ {x : Places} {k : ℕ} where
     having_end e = sym (has_nil (ordinal_in x.bytes.now) ltb k) ∙ (rw (none_left y e) at v.rest)
 
     module _ {at : ℕ} (f : First y at) where
-      pub having_bare : ItemHere shape.Bare x.bytes.now at
-      having_bare = part_bare v.part f
+      pub having_number : ItemHere shape.Number x.bytes.now at
+      having_number = part_number v.part f
 
       module _ {n : ℕ} (e : n ≡ ordinal_in x.bytes.now at) where
         pub having_found : n ≡ k → true ≡ is_some (lookup (ordinal_in x.bytes.now) ltb k (place_map x))
@@ -173,8 +173,8 @@ module _ {x : Places} {after : Option ℕ} where
     nearing_end e = record { place = rw (none_left y e) at v.place; placed = v.placed }
 
     module _ {at : ℕ} (f : First y at) where
-      pub nearing_bare : ItemHere shape.Bare x.bytes.now at
-      nearing_bare = part_bare v.part f
+      pub nearing_number : ItemHere shape.Number x.bytes.now at
+      nearing_number = part_number v.part f
 
       -- t: the item takes its place
       module _ {z : Places} (o : Others y z) {n : ℕ} (e : n ≡ ordinal_in x.bytes.now at)
@@ -197,8 +197,8 @@ module _ {x : Places} {after : Option ℕ} where
         }
 
 -- what the code needs
-pub ruleset founds = (found_start, found_end, found_bare, found_other)
+pub ruleset founds = (found_start, found_end, found_number, found_other)
 
-pub ruleset havings = (having_start, having_end, having_bare, having_found, having_turn)
+pub ruleset havings = (having_start, having_end, having_number, having_found, having_turn)
 
-pub ruleset nearings = (nearing_start, nearing_end, nearing_bare)
+pub ruleset nearings = (nearing_start, nearing_end, nearing_number)
