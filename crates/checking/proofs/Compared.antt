@@ -1,6 +1,6 @@
 -- Two declarations under one name: kinds that differ are reported, and two of one kind are compared by its clause. Assumes nothing.
 use mathlib.Core.Path.{◌≡◌, refl, sym, ap, ◌∙◌}
-use mathlib.Core.List.{[], ◌∷◌, ◌++◌, append-nil}
+use mathlib.Core.List.{[], ◌∷◌, ◌++◌}
 use Prim.Native.Nat.{ℕ, zero, suc}
 use borrow.Author.Tests.{eq-eqb, ne_eqb}
 use Rattle.image.specs.Schema.{Decl as Declaration}
@@ -11,14 +11,13 @@ use Rattle.parts.specs.Numbers.{kind_number}
 use Rattle.parts.specs.declared.handles.Decl.{Decl}
 use Rattle.rules.specs.Clauses.{Context, kind_changed, compare_kind, compare_alike, compare_decls}
 use Rattle.types.specs.declared.Reading.{Reading}
-use Rattle.types.proofs.Besides.{none_last}
 use Rattle.lines.specs.Sites.{change_of}
 use Rattle.lines.specs.Reports.{Reports}
 use Rattle.lines.specs.declared.Report.{Report}
 use Rattle.lines.specs.declared.Site.{Site}
 use Rattle.lines.proofs.Reports.{reports_as, reports_then}
 use Rattle.items.specs.Items.{context_of}
-use Rattle.clauses.specs.Pairs.{of_first}
+use Rattle.clauses.specs.Pairs.{of_first, of_last}
 use Rattle.checking.specs.Decls.{of_kind, of_decls}
 
 module _ (old new : Decl) where
@@ -29,16 +28,18 @@ module _ (old new : Decl) where
   unfolding compare_decls
   kinds_differ n c e h = reports_as (rw (ne_eqb _ _ n) (sym e)) h
 
-  -- ---- of one kind: their widths, and then their clause
+  -- ---- of one kind: what is reported before their clause, this, and what is reported after it
 
-  kinds_agree : (reading : Reading) → (decl_of new).kind ≡ (decl_of old).kind → of_decls reading old new ≡ of_first reading old new ++ of_kind reading old new
+  kinds_agree : (reading : Reading) → (decl_of new).kind ≡ (decl_of old).kind
+      → of_decls reading old new ≡ of_first reading old new ++ (of_kind reading old new ++ of_last reading old new)
   unfolding compare_decls compare_alike
-  kinds_agree reading e =
-      rw (eq-eqb _ _ (sym e), none_last reading (decl_of old) (decl_of new), append-nil (of_kind reading old new))
+  kinds_agree reading e = rw (eq-eqb _ _ (sym e))
 
-  pub agree_reports : (decl_of new).kind ≡ (decl_of old).kind → {a b c : Report} → Reports a (of_first a.reading old new) b
-      → Reports b (of_kind b.reading old new) c → Reports a (of_decls a.reading old new) c
-  agree_reports e {a} g h = reports_as (kinds_agree a.reading e) (reports_then (λ (r : Reading). of_kind r old new) g h)
+  pub agree_reports : (decl_of new).kind ≡ (decl_of old).kind → {a b c d : Report} → Reports a (of_first a.reading old new) b
+      → Reports b (of_kind b.reading old new) c → Reports c (of_last c.reading old new) d → Reports a (of_decls a.reading old new) d
+  agree_reports e {a} g h k =
+      reports_as (kinds_agree a.reading e)
+      (reports_then (λ (r : Reading). of_kind r old new ++ of_last r old new) g (reports_then (λ (r : Reading). of_last r old new) h k))
 
   -- the clause of a kind
   pub kind_reports : {k : Kind} → kind_number k ≡ (decl_of old).kind → {l : Kind} → k ≡ l → {a b : Report}

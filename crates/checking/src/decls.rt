@@ -9,6 +9,7 @@ use clauses::enums::compare_enums;
 use clauses::flags::compare_flags;
 use clauses::messages::compare_messages;
 use clauses::newtypes::compare_newtypes;
+use clauses::tombstones::compare_last;
 use clauses::unions::compare_unions;
 use clauses::widths::compare_widths;
 use items::Side;
@@ -45,6 +46,7 @@ fn compare_decls(r: &mut Report<'_>, old: Decl<'_>, new: Decl<'_>)
     }
     compare_widths(r, old, new);
     compare_kind(r, old, new);
+    compare_last(r, old, new);
 }
 
 // A declaration of a side: a change, if none stands under its name on the other.

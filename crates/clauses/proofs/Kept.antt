@@ -15,13 +15,13 @@ use Rattle.parts.proofs.Promise.{message_listed, enum_listed, flags_listed, unio
 use Rattle.members.specs.Handles.{ItemsAt}
 use Rattle.members.specs.declared.handles.Item.{Item}
 use Rattle.members.specs.declared.handles.Items.{Items}
-use Rattle.rules.specs.Changes.{quoted}
+use Rattle.rules.specs.Changes.{Change, quoted}
 use Rattle.rules.specs.Clauses.{Context, compare_field_names, compare_types, compare_encodings, compare_deprecated, compare_fields, compare_field_sets, field_text, field_rules, union_rules, variant_decl}
 use Rattle.survivors.specs.Answers.{Among}
 use Rattle.survivors.specs.Runs.{item_of, items_of}
 use Rattle.survivors.proofs.Runs.{listed_hold}
+use Rattle.types.specs.Readings.{reading_of}
 use Rattle.types.specs.declared.Reading.{Reading}
-use Rattle.types.proofs.Besides.{none_after}
 use Rattle.details.specs.Details.{declaration_of}
 use Rattle.details.specs.declared.Scope.{Scope}
 use Rattle.lines.specs.Reports.{Reports}
@@ -93,10 +93,16 @@ module _ (reading : Reading) (x : Pair) {i j : Item} (g : Among x.old i) (h : Am
   pub variant_kept : (name : Bor Name) → x.of ≡ owner.Union name
       → (rules reading x).kept (item_of (shape x) i) (item_of (shape x) j)
       ≡ compare_field_sets (context_of reading i.image j.image) (variant_decl name.now (item_of shape.Variant i)) (item_of shape.Variant i).fields (item_of shape.Variant j).fields
+      ++ (reading_of reading).last_in (variant_decl name.now (item_of shape.Variant i)) (item_of shape.Variant i) (item_of shape.Variant j)
   variant_kept name e =
       by_variants (context_of reading x.old.image x.new.image) x.of name e i j
-      ∙ none_after reading _ _ _ _
-      ∙ ap (λ (r : Context). compare_field_sets r (variant_decl name.now (item_of shape.Variant i)) (item_of shape.Variant i).fields (item_of shape.Variant j).fields) (sym images)
+      ∙ ap (λ (r : Context). compare_field_sets r (variant_decl name.now (item_of shape.Variant i)) (item_of shape.Variant i).fields (item_of shape.Variant j).fields
+      ++ (reading_of reading).last_in (variant_decl name.now (item_of shape.Variant i)) (item_of shape.Variant i) (item_of shape.Variant j)) (sym images)
+
+-- what is reported of two variants after their fields
+pub last_told : (d : Name) (v w : VariantValue) {a b c : Report} {cs : List Change} → Reports a cs b → Reports b ((reading_of b.reading).last_in d v w) c
+    → Reports a (cs ++ (reading_of a.reading).last_in d v w) c
+last_told d v w = reports_then (λ (r : Reading). (reading_of r).last_in d v w)
 
 -- ---- the items of a declaration, or of a variant, are those of its run
 

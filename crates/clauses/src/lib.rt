@@ -1,4 +1,4 @@
-// The clauses over two declarations of one kind, under the names of compat.rs; and their widths.
+// The clauses over two declarations of one kind, under the names of compat.rs; and their widths and tombstones.
 #![tactic(auto)]
 
 pub mod enums;
@@ -7,5 +7,6 @@ pub mod flags;
 pub mod messages;
 pub mod newtypes;
 mod shared;
+pub mod tombstones;
 pub mod unions;
 pub mod widths;

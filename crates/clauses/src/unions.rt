@@ -7,6 +7,7 @@ ghost use Rattle.items.specs.declared.Owner.{Owner};
 ghost use Rattle.clauses.specs.Pairs.{of_unions};
 
 use crate::fields::compare_field_sets;
+use crate::tombstones::compare_last_in;
 use details::Scope;
 use items::pairs::Pair;
 use items::unmatched::unmatched_items;
@@ -26,12 +27,9 @@ fn kept_variant<'a>(r: &mut Report<'_>, union: &'a [u8], pair: Pair<'a>, item: I
     };
     let old = Variant { item };
     let new = Variant { item: found };
-    compare_field_sets(
-        r,
-        Scope::Variant(union, old.name()),
-        old.fields(),
-        new.fields(),
-    );
+    let scope = Scope::Variant(union, old.name());
+    compare_field_sets(r, scope, old.fields(), new.fields());
+    compare_last_in(r, scope, old, new);
 }
 
 // Two unions: variants removed, added, kept.

@@ -37,7 +37,7 @@ const MIXED: Fault = Fault {
     side: Side::Both,
 };
 
-// How types are read, and whether widths are reported.
+// How types are read, and whether widths and tombstones are reported.
 #[tactic(auto, unfolding(crate::specs::Policies::reading_in))]
 pub fn reading_of(policy: Policy) -> Reading
     ensures { result ≡ reading_in policy }
@@ -90,12 +90,16 @@ fn judge_aliases(old: Declarations<'_>, new: Declarations<'_>) -> Result<(), Fau
     refused_if(alias_pair(old, new), ALIAS_PAIR)
 }
 
-// Whether one of two images, or both, are of format 1, which stores no widths.
+// Whether one of two images, or both, are of format 1, which stores no widths, or one of them alone is of format 3, which stores what is struck off.
 #[tactic(auto, unfolding(rules::specs::Widths::mixed))]
 fn is_mixed(old: Image<'_>, new: Image<'_>) -> bool
     ensures { result ≡ mixed (schema_in old.entry) (schema_in new.entry) }
 {
-    matches!(old.format(), Format::One) || matches!(new.format(), Format::One)
+    let was = old.format();
+    let is = new.format();
+    matches!(was, Format::One)
+        || matches!(is, Format::One)
+        || matches!(was, Format::Three) != matches!(is, Format::Three)
 }
 
 // 16.

@@ -46,5 +46,5 @@ pub fn print_help(rt: &(impl Print + Eprint)) {
 
 // The version is that of the header for C.
 pub fn print_version(rt: &(impl Print + Eprint)) {
-    warn_unless(rt, println!(rt; "vexil_compat 2.0"));
+    warn_unless(rt, println!(rt; "vexil_compat 2.1"));
 }

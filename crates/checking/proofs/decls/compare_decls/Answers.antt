@@ -19,4 +19,8 @@ compare_kind-requires c =
 pub returns : goal.returns
 returns c =
     agree_reports c.args.old c.args.new (sym c.kind.ensures ∙ sym (ap kind_number (differs_false the_type tt _ _ (sym c.ne.ensures ∙ c.if-ne.false))) ∙ c.kind-kind.ensures)
-    c.compare_widths.ensures c.compare_kind.ensures
+    c.compare_widths.ensures c.compare_kind.ensures c.compare_last.ensures
+
+pub compare_last-requires : goal.compare_last-requires
+compare_last-requires c =
+    sym c.kind.ensures ∙ sym (ap kind_number (differs_false the_type tt _ _ (sym c.ne.ensures ∙ c.if-ne.false))) ∙ c.kind-kind.ensures
