@@ -16,7 +16,7 @@ use Rattle.rules.specs.Mended.{mended}
 use Rattle.rules.proofs.Answer.{plain_numbered}
 use Rattle.rules.proofs.Refusals.{policy_refusals, report_refusals, clauses_told, verdict_refusals}
 use Rattle.rules.proofs.Bound.{Bounded, selector_bound, plain_bounded}
-use Rattle.rules.proofs.Unreported.{Ordinary, clauses_ordinary, no_ordinal_changed, no_width_changed}
+use Rattle.rules.proofs.Unreported.{Ordinary, clauses_ordinary, no_ordinal_changed, no_mended_changed}
 use Rattle.rules.proofs.Calls.{room_enough_lem, same_text_lem, rest_stays_lem}
 use Rattle.rules.proofs.Edges.{edges}
 use Rattle.rules.proofs.Pinned.{pinned}
@@ -28,15 +28,17 @@ use Rattle.rules.proofs.ImportEdges.{import_edges}
 use Rattle.rules.proofs.PinnedImports.{pinned_imports}
 use Rattle.rules.proofs.Ignored.{earlier_ignore}
 use Rattle.rules.proofs.PinnedIgnored.{pinned_ignored}
+use Rattle.rules.proofs.Tombstones.{struck_off}
 use Rattle.rules.proofs.Mended.{three_answers, mended_bounded, mended_ordinary, otherwise, mended_distance_rule}
 use Rattle.rules.proofs.MendedRefusals.{mended_numbered, mended_told_lem, mended_refusals}
 use Rattle.rules.proofs.MendedEdges.{mended_edges}
+use Rattle.rules.proofs.TombstoneEdges.{tombstone_edges}
 use Rattle.rules.proofs.PinnedMended.{pinned_mended}
 use Rattle.listing.proofs.Refusals.{listing_refusals}
 use Rattle.listing.proofs.Ignored.{ignores}
 use Rattle.refiling.proofs.FilingOrder.{filing_order}
 use Rattle.refiling.proofs.Relation.{refilings}
-use Rattle.claims.specs.Claims.{RefusingTwo, ComparingTwo, Refusing, Comparing, Importing, Mending, Widening, Claims}
+use Rattle.claims.specs.Claims.{RefusingTwo, ComparingTwo, Refusing, Comparing, Importing, Mending, Widening, Striking, Claims}
 
 -- ---- of two images, by any verdict
 
@@ -109,9 +111,12 @@ widening = record {
   ignored = earlier_ignore;
   listing = ignores;
   pinned = pinned_ignored;
-  plain_count = no_width_changed view_of same_type;
-  imports_count = no_width_changed imports_view same_type;
+  plain_counts = no_mended_changed view_of same_type;
+  imports_counts = no_mended_changed imports_view same_type;
 }
+
+striking : Striking
+striking = record { struck_off = struck_off; edges = tombstone_edges }
 
 pub claims : Claims
 claims = record {
@@ -121,6 +126,7 @@ claims = record {
   importing = importing;
   mending = mending;
   widening = widening;
+  striking = striking;
   filing = filing_order;
   filings = refilings;
 }

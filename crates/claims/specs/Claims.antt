@@ -6,7 +6,7 @@
 -- listing call returns `text_length` of `outcome image room` and leaves `written` of it. That each call does so, for all bytes, buffers and
 -- selectors, within bounds and to an end, is its contract, which has no precondition. The value of this page is proofs/Claims.antt. Assumes
 -- nothing.
-use Rattle.std.specs.Prelude.{◌≡◌, false, ◌↔◌, ℕ, ◌^◌, ◌≤◌, ◌<◌, length, take, drop}
+use Rattle.std.specs.Prelude.{◌≡◌, ◌↔◌, ℕ, ◌^◌, ◌≤◌, ◌<◌, length, take, drop}
 use Rattle.maps.specs.Lists.{All}
 use Rattle.image.specs.Schema.{Ty, Schema}
 use Rattle.image.specs.Parse.{ok, no}
@@ -15,7 +15,7 @@ use Rattle.refusals.specs.Refusals.{ExactlyIf}
 use Rattle.written.specs.Limits.{Each, Byte, Within}
 use Rattle.written.specs.Writer.{write}
 use Rattle.rules.specs.Survivors.{view_of}
-use Rattle.rules.specs.Changes.{kind_at, ordinal_kinds, WidthChanged}
+use Rattle.rules.specs.Changes.{ordinal_kinds}
 use Rattle.rules.specs.Clauses.{changes}
 use Rattle.rules.specs.Answer.{Policy, compared, outcome, verdict_by, returned_by, leaves_by, plain_reading, plain}
 use Rattle.rules.specs.Refusals.{AcceptedPair, AliasPair, PolicyRefusals, ReportRefusals, VerdictRefusals}
@@ -26,11 +26,13 @@ use Rattle.rules.specs.Reached.{ReachedIs}
 use Rattle.rules.specs.Imports.{imports_view, imports, Imported}
 use Rattle.rules.specs.ImportEdges.{ImportEdges}
 use Rattle.rules.specs.PinnedImports.{PinnedImports}
-use Rattle.rules.specs.Mended.{ThreeAnswers, mended, Otherwise}
+use Rattle.rules.specs.Tombstones.{uses_struck, StruckOff}
+use Rattle.rules.specs.Mended.{ThreeAnswers, mended, mended_kinds, Otherwise}
 use Rattle.rules.specs.MendedRefusals.{Mixed, MendedRefusals}
 use Rattle.rules.specs.Ignored.{EarlierIgnore}
 use Rattle.rules.specs.PinnedIgnored.{PinnedIgnored}
 use Rattle.rules.specs.MendedEdges.{MendedEdges}
+use Rattle.rules.specs.TombstoneEdges.{TombstoneEdges}
 use Rattle.rules.specs.PinnedMended.{PinnedMended}
 use Rattle.listing.specs.Refusals.{ListingRefusals}
 use Rattle.listing.specs.Ignored.{ListingIgnores}
@@ -105,29 +107,42 @@ pub record Importing : Type 0 where
 pub record Mending : Type 0 where
   -- when each answer is given, and that the verdict of 01, and so the one with imports, reads the third as different
   pub answers : (t u : Ty) → ThreeAnswers t u
-  -- "A mended verdict, otherwise by the clauses of 01 and with its own report, reads it as equal": the demands hold of it, with R-6's 16 and
-  -- WidthChanged; and where it does not refuse by 16, no width has changed, and one image has no vector, quaternion or matrix in a compared
-  -- type, it is that of 01
+  -- "A mended verdict, otherwise by the clauses of 01 and with its own report, reads it as equal": the demands hold of it, with R-6's and
+  -- R-10's 16, WidthChanged, TombstoneReused and TombstoneDropped; and where it does not refuse by 16, reports none of these, and one image has
+  -- no vector, quaternion or matrix in a compared type, it is that of 01
   pub refusing : RefusingTwo mended MendedRefusals
   pub comparing : ComparingTwo mended (λ x y. ¬ Mixed x y × ¬ AliasPair view_of x y)
   pub otherwise : Otherwise
   -- "there every image that gets a verdict against itself is at distance 0 from itself. The chain rule covers the mended verdict as well.";
-  -- and the swap of counts
-  pub distance : DistanceRule (verdict_by mended) (λ a. false)
+  -- R-10: "one that strikes off a number and uses it in the same surviving declaration, or surviving variant of one, is now at distance 2 from
+  -- itself; every other one stays at 0"; and the swap of counts, but of R-10's two
+  pub distance : DistanceRule (verdict_by mended) uses_struck
   -- its edges, and images with vectors by the three verdicts, by computation
   pub edges : MendedEdges
   pub pinned : PinnedMended
 
--- R-6: "Widths written out." What the mended verdict makes of widths is above.
+-- none of these kinds is counted
+abbrev pub Uncounted : Policy → Type 0
+Uncounted policy = (old new : Image) → All (λ kind. count_between (verdict_by policy) kind old new ≡ 0) mended_kinds
+
+-- R-6: "Widths written out."; R-10: "Struck-off ordinals." What the mended verdict makes of widths and tombstones is above.
 pub record Widening : Type 0 where
-  -- "The earlier verdicts accept both formats and ignore the width.": two images that hold the same but for them get the same answers from
-  -- every earlier call, on either side of any pair, and from the listing; and such images, by computation
+  -- "The earlier verdicts accept both formats and ignore the width.", they "skip tombstones": two images that hold the same but for format,
+  -- widths and tombstones get the same answers from every earlier call, on either side of any pair, and from the listing; and such images, by
+  -- computation
   pub ignored : EarlierIgnore
   pub listing : ListingIgnores
   pub pinned : PinnedIgnored
-  -- "The list of counts gains this name at its end, always 0 in the earlier verdicts."
-  pub plain_count : (old new : Image) → count_between (verdict_by plain) (kind_at WidthChanged) old new ≡ 0
-  pub imports_count : (old new : Image) → count_between (verdict_by imports) (kind_at WidthChanged) old new ≡ 0
+  -- "The list of counts gains this name at its end, always 0 in the earlier verdicts."; R-10's two "are 0 in the earlier verdicts"
+  pub plain_counts : Uncounted plain
+  pub imports_counts : Uncounted imports
+
+-- R-10: "Struck-off ordinals." That the mended verdict reports them is above, and that the earlier ones skip them.
+pub record Striking : Type 0 where
+  -- what is reported of two declarations or variants, when nothing is, that no release in the middle hides a reuse; and what "uses" means
+  pub struck_off : StruckOff
+  -- its edges, by computation
+  pub edges : TombstoneEdges
 
 pub record Claims : Type 0 where
   pub refusing : Refusing
@@ -136,6 +151,7 @@ pub record Claims : Type 0 where
   pub importing : Importing
   pub mending : Mending
   pub widening : Widening
+  pub striking : Striking
   -- R-13: filing order must not matter; and filing anew is an equivalence
   pub filing : FilingOrder
   pub filings : Refilings
