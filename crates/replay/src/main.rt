@@ -27,7 +27,7 @@ fn replay_file(rt: &impl Print, mut file: impl Read + Drop) -> Result<Tally, Bro
     let pairs = read_u32(&mut file)?;
     let counts = read_u32(&mut file)? as usize;
     let _lengths: [u8; 16] = read_array(&mut file)?;
-    if magic != *b"VEXANSW5" || COUNTS < counts {
+    if magic != *b"VEXANSW6" || COUNTS < counts {
         return Err(Broken);
     }
     Run::new(file, counts).replay(rt, pairs)

@@ -93,7 +93,7 @@ impl Answer {
 }
 
 /// A verdict on two images: that of 01, the one with imports, or the mended one
-///
+///
 #[derive(Clone, Copy, PartialEq, Debug)]
 pub enum Verdict {
     Plain,
@@ -139,6 +139,7 @@ impl Verdict {
             Verdict::Mended => Reading {
                 types_equal: mended::types_equal,
                 width_change: mended::width_change,
+                tombstone_changes: mended::tombstone_changes,
                 mixed: mended::mixed,
                 ..model::PLAIN
             },
@@ -223,8 +224,8 @@ fn compare(verdict: Verdict, old: &Schema, new: &Schema) -> Result<Answer, Strin
     }
 }
 
-/// How the model's comparison by a verdict differs from what `check` says, which knows
-/// of no widths.
+/// How the model's comparison by a verdict differs from what `check` says, which compares
+/// neither widths nor tombstones.
 pub fn difference(
     verdict: Verdict,
     old: &Schema,

@@ -6,7 +6,7 @@ use crate::changes::COUNTS;
 use crate::listing::listing;
 use std::collections::BTreeSet;
 
-const MAGIC: &[u8; 8] = b"VEXANSW5";
+const MAGIC: &[u8; 8] = b"VEXANSW6";
 
 /// A pair with its answer as the file holds it.
 #[derive(Clone, PartialEq, Debug)]

@@ -23,13 +23,17 @@ fn read_declaration(format: u16, body: &mut Cursor, kind: u8) -> Read<Declaratio
         _ => body.name("declaration name")?,
     };
     match read_rest(format, body, kind) {
-        Ok(body) => Ok(Declaration { name, body }),
+        Ok((body, tombstones)) => Ok(Declaration {
+            name,
+            body,
+            tombstones,
+        }),
         Err(refusal) => Err(refusal.of_name(name)),
     }
 }
 
 /// What follows the name, up to the body's end.
-fn read_rest(format: u16, body: &mut Cursor, kind: u8) -> Read<Body> {
+fn read_rest(format: u16, body: &mut Cursor, kind: u8) -> Read<(Body, Vec<u32>)> {
     let read = match kind {
         0 => Body::Message(read_marks(body, "marks")?, read_fields(body)?),
         1 => Body::Enum(
@@ -41,15 +45,19 @@ fn read_rest(format: u16, body: &mut Cursor, kind: u8) -> Read<Body> {
             read_width(format, body, |bytes| WIRE_BYTES.contains(&bytes))?,
             read_items(body, "bit name")?,
         ),
-        3 => Body::Union(read_list(body, "count", read_variant)?),
+        3 => Body::Union(read_list(body, "count", |body| read_variant(format, body))?),
         4 => Body::Newtype(read_type(body, 1)?),
         5 => Body::Config,
         GENERIC_ALIAS => Body::GenericAlias,
         7 => Body::Trait,
         _ => Body::Impl,
     };
+    let tombstones = match kind < NUMBERING {
+        true => read_tombstones(format, body)?,
+        false => Vec::new(),
+    };
     match body.left() {
-        0 => Ok(read),
+        0 => Ok((read, tombstones)),
         left => Err(Refusal::new(BODY, "left over", left as u64).at(body.at())),
     }
 }
@@ -72,11 +80,20 @@ fn read_items(body: &mut Cursor, name: &'static str) -> Read<Vec<Item>> {
     })
 }
 
-fn read_variant(body: &mut Cursor) -> Read<Variant> {
+/// The tombstones, where the format has them.
+fn read_tombstones(format: u16, body: &mut Cursor) -> Read<Vec<u32>> {
+    match has_tombstones(format) {
+        true => read_list(body, "tombstone count", |body| body.u32("tombstone")),
+        false => Ok(Vec::new()),
+    }
+}
+
+fn read_variant(format: u16, body: &mut Cursor) -> Read<Variant> {
     Ok(Variant {
         ordinal: body.u32("variant ordinal")?,
         name: body.name("union variant name")?,
         fields: read_list(body, "variant's field count", read_field)?,
+        tombstones: read_tombstones(format, body)?,
     })
 }
 

@@ -1,8 +1,8 @@
-//! A change, with the names of compat.rs and, behind them, that of document 02.
+//! A change, with the names of compat.rs and, behind them, those of document 02.
 
 macro_rules! change_kinds {
     ($($kind:ident)*) => {
-        /// The names of `ChangeKind`, in its order, and then `WidthChanged`, which R-6 adds;
+        /// The names of `ChangeKind`, in its order, and then those that add;
         /// the counts stand in this order.
         #[derive(Clone, Copy, PartialEq, Eq, PartialOrd, Ord, Debug)]
         pub enum ChangeKind {
@@ -33,15 +33,24 @@ change_kinds! {
     FlagsBitRemoved
     FlagsBitOrdinalChanged
     WidthChanged
+    TombstoneReused
+    TombstoneDropped
 }
 
 /// How many counts a verdict has.
-pub const COUNTS: usize = 19;
+pub const COUNTS: usize = 21;
+
+/// The kinds that `check` does not know of, from document 02.
+pub const MENDED: [ChangeKind; 3] = [
+    ChangeKind::WidthChanged,
+    ChangeKind::TombstoneReused,
+    ChangeKind::TombstoneDropped,
+];
 
 /// The kinds that document 01 has, in their order: those of `check`.
 pub fn of_check() -> impl Iterator<Item = ChangeKind> {
     let kinds = CHANGE_KINDS.into_iter();
-    kinds.filter(|kind| *kind != ChangeKind::WidthChanged)
+    kinds.filter(|kind| !MENDED.contains(kind))
 }
 
 /// The kinds that no clause reports.
@@ -109,7 +118,7 @@ impl Comparison {
     /// not those of the changes.
     pub fn known_to_check(&self) -> Option<Comparison> {
         let changes = self.changes.iter();
-        let known = changes.filter(|change| change.kind != ChangeKind::WidthChanged);
+        let known = changes.filter(|change| !MENDED.contains(&change.kind));
         let known = Comparison::of(known.cloned().collect());
         (*self == Comparison::of(self.changes.clone())).then_some(known)
     }

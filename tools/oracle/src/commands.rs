@@ -7,7 +7,7 @@ use crate::edits::{damaged, edited, too_deep};
 use crate::formats::{any_formats, in_formats};
 use crate::limits::IMAGE_BYTES;
 use crate::listing::listing;
-use crate::made::pair_for;
+use crate::made::{pair_for, Formats};
 use crate::random::random_schema;
 use crate::reader::read_image;
 use crate::refiling::{refiled, repeat};
@@ -160,7 +160,7 @@ impl Tally {
     }
 }
 
-/// Pairs of random releases of both formats, some of them damaged, by every verdict
+/// Pairs of random releases of all formats, some of them damaged, by every verdict
 /// through the model and `check`.
 pub fn random(seed: u64, count: u64) -> Outcome {
     let mut rng = Rng::new(seed);
@@ -205,6 +205,10 @@ pub fn random_made(verdict: Verdict, seed: u64, count: u64) -> Outcome {
 
 /// A release and the next one, or another, each of any format; some of them damaged.
 pub fn random_pair(rng: &mut Rng) -> (Vec<u8>, Vec<u8>) {
+    random_pair_in(rng, any_formats)
+}
+
+pub fn random_pair_in(rng: &mut Rng, formats: Formats) -> (Vec<u8>, Vec<u8>) {
     let most = *rng.pick(&[1, 3, 8, 24]);
     let old = random_schema(rng, most);
     let mut new = match rng.once_in(8) {
@@ -214,7 +218,7 @@ pub fn random_pair(rng: &mut Rng) -> (Vec<u8>, Vec<u8>) {
     if rng.once_in(60) {
         too_deep(rng, &mut new);
     }
-    let formats = any_formats(rng);
+    let formats = formats(rng);
     let [mut old, mut new] = in_formats(rng, [old, new], formats).map(|schema| image(&schema));
     if rng.once_in(5) {
         old = damaged(rng, &old);

@@ -1,17 +1,40 @@
-//! Random formats and widths: the generators of releases make them in the first format,
-//! without widths.
+//! Random formats, widths and tombstones: the generators of releases make them in the first
+//! format, without either.
 
 use crate::rng::Rng;
 use crate::schema::*;
+use crate::struck::strike_off;
 use std::collections::BTreeMap;
 
 pub const SECOND_FORMAT: u16 = 2;
+pub const THIRD_FORMAT: u16 = 3;
 
 /// Wire bits that come often; any other byte may.
 const WIRE_BITS: [u8; 8] = [0, 1, 7, 8, 16, 32, 254, 255];
 
-/// All of the second format, which every verdict takes, or each of either.
+/// All of one format that every verdict takes, or each of any.
 pub fn any_formats<const N: usize>(rng: &mut Rng) -> [u16; N] {
+    match rng.below(4) {
+        0 => [SECOND_FORMAT; N],
+        1 => [THIRD_FORMAT; N],
+        _ => [(); N].map(|_| 1 + rng.below(3) as u16),
+    }
+}
+
+/// The third format, or the second, but for one release or all now and then.
+pub fn mostly_third<const N: usize>(rng: &mut Rng) -> [u16; N] {
+    let mut formats = [THIRD_FORMAT; N];
+    match rng.below(16) {
+        0 => formats = [(); N].map(|_| 1 + rng.below(3) as u16),
+        1 => formats[rng.below(N)] = 1 + rng.below(2) as u16,
+        2..=5 => formats = mostly_second(rng),
+        _ => {}
+    }
+    formats
+}
+
+/// The same of the first two formats.
+pub fn first_or_second<const N: usize>(rng: &mut Rng) -> [u16; N] {
     let second = rng.once_in(2);
     [(); N].map(|_| match second || rng.once_in(2) {
         true => SECOND_FORMAT,
@@ -31,7 +54,7 @@ pub fn mostly_second<const N: usize>(rng: &mut Rng) -> [u16; N] {
 }
 
 /// The releases in these formats. From one to the next an enum or flags of one name keep
-/// their width, mostly.
+/// their width, mostly, and what numbers its items keeps its tombstones.
 pub fn in_formats<const N: usize>(
     rng: &mut Rng,
     releases: [Schema; N],
@@ -39,7 +62,7 @@ pub fn in_formats<const N: usize>(
 ) -> [Schema; N] {
     let mut widths = BTreeMap::new();
     let mut formats = formats.into_iter();
-    releases.map(|mut release| {
+    let mut releases = releases.map(|mut release| {
         release.format = formats.next().expect("there are as many");
         for declaration in release.registry.iter_mut().flatten() {
             let key = (declaration.kind(), declaration.name.clone());
@@ -53,7 +76,9 @@ pub fn in_formats<const N: usize>(
             }
         }
         release
-    })
+    });
+    strike_off(rng, &mut releases);
+    releases
 }
 
 /// A width that enums or flags may have.

@@ -29,6 +29,7 @@ mod refusal;
 mod rng;
 mod schema;
 mod selftest;
+mod struck;
 mod text;
 mod types;
 mod writer;

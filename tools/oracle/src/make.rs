@@ -23,7 +23,8 @@ const WIRE_BYTES_UNASKED: u8 = 1;
 
 impl Schema {
     /// The same in another format. Of enums and flags without a width, where the format
-    /// has one, an enum has 8 wire bits and flags have 1 wire byte.
+    /// has one, an enum has 8 wire bits and flags have 1 wire byte. Tombstones go where the
+    /// format has none.
     pub fn in_format(mut self, format: u16) -> Schema {
         self.format = format;
         for declaration in self.registry.iter_mut().flatten() {
@@ -33,6 +34,9 @@ impl Schema {
             };
             if let Some(width) = declaration.width_mut() {
                 *width = has_widths(format).then_some(width.unwrap_or(unasked));
+            }
+            if !has_tombstones(format) {
+                declaration.strike_nothing();
             }
         }
         self
@@ -60,6 +64,7 @@ fn declaration(name: &str, body: Body) -> Declaration {
     Declaration {
         name: name.to_string(),
         body,
+        tombstones: Vec::new(),
     }
 }
 
@@ -68,6 +73,28 @@ impl Declaration {
     pub fn of_width(mut self, width: u8) -> Declaration {
         let place = self.width_mut().expect("enums and flags have a width");
         *place = Some(width);
+        self
+    }
+
+    /// With these tombstones, for a schema of a format that has them.
+    pub fn striking(mut self, tombstones: &[u32]) -> Declaration {
+        self.tombstones = tombstones.to_vec();
+        self
+    }
+
+    /// Without tombstones, its own and those of variants.
+    fn strike_nothing(&mut self) {
+        self.tombstones.clear();
+        if let Body::Union(variants) = &mut self.body {
+            variants.iter_mut().for_each(|v| v.tombstones.clear());
+        }
+    }
+}
+
+impl Variant {
+    /// The same of a variant.
+    pub fn striking(mut self, tombstones: &[u32]) -> Variant {
+        self.tombstones = tombstones.to_vec();
         self
     }
 }
@@ -143,6 +170,7 @@ pub fn variant(ordinal: u32, name: &str, fields: Vec<Field>) -> Variant {
         ordinal,
         name: name.to_string(),
         fields,
+        tombstones: Vec::new(),
     }
 }
 

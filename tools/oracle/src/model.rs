@@ -1,9 +1,10 @@
 //! The clauses of document 01 in its order: names by byte order, ordinals
 //! rising. Written from 01; `vexil` holds it against the real `check`. Which
-//! declarations are compared, when their types are equal, and what becomes of formats
-//! and widths, is for the caller to say: `PLAIN` is 01's way.
+//! declarations are compared, when their types are equal, and what becomes of formats,
+//! widths and tombstones, is for the caller to say: `PLAIN` is 01's way.
 
 use crate::changes::{Bump, Change, ChangeKind, Comparison};
+use crate::mended::Numbers;
 use crate::refusal::{ALIAS_PAIR, MIXED};
 use crate::schema::*;
 use crate::types::{encoding_display, type_display, types_equal};
@@ -24,6 +25,9 @@ pub type TypesEqual = fn(&Schema, &Type, &Schema, &Type) -> bool;
 /// The widths of two declarations of one name and kind, if they are reported as changed.
 pub type WidthChange = fn(&Declaration, &Declaration) -> Option<[u8; 2]>;
 
+/// Which tombstones are reported as reused, and which as dropped.
+pub type TombstoneChanges = fn(&Numbers) -> [Vec<u32>; 2];
+
 /// Whether two accepted images are refused by 16.
 pub type Mixed = fn(&Schema, &Schema) -> bool;
 
@@ -33,6 +37,7 @@ pub struct Reading {
     pub standing: Standing,
     pub types_equal: TypesEqual,
     pub width_change: WidthChange,
+    pub tombstone_changes: TombstoneChanges,
     pub mixed: Mixed,
 }
 
@@ -40,6 +45,7 @@ pub const PLAIN: Reading = Reading {
     standing: surviving_declarations,
     types_equal,
     width_change: |_, _| None,
+    tombstone_changes: |_| [Vec::new(), Vec::new()],
     mixed: |_, _| false,
 };
 
@@ -176,6 +182,22 @@ impl Clauses<'_> {
             // Config, trait and impl are silent; an alias pair is refused before.
             _ => {}
         }
+        let used = [old.used(), new.used()];
+        let struck = [&old.tombstones[..], &new.tombstones];
+        self.compare_tombstones(name, &Numbers { used, struck });
+    }
+
+    /// Last in a declaration, or in a union's variant.
+    fn compare_tombstones(&mut self, declaration: &str, numbers: &Numbers) {
+        let [reused, dropped] = (self.reading.tombstone_changes)(numbers);
+        for number in reused {
+            let detail = format!("tombstone @{number} was reused");
+            self.report((TombstoneReused, Major), declaration, None, detail);
+        }
+        for number in dropped {
+            let detail = format!("tombstone @{number} was dropped");
+            self.report((TombstoneDropped, Major), declaration, None, detail);
+        }
     }
 
     /// What is gone, then what came. Whatever is gone is Major.
@@ -274,6 +296,9 @@ impl Clauses<'_> {
         for (_, o, n) in kept(&old, &new) {
             let declaration = format!("{name}::{}", o.name);
             self.compare_field_sets(&declaration, &o.fields, &n.fields);
+            let used = [ordinals(&o.fields), ordinals(&n.fields)];
+            let struck = [&o.tombstones[..], &n.tombstones];
+            self.compare_tombstones(&declaration, &Numbers { used, struck });
         }
     }
 

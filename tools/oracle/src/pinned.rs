@@ -33,7 +33,7 @@ pub enum Said {
     /// That there is a verdict.
     Verdict,
     /// That both are accepted, and hold the same but for format and widths.
-    SameUnsized,
+    SameStripped,
 }
 
 #[derive(Clone, PartialEq, Debug)]
@@ -167,7 +167,7 @@ fn said<'a>(field: &[&'a str]) -> Result<Vec<([&'a str; 2], Verdict, Said)>, Str
             ([*old, *new], asked(OF, call)?, count)
         }
         ["Verdict", call, old, new] => ([*old, *new], asked(OF, call)?, Said::Verdict),
-        ["SameUnsized", old, new] => ([*old, *new], Verdict::Plain, Said::SameUnsized),
+        ["SameStripped", old, new] => ([*old, *new], Verdict::Plain, Said::SameStripped),
         ["Steps", call, first, "(", rest @ ..] => {
             let verdict = asked(OF, call)?;
             let chain: Vec<&str> = [*first].into_iter().chain(list(rest)?).collect();

@@ -1,5 +1,5 @@
-//! What an image holds, in the terms of document 01 and, of formats and widths, of
-//! document 02. The reader makes it, the model compares it, the writer turns it back
+//! What an image holds, in the terms of document 01 and, of formats, widths and
+//! tombstones, of document 02. The reader makes it, the model compares it, the writer turns it back
 //! into bytes.
 
 #[derive(Clone, PartialEq, Debug)]
@@ -19,6 +19,12 @@ pub const FIRST_FORMAT: u16 = 1;
 /// Whether enums and flags have a width in images of this format.
 pub fn has_widths(format: u16) -> bool {
     format >= 2
+}
+
+/// Whether messages, enums, flags, unions and their variants have tombstones in images of
+/// this format.
+pub fn has_tombstones(format: u16) -> bool {
+    format >= 3
 }
 
 /// An image that holds nothing, of the first format.
@@ -45,6 +51,9 @@ pub struct Declaration {
     /// Empty for an impl.
     pub name: String,
     pub body: Body,
+    /// The numbers that are struck off, as stored: of messages, enums, flags and unions, in
+    /// a format that has them.
+    pub tombstones: Vec<u32>,
 }
 
 #[derive(Clone, PartialEq, Debug)]
@@ -79,6 +88,8 @@ pub const KIND_NAMES: [&str; 9] = [
     "impl",
 ];
 
+/// The kinds from 0 on that number what they hold: message, enum, flags, union.
+pub const NUMBERING: u8 = 4;
 pub const GENERIC_ALIAS: u8 = 6;
 pub const IMPL: u8 = 8;
 
@@ -95,6 +106,22 @@ impl Declaration {
             Body::GenericAlias => GENERIC_ALIAS,
             Body::Trait => 7,
             Body::Impl => IMPL,
+        }
+    }
+
+    /// Whether it has tombstones, in a format that has them.
+    pub fn strikes_off(&self) -> bool {
+        self.kind() < NUMBERING
+    }
+
+    /// The numbers that it uses: of fields, variants or bits; a variant's fields are none
+    /// of the union's.
+    pub fn used(&self) -> Vec<u32> {
+        match &self.body {
+            Body::Message(_, fields) => ordinals(fields),
+            Body::Enum(_, _, items) | Body::Flags(_, items) => ordinals(items),
+            Body::Union(variants) => ordinals(variants),
+            _ => Vec::new(),
         }
     }
 
@@ -139,6 +166,8 @@ pub struct Variant {
     pub ordinal: u32,
     pub name: String,
     pub fields: Vec<Field>,
+    /// As those of a declaration; of the variant's fields.
+    pub tombstones: Vec<u32>,
 }
 
 #[derive(Clone, PartialEq, Debug)]
@@ -172,6 +201,10 @@ macro_rules! numbered {
 }
 
 numbered!(Item Variant Field);
+
+pub fn ordinals<T: Numbered>(items: &[T]) -> Vec<u32> {
+    items.iter().map(Numbered::ordinal).collect()
+}
 
 #[derive(Clone, Copy, PartialEq, Debug, Default)]
 pub struct Encoding {

@@ -101,11 +101,27 @@ pub fn body(format: u16, declaration: &Declaration) -> Vec<u8> {
         }
         Body::Union(list) => {
             bytes.extend(count(list));
-            bytes.extend(list.iter().flat_map(variant));
+            bytes.extend(list.iter().flat_map(|one| variant(format, one)));
         }
         Body::Newtype(inner) => bytes.extend(ty(inner)),
         Body::Config | Body::GenericAlias | Body::Trait | Body::Impl => {}
     }
+    let list = &declaration.tombstones;
+    match declaration.strikes_off() {
+        true => bytes.extend(tombstones(format, list)),
+        false => assert!(list.is_empty(), "tombstones of another kind"),
+    }
+    bytes
+}
+
+/// Tombstones stand exactly where the format has them.
+fn tombstones(format: u16, list: &[u32]) -> Vec<u8> {
+    if !has_tombstones(format) {
+        assert!(list.is_empty(), "tombstones in format {format}");
+        return Vec::new();
+    }
+    let mut bytes = count(list).to_vec();
+    bytes.extend(list.iter().flat_map(|number| number.to_le_bytes()));
     bytes
 }
 
@@ -132,9 +148,10 @@ fn items(list: &[Item]) -> Vec<u8> {
     bytes
 }
 
-fn variant(variant: &Variant) -> Vec<u8> {
+fn variant(format: u16, variant: &Variant) -> Vec<u8> {
     let mut bytes = start(variant);
     bytes.extend(fields(&variant.fields));
+    bytes.extend(tombstones(format, &variant.tombstones));
     bytes
 }
 

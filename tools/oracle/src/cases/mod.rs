@@ -21,6 +21,7 @@ mod refiled;
 mod repeats;
 pub mod rich;
 pub mod sizes;
+mod tombstones;
 mod typing;
 mod unions;
 mod widths;
@@ -74,6 +75,7 @@ pub fn all(seed: u64) -> Vec<Case> {
     // What later files pin comes after what was there before them.
     pinned::add(&mut cases, RECORDS);
     widths::add(&mut cases, seed, by_hand);
+    tombstones::add(&mut cases, seed);
     cases.list
 }
 

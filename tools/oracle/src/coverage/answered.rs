@@ -2,7 +2,7 @@
 
 use super::{Facts, Rows};
 use crate::answer::{Pair, Side};
-use crate::changes::{ChangeKind, CHANGE_KINDS, NEVER};
+use crate::changes::{ChangeKind, CHANGE_KINDS, MENDED, NEVER};
 use crate::limits::REPORT_BYTES;
 use crate::refusal::FULL;
 
@@ -84,7 +84,7 @@ pub fn rows(rows: &mut Rows) {
 
 fn changes(rows: &mut Rows) {
     for kind in CHANGE_KINDS {
-        if NEVER.contains(&kind) || kind == ChangeKind::WidthChanged {
+        if NEVER.contains(&kind) || MENDED.contains(&kind) {
             rows.never(format!("change {kind:?}"));
             continue;
         }

@@ -47,9 +47,12 @@ pub fn rows(rows: &mut Rows) {
             }
         }
     }
+    // One that is too long is large, and not of each format beside each.
+    for (format, beside) in [(1, 1), (1, 2), (3, 3)] {
+        rows.sides(|side| answers_alone(1, side, format, beside));
+    }
     for beside in FORMATS {
-        rows.sides(|side| answers_alone(1, side, 1, beside));
-        rows.sides(|side| answers_alone(3, side, 3, beside));
+        rows.sides(|side| answers_alone(3, side, 4, beside));
     }
     rows.never(ANOTHER_NUMBER);
     rows.one(LONG_BY_01);

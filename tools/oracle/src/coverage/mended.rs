@@ -3,9 +3,9 @@
 
 use super::alike::{self, Met};
 use super::another::{self, BUMPS};
-use super::widths;
+use super::{tombstones, widths};
 use crate::answer::{Answer, Pair, Verdict};
-use crate::changes::{Bump, ChangeKind};
+use crate::changes::{Bump, ChangeKind, MENDED};
 use crate::imports::{compared_types, reached};
 use crate::mended::{compared, holds_geometric, Compared};
 use crate::model::{kept, surviving_declarations, survivors};
@@ -26,6 +26,7 @@ pub fn facts(pair: &Pair) -> BTreeSet<String> {
         return facts;
     };
     facts.extend(widths::facts(pair));
+    facts.extend(tombstones::facts(pair));
     let mended = pair.by(Verdict::Mended);
     if mended.number == MIXED {
         return facts;
@@ -165,24 +166,26 @@ pub fn all_facts() -> Vec<String> {
     all.extend(PLACES.map(different_in));
     all.extend(BESIDE.map(alike_beside));
     all.extend(BUMPS.map(alike_and));
-    all.push(itself(Bump::Patch));
+    all.extend([Bump::Patch, Bump::Major].map(itself));
     all.push(another::another(WORD));
     all.push(another::shorter(WORD));
     all.extend(BUMPS.map(|mended| another::bumps(WORD, Bump::Major, mended)));
-    // Nothing but a width is new, and that is Major.
+    // Nothing but widths and tombstones is new, and that is Major.
     all.extend([Bump::Patch, Bump::Minor].map(|plain| another::bumps(WORD, plain, Bump::Major)));
     all.push(another::fewer_of(WORD, ChangeKind::FieldTypeChanged));
-    all.push(another::more_of(WORD, ChangeKind::WidthChanged));
+    all.extend(MENDED.map(|kind| another::more_of(WORD, kind)));
     all.extend(widths::all_facts());
+    all.extend(tombstones::all_facts());
     all.extend(alike::all_facts());
     all
 }
 
-/// Only a changed type may be missing from what 01 says, and that is Major there; only a
-/// changed width may come to it.
+/// Only a changed type may be missing from what 01 says, and that is Major there; only
+/// changed widths and tombstones may come to it.
 pub fn never() -> Vec<String> {
     let mut never = widths::never();
-    never.extend([itself(Bump::Minor), itself(Bump::Major)]);
+    never.extend(tombstones::never());
+    never.push(itself(Bump::Minor));
     never.extend([another::refused_by_01(WORD), another::refused_alone(WORD)]);
     for plain in [Bump::Patch, Bump::Minor] {
         let others = [Bump::Patch, Bump::Minor];

@@ -18,6 +18,7 @@ mod mended;
 mod pinned;
 pub mod refiled;
 mod refused;
+mod tombstones;
 mod typed;
 mod ways;
 mod widths;

@@ -70,7 +70,7 @@ fn front(rows: &mut Rows) {
     values(rows, 2, "ids", &[1, 2, 3, 4]);
     values(rows, 2, "name length", &[1]);
     values(rows, 2, "segment", &[1, 2]);
-    values(rows, 3, "format", &[0, 3, 256, 258, 65_535]);
+    values(rows, 3, "format", &[0, 4, 256, 258, 259, 65_535]);
     values(rows, 4, "N", &[513, 65_535]);
     values(rows, 4, "M", &[513, 65_535]);
     values(rows, 4, "S", &[17, 18, 256, 65_535]);

@@ -11,7 +11,7 @@ use crate::refusal::{ALIAS_PAIR, MIXED};
 use crate::schema::*;
 use std::collections::{BTreeMap, BTreeSet};
 
-pub const FORMATS: [u16; 2] = [1, 2];
+pub const FORMATS: [u16; 3] = [1, 2, 3];
 
 const ALONE: &str = "widths: one change alone";
 const SEVERAL: &str = "widths: two changes or more";
@@ -45,7 +45,8 @@ const BY_01: &str = "widths: a change of width by 01";
 const BY_IMPORTS: &str = "widths: a change of width with imports";
 const NOT_FIRST: &str = "widths: a change of width that is not first in its declaration";
 const NOT_REFUSED: &str = "widths: no 16, though an image is of format 1";
-const REFUSED: &str = "widths: 16 for two images of format 2";
+const REFUSED: &str = "widths: 16 for two images of one format but 1";
+const ONE_OF_THREE: &str = "widths: no 16, though one image alone is of format 3";
 const NOT_BOTH: &str = "widths: 16 of one side";
 
 pub fn facts(pair: &Pair) -> BTreeSet<String> {
@@ -68,8 +69,10 @@ pub fn facts(pair: &Pair) -> BTreeSet<String> {
     never(count(&pair.answer) > 0, BY_01);
     never(count(&imports) > 0, BY_IMPORTS);
     let first = formats.contains(&FORMATS[0]);
+    let same = formats[0] == formats[1];
     never(first && mended.number != MIXED, NOT_REFUSED);
-    never(!first && mended.number == MIXED, REFUSED);
+    never(!same && mended.number != MIXED, ONE_OF_THREE);
+    never(!first && same && mended.number == MIXED, REFUSED);
     never(
         mended.number == MIXED && mended.side != Side::Both,
         NOT_BOTH,
@@ -78,8 +81,6 @@ pub fn facts(pair: &Pair) -> BTreeSet<String> {
     if mended.number == 0 {
         facts.extend(compared(old, new, &mended));
         facts.extend(not_compared(old, new));
-    }
-    if mended.number == 0 {
         let long = [&pair.answer, &mended].map(|answer| answer.report.len() > REPORT_BYTES);
         facts.extend((long == [true, false]).then(|| LONG_BY_01.to_string()));
         facts.extend((long == [false, true]).then(|| LONG_MENDED.to_string()));
@@ -317,7 +318,7 @@ pub fn all_facts() -> Vec<String> {
         all.extend(answers().map(|what| said("01", what)));
         all.extend(answers().map(|what| said("with imports", what)));
         match [old, new] {
-            [2, 2] => all.extend(answers().map(|what| said("mended", what))),
+            [2, 2] | [3, 3] => all.extend(answers().map(|what| said("mended", what))),
             _ => all.push(said("mended", format!("refused {MIXED}"))),
         }
     }
@@ -330,6 +331,14 @@ pub fn all_facts() -> Vec<String> {
 
 /// What can never be.
 pub fn never() -> Vec<String> {
-    let texts = [BY_01, BY_IMPORTS, NOT_FIRST, NOT_REFUSED, REFUSED, NOT_BOTH];
+    let texts = [
+        BY_01,
+        BY_IMPORTS,
+        NOT_FIRST,
+        NOT_REFUSED,
+        ONE_OF_THREE,
+        REFUSED,
+        NOT_BOTH,
+    ];
     texts.map(str::to_string).into()
 }

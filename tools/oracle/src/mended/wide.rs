@@ -1,6 +1,7 @@
 //! Random releases made for R-6: most declarations are enums or flags.
 
 use super::mended_releases;
+use super::struck::struck_releases;
 use crate::edits::{edited, pick_mut, renumber};
 use crate::formats::in_formats;
 use crate::limits::IMAGE_BYTES;
@@ -10,12 +11,17 @@ use crate::rng::Rng;
 use crate::schema::*;
 use crate::writer::image;
 
-/// Three releases in these formats, made for R-5 or for R-6.
+/// Three releases in these formats, made for R-5 or for R-6, and where one of them has
+/// tombstones mostly for R-10.
 pub fn releases_in(rng: &mut Rng, formats: [u16; 3]) -> [Schema; 3] {
+    let struck = formats.iter().any(|format| has_tombstones(*format));
     loop {
-        let releases = match rng.below(5) {
-            0 | 1 => wide_releases(rng),
-            _ => mended_releases(rng),
+        let releases = match struck && !rng.once_in(3) {
+            true => struck_releases(rng),
+            false => match rng.below(5) {
+                0 | 1 => wide_releases(rng),
+                _ => mended_releases(rng),
+            },
         };
         let releases = in_formats(rng, releases, formats);
         if releases.iter().all(|r| image(r).len() <= IMAGE_BYTES) {

@@ -14,7 +14,7 @@ pub fn width_change(old: &Declaration, new: &Declaration) -> Option<[u8; 2]> {
     (old != new).then_some([old, new])
 }
 
-/// Whether either image or both are of the format without widths.
+/// Of 16: either image or both are of the format without widths.
 pub fn mixed(old: &Schema, new: &Schema) -> bool {
     [old, new]
         .iter()

@@ -21,7 +21,7 @@ pub fn refiled(rng: &mut Rng, schema: &Schema) -> Schema {
             continue;
         };
         let mut declaration = declaration.clone();
-        reorder(rng, &mut declaration.body);
+        reorder(rng, &mut declaration);
         for ty in types_of(&mut declaration) {
             filing.follow_in(rng, ty);
         }
@@ -105,14 +105,17 @@ fn empty_entries(rng: &mut Rng, schema: &Schema, full: usize) -> usize {
     }
 }
 
-fn reorder(rng: &mut Rng, body: &mut Body) {
-    match body {
+/// The tombstones of a body stay in it; their order is any, too.
+fn reorder(rng: &mut Rng, declaration: &mut Declaration) {
+    rng.shuffle(&mut declaration.tombstones);
+    match &mut declaration.body {
         Body::Message(_, fields) => rng.shuffle(fields),
         Body::Enum(_, _, items) | Body::Flags(_, items) => rng.shuffle(items),
         Body::Union(variants) => {
             rng.shuffle(variants);
             for variant in variants {
                 rng.shuffle(&mut variant.fields);
+                rng.shuffle(&mut variant.tombstones);
             }
         }
         _ => {}

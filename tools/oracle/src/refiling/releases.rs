@@ -22,9 +22,14 @@ pub fn filed_pair(rng: &mut Rng) -> [FiledTwice; 2] {
     };
     let releases = unrepeated_releases(rng, most);
     releases.map(|release| {
-        let copy = refiled(rng, &release);
-        let formats = any_formats(rng);
-        in_formats(rng, [release, copy], formats).map(|schema| image(&schema))
+        let [format, other] = any_formats(rng);
+        let [release] = in_formats(rng, [release], [format]);
+        let mut copy = refiled(rng, &release);
+        // Else widths and tombstones are those of the release.
+        if format != other || rng.once_in(2) {
+            [copy] = in_formats(rng, [copy], [other]);
+        }
+        [release, copy].map(|schema| image(&schema))
     })
 }
 

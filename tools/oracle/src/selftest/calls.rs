@@ -201,6 +201,7 @@ fn whole_reports(tests: &mut Tests, folder: &Path) {
     let words = [
         ("report of 65537 bytes", &[&[][..], &["--imports"]][..]),
         ("widths: report of 65537 bytes", &[&["--mended"]]),
+        ("tombstones: report of 65537 bytes", &[&["--mended"]]),
     ];
     for (name, words) in words {
         match list.iter().find(|pair| pair.name == name) {

@@ -4,13 +4,13 @@
 
 use super::{read_file, Tests};
 use crate::cases::ride;
-use crate::changes::ChangeKind::WidthChanged;
+use crate::changes::ChangeKind::{TombstoneDropped, TombstoneReused, WidthChanged};
 use crate::changes::{Change, CHANGE_KINDS};
 use crate::edits::edited;
-use crate::formats::{in_formats, SECOND_FORMAT};
+use crate::formats::{in_formats, THIRD_FORMAT};
 use crate::limits::*;
 use crate::make::*;
-use crate::mended::width_change;
+use crate::mended::{tombstone_changes, width_change};
 use crate::model::{check, Reading, PLAIN};
 use crate::random::random_schema;
 use crate::refusal::WORDS;
@@ -132,7 +132,7 @@ fn fitting(body: impl Fn(usize) -> Declaration) -> usize {
 }
 
 /// Every change of random pairs has a row with its words, and every row a change; the
-/// last row one of the mended verdict alone.
+/// last three rows those of the mended verdict alone.
 fn changes(tests: &mut Tests, page: &str) {
     let rows = rows(page, "### The clauses");
     let mut rng = Rng::new(20261203);
@@ -142,9 +142,10 @@ fn changes(tests: &mut Tests, page: &str) {
     for _ in 0..1_000 {
         let old = random_schema(&mut rng, 6);
         let new = edited(&mut rng, &old, 5);
-        let [old, new] = in_formats(&mut rng, [old, new], [SECOND_FORMAT; 2]);
+        let [old, new] = in_formats(&mut rng, [old, new], [THIRD_FORMAT; 2]);
         let wide = check(&old, &new, WIDE).changes;
-        let others = wide.iter().filter(|change| change.kind != WidthChanged);
+        let mended = [WidthChanged, TombstoneReused, TombstoneDropped];
+        let others = wide.iter().filter(|change| !mended.contains(&change.kind));
         told_by_01 &= others.eq(&check(&old, &new, PLAIN).changes);
         for change in wide {
             let told: Vec<bool> = rows.iter().map(|row| tells(row, &change)).collect();
@@ -157,13 +158,14 @@ fn changes(tests: &mut Tests, page: &str) {
         }
     }
     tests.equal("every change is told", untold, vec![]);
-    tests.equal("every row is met", met, vec![true; 21]);
-    tests.holds("01 tells all but widths", told_by_01);
+    tests.equal("every row is met", met, vec![true; 23]);
+    tests.holds("01 tells all but widths and tombstones", told_by_01);
 }
 
-/// 01's clauses and what the mended verdict says of widths.
+/// 01's clauses and what the mended verdict says of widths and tombstones.
 const WIDE: Reading = Reading {
     width_change,
+    tombstone_changes,
     ..PLAIN
 };
 

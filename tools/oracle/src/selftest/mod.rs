@@ -16,6 +16,7 @@ mod recording;
 mod refiling;
 mod samples;
 mod texts;
+mod tombstones;
 mod widths;
 mod words;
 
@@ -55,6 +56,7 @@ pub fn run() -> Outcome {
     let mut tests = Tests::default();
     reading::run(&mut tests);
     widths::run(&mut tests);
+    tombstones::run(&mut tests);
     words::run(&mut tests);
     clauses::run(&mut tests);
     listing::run(&mut tests);

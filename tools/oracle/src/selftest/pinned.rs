@@ -39,13 +39,13 @@ fn found(pin: &Pin, answer: &Answer) -> Said {
             Said::Count(*kind, answer.select(5 + *kind as u64))
         }
         Said::Verdict if answer.number == 0 => Said::Verdict,
-        Said::SameUnsized if unsized_alike(&pin.images) => Said::SameUnsized,
+        Said::SameStripped if stripped_alike(&pin.images) => Said::SameStripped,
         _ => Said::Values(vec![answer.select(0)]),
     }
 }
 
-/// Whether both are accepted, and hold the same but for format and widths.
-fn unsized_alike(images: &[Vec<u8>; 2]) -> bool {
+/// Whether both are accepted, and hold the same but for format, widths and tombstones.
+fn stripped_alike(images: &[Vec<u8>; 2]) -> bool {
     let [old, new] = images.each_ref().map(|image| read_image(image));
     match (old, new) {
         (Ok(old), Ok(new)) => old.in_format(1) == new.in_format(1),
@@ -115,7 +115,7 @@ const FIELDS: [(&str, &str); 31] = [
         "f : Steps mended_of a (b ∷ a ∷ [])",
         "a b mended Verdict, b a mended Verdict",
     ),
-    ("f : SameUnsized b a", "b a SameUnsized"),
+    ("f : SameStripped b a", "b a SameStripped"),
     ("f : mended_of a b ≡ lines (\"x\" ∷ [])", ""),
     ("f : distance mended_told a b ≡ 0", ""),
     ("f : distance mended a b ≡ 0", ""),

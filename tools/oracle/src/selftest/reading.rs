@@ -84,10 +84,11 @@ fn front(tests: &mut Tests) {
     tests.equal("2 before 3", number(&[9; 7]), 2);
     tests.equal("3 of 0", number(&head(0, [513, 0, 0])), 3);
     tests.equal("format 2", number(&head(2, [0; 3])), 0);
-    for format in [3, 4, 256, 257, 512, 65_535] {
+    tests.equal("format 3", number(&head(3, [0; 3])), 0);
+    for format in [4, 5, 256, 257, 512, 65_535] {
         tests.equal("3 of a later one", number(&head(format, [0; 3])), 3);
     }
-    tests.equal("3 before 4", number(&head(3, [513, 0, 0])), 3);
+    tests.equal("3 before 4", number(&head(4, [513, 0, 0])), 3);
     tests.equal("4 of format 2", number(&head(2, [513, 0, 0])), 4);
     tests.equal("N", number(&head(1, [513, 0, 0])), 4);
     tests.equal("M", number(&head(1, [0, 513, 0])), 4);

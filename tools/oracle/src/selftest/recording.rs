@@ -33,15 +33,15 @@ pub fn run(tests: &mut Tests) {
 
 fn form(tests: &mut Tests) {
     let file = write(&two()[1..]);
-    let mut wanted = b"VEXANSW5".to_vec();
-    for number in [1u32, 19, 7, 10, 0, 0] {
+    let mut wanted = b"VEXANSW6".to_vec();
+    for number in [1u32, 21, 7, 10, 0, 0] {
         wanted.extend(number.to_le_bytes());
     }
     wanted.extend(b"\x07refusal\x01\0\0\0\x07\x0a\0\0\0\x01\0\0\0\0\0\x01\0\x01a");
     wanted.extend([2, 0]);
     wanted.extend([0; 8]);
     wanted.extend([2, 1, 2, 1]);
-    wanted.extend([0; 4 + 4 * 19]);
+    wanted.extend([0; 4 + 4 * 21]);
     // The answers with imports and mended are the same.
     wanted.extend([0, 0]);
     tests.equal("the form of a refusal", file, wanted);
@@ -70,7 +70,7 @@ fn marks(tests: &mut Tests) {
     let same = write(&list[1..]);
     let (front, marks) = same.split_at(same.len() - 2);
     tests.equal("the last bytes are the marks", marks, &[0, 0]);
-    let answer = &front[front.len() - 4 - 4 - 4 * 19..];
+    let answer = &front[front.len() - 4 - 4 - 4 * 21..];
     for (before, after) in [(&[][..], &[0][..]), (&[0], &[])] {
         let file = |mark: u8| [front, before, &[mark], answer, after].concat();
         tests.holds("one answer twice is no file", read(&file(1)).is_err());

@@ -16,7 +16,8 @@ use crate::writer::image;
 pub fn run(tests: &mut Tests) {
     round_trips(tests);
     example(tests, "namespace ");
-    example(tests, "format ");
+    example(tests, "format 2");
+    example(tests, "format 3");
     formats(tests);
     leniency(tests);
     faults(tests);
@@ -106,9 +107,9 @@ fn format_faults(tests: &mut Tests) {
     let mut fault = |text: &str, wanted: &str| {
         tests.equal(text, make(text), Err(wanted.to_string()));
     };
-    for format in ["0", "3", "65535"] {
+    for format in ["0", "4", "65535"] {
         let text = format!("format {format}\nnamespace\ndeclares\n");
-        let wanted = format!("line 1: format {format}, known are 1 to 2");
+        let wanted = format!("line 1: format {format}, known are 1 to 3");
         fault(&text, &wanted);
     }
     let range = "line 2: not a number of its range:";

@@ -59,7 +59,7 @@ fn head(tests: &mut Tests) {
     told(&[], &missing("8 bytes"));
     told(&[9; 7], &missing("1 byte"));
     let format = |n: u16| format!("refused 3: format: at byte 0: format {n}");
-    told(&[3, 0, 0, 0, 0, 0, 0, 0], &format(3));
+    told(&[4, 0, 0, 0, 0, 0, 0, 0], &format(4));
     told(&[0, 1, 1, 2, 0, 0, 0, 0], &format(256));
     let crowded = "refused 4: crowded: at byte";
     told(&[1, 0, 1, 2, 1, 2, 17, 0], &format!("{crowded} 2: N 513"));

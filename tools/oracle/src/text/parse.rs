@@ -73,8 +73,11 @@ impl Reading {
     }
 
     fn entry_or_item(&mut self, line: &mut Scanner) -> Parsed<()> {
-        match line.eat("@") {
-            true => self.item(line),
+        if line.eat("@") {
+            return self.item(line);
+        }
+        match line.eat_word("struck") {
+            true => self.struck(line),
             false => self.entry(line),
         }
     }
@@ -118,9 +121,35 @@ impl Reading {
                 ordinal,
                 name,
                 fields: Vec::new(),
+                tombstones: Vec::new(),
             }),
             _ if is_field => return Err(format!("{kind} has no fields")),
             _ => return Err(format!("{kind} has no items without a type")),
+        }
+        Ok(())
+    }
+
+    /// Tombstones of the variant above, else of the entry.
+    fn struck(&mut self, line: &mut Scanner) -> Parsed<()> {
+        let format = self.schema.format;
+        if !has_tombstones(format) {
+            return Err(format!("a `struck`, and format {format} has none"));
+        }
+        let Some(Some(declaration)) = self.schema.registry.last_mut() else {
+            return Err("a `struck`, and no declaration above it".to_string());
+        };
+        if !declaration.strikes_off() {
+            let kind = KIND_NAMES[usize::from(declaration.kind())];
+            return Err(format!("{kind} has no tombstones"));
+        }
+        let tombstones = match &mut declaration.body {
+            Body::Union(variants) => variants.last_mut().map(|v| &mut v.tombstones),
+            _ => None,
+        };
+        let tombstones = tombstones.unwrap_or(&mut declaration.tombstones);
+        tombstones.push(line.number()?);
+        while !line.is_at_end() {
+            tombstones.push(line.number()?);
         }
         Ok(())
     }
@@ -190,7 +219,11 @@ fn declaration(format: u16, line: &mut Scanner) -> Parsed<Declaration> {
         7 => Body::Trait,
         _ => Body::Impl,
     };
-    Ok(Declaration { name, body })
+    Ok(Declaration {
+        name,
+        body,
+        tombstones: Vec::new(),
+    })
 }
 
 fn marks(line: &mut Scanner) -> Marks {

@@ -20,6 +20,7 @@ pub fn show(schema: &Schema) -> String {
             Some(declaration) => {
                 let heading = heading(schema, declaration);
                 lines.push(format!("#{id} {heading}"));
+                lines.extend(struck("  ", &declaration.tombstones));
                 lines.extend(items(schema, &declaration.body));
             }
         }
@@ -91,7 +92,14 @@ fn start<T: Numbered>(item: &T) -> String {
 
 fn variant(schema: &Schema, variant: &Variant) -> Vec<String> {
     let fields = variant.fields.iter().map(|f| field("    ", schema, f));
-    std::iter::once(start(variant)).chain(fields).collect()
+    let first = std::iter::once(start(variant)).chain(struck("    ", &variant.tombstones));
+    first.chain(fields).collect()
+}
+
+/// A line of the numbers that are struck off, if there are any.
+fn struck(indent: &str, tombstones: &[u32]) -> Option<String> {
+    let numbers: Vec<String> = tombstones.iter().map(u32::to_string).collect();
+    (!numbers.is_empty()).then(|| format!("{indent}struck {}", numbers.join(" ")))
 }
 
 fn field(indent: &str, schema: &Schema, field: &Field) -> String {

@@ -52,19 +52,26 @@ fn type_def(declaration: &Declaration) -> TypeDef {
             name,
             span: span(),
             fields: fields.iter().map(field_def).collect(),
-            tombstones: Vec::new(),
+            tombstones: tombstone_defs(&declaration.tombstones),
             annotations: annotations(*marks),
             wire_size: None,
         }),
         Body::Enum(marks, width, variants) => {
-            TypeDef::Enum(enum_def(name, *marks, *width, variants))
+            let tombstones = tombstone_defs(&declaration.tombstones);
+            TypeDef::Enum(EnumDef {
+                tombstones,
+                ..enum_def(name, *marks, *width, variants)
+            })
         }
-        Body::Flags(width, bits) => TypeDef::Flags(flags_def(name, *width, bits)),
+        Body::Flags(width, bits) => TypeDef::Flags(FlagsDef {
+            tombstones: tombstone_defs(&declaration.tombstones),
+            ..flags_def(name, *width, bits)
+        }),
         Body::Union(variants) => TypeDef::Union(UnionDef {
             name,
             span: span(),
             variants: variants.iter().map(union_variant_def).collect(),
-            tombstones: Vec::new(),
+            tombstones: tombstone_defs(&declaration.tombstones),
             annotations: ResolvedAnnotations::default(),
             wire_size: None,
         }),
@@ -150,13 +157,24 @@ fn flags_def(name: SmolStr, width: Width, bits: &[schema::Item]) -> FlagsDef {
     }
 }
 
+fn tombstone_defs(numbers: &[u32]) -> Vec<TombstoneDef> {
+    let tombstone = |ordinal: &u32| TombstoneDef {
+        span: span(),
+        ordinal: *ordinal,
+        reason: SmolStr::default(),
+        since: None,
+        original_type: None,
+    };
+    numbers.iter().map(tombstone).collect()
+}
+
 fn union_variant_def(variant: &schema::Variant) -> UnionVariantDef {
     UnionVariantDef {
         name: SmolStr::new(&variant.name),
         span: span(),
         ordinal: variant.ordinal,
         fields: variant.fields.iter().map(field_def).collect(),
-        tombstones: Vec::new(),
+        tombstones: tombstone_defs(&variant.tombstones),
         annotations: ResolvedAnnotations::default(),
     }
 }

@@ -58,7 +58,7 @@ fn written_anew(cases: &mut Cases, by_hand: usize) {
     });
     let anew: Vec<_> = anew.collect();
     for (name, old, new) in anew {
-        let accepted = [&old, &new].map(|image| read_image(image).is_ok());
+        let accepted = [&old, &new].map(|image| as_far_as_second(image).is_some());
         if accepted == [true; 2] || name.starts_with("mended") {
             cases.bytes(&name, old, new);
         }
@@ -76,10 +76,17 @@ fn pinned(cases: &mut Cases) {
     }
 }
 
-/// An accepted image in another format; one that is refused stays as it is.
+/// An accepted image in another format; one that is refused, or has tombstones, stays as
+/// it is.
 fn written(bytes: &[u8], format: u16) -> Vec<u8> {
-    match read_image(bytes) {
-        Ok(schema) => image(&schema.in_format(format)),
-        Err(_) => bytes.to_vec(),
+    match as_far_as_second(bytes) {
+        Some(schema) => image(&schema.in_format(format)),
+        None => bytes.to_vec(),
     }
+}
+
+/// What an image of the first two formats holds.
+fn as_far_as_second(bytes: &[u8]) -> Option<Schema> {
+    let schema = read_image(bytes).ok()?;
+    (schema.format <= SECOND_FORMAT).then_some(schema)
 }

@@ -4,8 +4,8 @@
 use crate::answer::Verdict;
 use crate::cases::mended::chain;
 use crate::cases::Cases;
-use crate::formats::{any_formats, in_formats, SECOND_FORMAT};
-use crate::made::pair_for;
+use crate::formats::{first_or_second, in_formats, SECOND_FORMAT};
+use crate::made::former_pair_for;
 use crate::mended::releases_in;
 use crate::refiling::{refiled, unrepeated_releases};
 use crate::rng::Rng;
@@ -19,7 +19,7 @@ pub fn add(cases: &mut Cases, seed: u64) {
     // Random numbers of their own, so that the cases before them stay as they are.
     let mut rng = Rng::new(seed.rotate_left(48));
     for n in 0..MADE {
-        let (old, new) = pair_for(Verdict::Mended, &mut rng);
+        let (old, new) = former_pair_for(Verdict::Mended, &mut rng);
         cases.bytes(&format!("widths random {n}"), old, new);
     }
     for n in 0..CHAINS {
@@ -28,7 +28,7 @@ pub fn add(cases: &mut Cases, seed: u64) {
     }
     for (word, verdict) in [("formats", Verdict::Plain), ("imports", Verdict::Imports)] {
         for n in 0..MIXED {
-            let (old, new) = pair_for(verdict, &mut rng);
+            let (old, new) = former_pair_for(verdict, &mut rng);
             cases.bytes(&format!("widths random {word} {n}"), old, new);
         }
     }
@@ -42,9 +42,9 @@ fn filed(cases: &mut Cases, rng: &mut Rng, n: usize) {
     let [old, new] = unrepeated_releases(rng, 8);
     let copies = [refiled(rng, &old), refiled(rng, &new)];
     let [old_copy, new_copy] = copies;
-    let formats = any_formats(rng);
+    let formats = first_or_second(rng);
     let [old, old_copy] = in_formats(rng, [old, old_copy], formats);
-    let formats = any_formats(rng);
+    let formats = first_or_second(rng);
     let [new, new_copy] = in_formats(rng, [new, new_copy], formats);
     let name = format!("refiled widths {n}");
     cases.pair(&name, &old, &new);

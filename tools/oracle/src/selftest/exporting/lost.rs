@@ -1,5 +1,6 @@
 //! What an image does not hold is not written, and `check` does not read it.
 
+use super::super::tombstones::struck;
 use super::super::widths::widened;
 use super::super::Tests;
 use crate::ast::{DefaultValue, EnumBacking, PrimitiveType};
@@ -10,7 +11,7 @@ use crate::model::{alias_pair, PLAIN};
 use crate::random::random_schema;
 use crate::record::SEED;
 use crate::rng::Rng;
-use crate::schema::{has_widths, Schema};
+use crate::schema::{has_tombstones, has_widths, Schema};
 use crate::span::Span;
 use crate::vexil::exporter::{export, Format};
 use crate::vexil::{compile, real_answer};
@@ -25,12 +26,14 @@ pub fn run(tests: &mut Tests) {
         let new = edited(&mut rng, &old, 6);
         (old, new)
     }));
-    // Half of them in format 2, which holds the widths.
-    let wide = |(old, new): &(Schema, Schema), rng: &mut Rng| {
-        [old, new].map(|schema| widened(rng, schema.clone())).into()
-    };
-    let more: Vec<_> = pairs.iter().map(|pair| wide(pair, &mut rng)).collect();
-    pairs.extend(more);
+    // A third of them in format 2, with widths, and a third in format 3, with tombstones.
+    let first = pairs.clone();
+    for enrich in [widened, struck] {
+        pairs.extend(first.iter().map(|(old, new)| {
+            let pair = [old, new].map(|schema| enrich(&mut rng, schema.clone()));
+            <(Schema, Schema)>::from(pair)
+        }));
+    }
     let written = pairs.iter().all(|(schema, _)| {
         let bytes = image(schema);
         let exported = Format::of(schema.format).map(|format| export(&laden(schema), format));
@@ -65,8 +68,12 @@ fn laden(schema: &Schema) -> CompiledSchema {
         compiled.registry.set_origin(id, text(), text());
         if let Some(def) = compiled.registry.get_mut(id) {
             load(def);
+            load_tombstones(def);
             if !has_widths(schema.format) {
                 load_width(def);
+            }
+            if !has_tombstones(schema.format) {
+                add_tombstones(def);
             }
         }
     }
@@ -83,10 +90,37 @@ fn span() -> Span {
     Span::new(7, 7)
 }
 
-fn tombstone() -> TombstoneDef {
+/// Those of a declaration and of its variants.
+fn tombstones(def: &mut TypeDef) -> Vec<&mut Vec<TombstoneDef>> {
+    match def {
+        TypeDef::Message(d) => vec![&mut d.tombstones],
+        TypeDef::Enum(d) => vec![&mut d.tombstones],
+        TypeDef::Flags(d) => vec![&mut d.tombstones],
+        TypeDef::Union(d) => {
+            let variants = d.variants.iter_mut().map(|v| &mut v.tombstones);
+            variants.chain([&mut d.tombstones]).collect()
+        }
+        _ => vec![],
+    }
+}
+
+/// All but their numbers.
+fn load_tombstones(def: &mut TypeDef) {
+    for tombstone in tombstones(def).into_iter().flatten() {
+        *tombstone = tombstone_of(tombstone.ordinal);
+    }
+}
+
+fn add_tombstones(def: &mut TypeDef) {
+    for list in tombstones(def) {
+        list.push(tombstone_of(0));
+    }
+}
+
+fn tombstone_of(ordinal: u32) -> TombstoneDef {
     TombstoneDef {
         span: span(),
-        ordinal: 0,
+        ordinal,
         reason: text(),
         since: Some(text()),
         original_type: Some(some_type()),
@@ -145,7 +179,6 @@ fn load_width(def: &mut TypeDef) {
 fn load_message(message: &mut MessageDef) {
     annotate(&mut message.annotations);
     message.span = span();
-    message.tombstones.push(tombstone());
     message.wire_size = Some(WireSize::Fixed(7));
     message.fields.iter_mut().for_each(load_field);
 }
@@ -153,7 +186,6 @@ fn load_message(message: &mut MessageDef) {
 fn load_enum(enumeration: &mut EnumDef) {
     annotate(&mut enumeration.annotations);
     enumeration.span = span();
-    enumeration.tombstones.push(tombstone());
     enumeration.backing = Some(EnumBacking::U16);
     for variant in &mut enumeration.variants {
         add_marks(&mut variant.annotations);
@@ -164,7 +196,6 @@ fn load_enum(enumeration: &mut EnumDef) {
 fn load_flags(flags: &mut FlagsDef) {
     add_marks(&mut flags.annotations);
     flags.span = span();
-    flags.tombstones.push(tombstone());
     for bit in &mut flags.bits {
         add_marks(&mut bit.annotations);
         bit.span = span();
@@ -174,7 +205,6 @@ fn load_flags(flags: &mut FlagsDef) {
 fn load_union(union: &mut UnionDef) {
     add_marks(&mut union.annotations);
     union.span = span();
-    union.tombstones.push(tombstone());
     union.wire_size = Some(WireSize::Fixed(7));
     union.variants.iter_mut().for_each(load_variant);
 }
@@ -219,7 +249,6 @@ fn load_impl(def: &mut ImplDef) {
 fn load_variant(variant: &mut UnionVariantDef) {
     add_marks(&mut variant.annotations);
     variant.span = span();
-    variant.tombstones.push(tombstone());
     variant.fields.iter_mut().for_each(load_field);
 }
 

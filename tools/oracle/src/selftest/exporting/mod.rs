@@ -4,12 +4,15 @@
 mod lost;
 mod refusals;
 mod stubs;
+mod tombstones;
 
+use super::tombstones::struck;
 use super::widths::widened;
 use super::Tests;
 use crate::cases;
-use crate::commands::random_pair;
+use crate::commands::random_pair_in;
 use crate::edits::edited;
+use crate::formats::first_or_second;
 use crate::limits::FORMATS;
 use crate::model::{alias_pair, PLAIN};
 use crate::random::random_schema;
@@ -24,11 +27,12 @@ use crate::writer::image;
 pub fn run(tests: &mut Tests) {
     recorded(tests);
     random(tests);
-    wide(tests);
+    later(tests);
     formats(tests);
     lost::run(tests);
     refusals::run(tests);
     stubs::run(tests);
+    tombstones::run(tests);
 }
 
 /// What went through the exporter, and the pairs in which something came out
@@ -105,7 +109,7 @@ fn random(tests: &mut Tests) {
     let mut trips = RoundTrips::default();
     let mut rng = Rng::new(SEED);
     for place in 0..4_000 {
-        let (old, new) = random_pair(&mut rng);
+        let (old, new) = random_pair_in(&mut rng, first_or_second);
         trips.pair(&format!("random pair {place}"), &old, &new);
     }
     tests.equal("random images come out the same", trips.changed, vec![]);
@@ -113,26 +117,37 @@ fn random(tests: &mut Tests) {
     tests.holds("2,000 random verdicts or more", trips.verdicts >= 2_000);
 }
 
-/// The same pairs with widths; each image in format 1 again is that of the schema
-/// without.
-fn wide(tests: &mut Tests) {
-    let mut trips = RoundTrips::default();
+/// The same pairs with widths, and with tombstones too; in an earlier format each image is
+/// that of the schema without what it does not hold.
+fn later(tests: &mut Tests) {
     let mut rng = Rng::new(SEED);
-    let mut narrowed = true;
-    for place in 0..2_000 {
-        let old = random_schema(&mut rng, 8);
-        let new = edited(&mut rng, &old, 6);
-        let [old, new] = [old, new].map(|schema| widened(&mut rng, schema));
-        trips.pair(&format!("wide pair {place}"), &image(&old), &image(&new));
-        narrowed &= [old, new].into_iter().all(|schema| {
-            let narrow = export(&compile(&schema), Format::One);
-            narrow.map(|exported| exported.image) == Ok(image(&schema.in_format(1)))
-        });
+    for (format, enrich) in [(2, widened as fn(&mut Rng, Schema) -> Schema), (3, struck)] {
+        let mut trips = RoundTrips::default();
+        let mut left_out = true;
+        for place in 0..2_000 {
+            let old = random_schema(&mut rng, 8);
+            let new = edited(&mut rng, &old, 6);
+            let [old, new] = [old, new].map(|schema| enrich(&mut rng, schema));
+            let name = format!("format {format}, pair {place}");
+            trips.pair(&name, &image(&old), &image(&new));
+            left_out &= (1..format).all(|earlier| in_earlier(&old, earlier));
+            left_out &= (1..format).all(|earlier| in_earlier(&new, earlier));
+        }
+        tests.equal("later images come out the same", trips.changed, vec![]);
+        tests.equal("later images", trips.images, 4_000);
+        tests.holds("1,000 later verdicts or more", trips.verdicts >= 1_000);
+        tests.holds(
+            "earlier formats leave out what they have no room for",
+            left_out,
+        );
     }
-    tests.equal("wide images come out the same", trips.changed, vec![]);
-    tests.equal("wide images", trips.images, 4_000);
-    tests.holds("1,000 wide verdicts or more", trips.verdicts >= 1_000);
-    tests.holds("the widths are left out in format 1", narrowed);
+}
+
+/// Whether it is exported in an earlier format as what that one holds of it.
+fn in_earlier(schema: &Schema, number: u16) -> bool {
+    let format = Format::of(number).expect("every format is exported");
+    let exported = export(&compile(schema), format).map(|exported| exported.image);
+    exported == Ok(image(&schema.clone().in_format(number)))
 }
 
 /// Every format that the reader knows is exported, and no other.

@@ -79,6 +79,8 @@ const STUB: &str = "namespace a\ndeclares M#0\n#0 message M\n@0 f: <unknown>#2\n
     #1 trait T\n#2 empty\n";
 const WIDE: &str = "format 2\nnamespace a\ndeclares E#0 F#1\n#0 enum E non_exhaustive width 16\n\
     @0 v\n#1 flags F width 2\n@8 b\n";
+const STRUCK: &str = "format 3\nnamespace a\ndeclares E#0 U#1\n#0 enum E width 16\nstruck 7 3 7\n\
+    @0 v\n#1 union U\nstruck 1\n@0 v\nstruck 4294967295 0\n@0 f: u8\n";
 const WHOLE: &str = "namespace a\ndeclares M#0\n#0 message M\n@0 f: T#1\n#1 trait T\n";
 
 fn callers(tests: &mut Tests, folder: &Path) {
@@ -95,12 +97,14 @@ fn callers(tests: &mut Tests, folder: &Path) {
     let made = crate::text::make(WHOLE).ok();
     tests.equal("its image", std::fs::read(path).ok(), made);
 
-    let (told, path) = exported(folder, "wide.img", WIDE);
-    tests.equal("in format 2, status", told.status, Some(0));
-    tests.equal("in format 2", told.complaint.as_str(), "");
-    let made = crate::text::make(WIDE).ok();
-    tests.holds("a text of format 2", made.is_some());
-    tests.equal("its image", std::fs::read(path).ok(), made);
+    for (format, text) in [("format 2", WIDE), ("format 3", STRUCK)] {
+        let (told, path) = exported(folder, "later.img", text);
+        tests.equal(format, told.status, Some(0));
+        tests.equal(format, told.complaint.as_str(), "");
+        let made = crate::text::make(text).ok();
+        tests.holds(format, text.starts_with(format) && made.is_some());
+        tests.equal("its image", std::fs::read(path).ok(), made);
+    }
 }
 
 /// A refused schema, and a file that can't be written.

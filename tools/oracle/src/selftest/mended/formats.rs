@@ -3,7 +3,7 @@
 //! tell wrong readings.
 
 use super::wrong_widths::{answer, Images, Wrong, WRONG};
-use crate::answer::{judge, Answer, Side, Verdict, SELECTORS, VERDICTS};
+use crate::answer::{judge, Answer, Side, Verdict, VERDICTS};
 use crate::cases;
 use crate::cases::both_bad::refused_by;
 use crate::changes::ChangeKind::WidthChanged;
@@ -171,7 +171,6 @@ fn after_ten(tests: &mut Tests) {
 }
 
 fn selectors(tests: &mut Tests) {
-    tests.equal("selectors", SELECTORS, 24);
     let two = |width: u8| {
         let more = flags("G", vec![]).of_width(2 * width);
         wide(vec![faults(width, &[]), more])
@@ -216,7 +215,7 @@ fn ignored(tests: &mut Tests) {
 /// own is told by the edges.
 const OFTEN: usize = 10;
 const SELDOM: [&str; 4] = [
-    "format 3 is known",
+    "format 4 is known",
     "9 after the count",
     "flags of any width",
     "flags of 0",

@@ -8,7 +8,7 @@ use crate::selftest::Tests;
 pub fn run(tests: &mut Tests) {
     let asked = Asked {
         verdict: Verdict::Mended,
-        pairs: 12_000,
+        pairs: 20_000,
         edges: ("mended: ", 200),
         often: &OFTEN,
         bumps: [1_800, 250, 1_500],

@@ -53,7 +53,7 @@ fn reported(
 }
 
 /// The right comparison with its changes done in another way, where there is one.
-fn told(images: &Images, change: fn(&[Schema; 2], Vec<Change>) -> Vec<Change>) -> Answer {
+pub fn told(images: &Images, change: fn(&[Schema; 2], Vec<Change>) -> Vec<Change>) -> Answer {
     let reading = Mended.reading();
     let right = answer(&images.read, reading);
     let ([Ok(old), Ok(new)], 0) = (&images.read, right.number) else {
@@ -376,9 +376,9 @@ pub const WRONG: [Wrong; 38] = [
             as_format(image, |format| format == 2, |_| 1)
         })
     }),
-    ("format 3 is known", Plain, |images| {
+    ("format 4 is known", Plain, |images| {
         read_by(images, Plain, |image| {
-            as_format(image, |format| format == 3, |_| 2)
+            as_format(image, |format| format == 4, |_| 2)
         })
     }),
     ("a format of one byte", Plain, |images| {

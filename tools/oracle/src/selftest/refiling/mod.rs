@@ -6,15 +6,16 @@ mod repeats;
 mod spoiled;
 
 use super::Tests;
-use crate::answer::{judge, Answer};
+use crate::answer::{judge, Answer, Verdict};
 use crate::cases;
 use crate::coverage::refiled::{all_moves, moves};
 use crate::edits::edited;
+use crate::formats::{in_formats, THIRD_FORMAT};
 use crate::reader::read_image;
 use crate::record::SEED;
 use crate::refiling::{filed_pair, form, refiled, repeat, unrepeated_releases};
 use crate::rng::Rng;
-use crate::schema::Schema;
+use crate::schema::{Body, Schema};
 use crate::writer::image;
 use std::collections::BTreeMap;
 
@@ -24,6 +25,7 @@ pub fn run(tests: &mut Tests) {
     moved(tests);
     spoiled::run(tests);
     answers(tests);
+    struck(tests);
     one_form(tests);
     recorded(tests);
     controls::run(tests);
@@ -88,6 +90,61 @@ fn answers(tests: &mut Tests) {
     tests.equal("copies with another answer", differing, 0);
     tests.holds("1,200 verdicts or more", verdicts >= 1_200);
     tests.holds("100 refusals or more", verdicts <= 1_900);
+}
+
+/// Tombstones stay with their body, in any order, and copies get one mended answer too.
+fn struck(tests: &mut Tests) {
+    let mut rng = Rng::new(SEED + 10);
+    let (mut held, mut moved, mut differing) = (true, 0, 0);
+    for _ in 0..1_500 {
+        let releases = unrepeated_releases(&mut rng, 8);
+        let releases = in_formats(&mut rng, releases, [THIRD_FORMAT; 2]);
+        let copies = releases
+            .each_ref()
+            .map(|release| refiled(&mut rng, release));
+        for (release, copy) in releases.iter().zip(&copies) {
+            held &= tombstones(release, true) == tombstones(copy, true);
+            moved += usize::from(tombstones(release, false) != tombstones(copy, false));
+        }
+        let [old, new] = releases.map(|release| image(&release));
+        let [old_copy, new_copy] = copies.map(|copy| image(&copy));
+        let answer = |old, new| judge(old, new).by(Verdict::Mended);
+        let wanted = answer(&old, &new);
+        let pairs = [(&old, &new_copy), (&old_copy, &new), (&old_copy, &new_copy)];
+        differing += pairs
+            .into_iter()
+            .filter(|(o, n)| answer(o, n) != wanted)
+            .count();
+    }
+    tests.holds("copies have the tombstones of each body", held);
+    tests.holds(
+        &format!("500 copies or more in another order, {moved}"),
+        moved >= 500,
+    );
+    tests.equal("copies with another mended answer", differing, 0);
+}
+
+/// Those of each body and variant, by kind, name and ordinal; sorted, or as they stand.
+fn tombstones(schema: &Schema, sorted: bool) -> Vec<(u8, String, Option<u32>, Vec<u32>)> {
+    let mut all = Vec::new();
+    for declaration in schema.registry.iter().flatten() {
+        let (kind, name) = (declaration.kind(), &declaration.name);
+        let mut add = |ordinal, list: &[u32]| {
+            let mut list = list.to_vec();
+            if sorted {
+                list.sort();
+            }
+            all.push((kind, name.clone(), ordinal, list));
+        };
+        add(None, &declaration.tombstones);
+        if let Body::Union(variants) = &declaration.body {
+            variants
+                .iter()
+                .for_each(|v| add(Some(v.ordinal), &v.tombstones));
+        }
+    }
+    all.sort();
+    all
 }
 
 /// Where an edit leaves the form as it is, whatever made it, the next release gets
