@@ -3,8 +3,9 @@
  * one image. docs/FORMAT.md describes images, refusals and reports.
  *
  * Who only wants to know whether to load asks vexil_compat_may_load; or vexil_compat_imports_may_load, which looks at what the schemas import,
- * too; or vexil_compat_mended_may_load, where schemas hold vectors, quaternions or matrices, or where the widths of enums and flags matter:
- * it asks for images of format 2. True is Compatible, and everything else is false.
+ * too; or vexil_compat_mended_may_load, where schemas hold vectors, quaternions or matrices, or where the widths of enums and flags or
+ * numbers that were struck off matter: it asks for images of format 2 on both sides, or of format 3, which alone holds such numbers. True is
+ * Compatible, and everything else is false.
  * README, "Which verdict", tells when to ask which. None of them sees all: README, "What is not seen".
  *
  * The library is libvexil_compat.a, for x86-64-v2: `make` proves and builds it, and `make install PREFIX=..` installs it with this header and
@@ -17,11 +18,11 @@
  *   - Both images are only read. They may overlap each other, or be the same.
  *   - The buffer overlaps no image.
  *   - Every call, of one image too, uses less than 28 KiB of stack: measured on all recorded pairs, and not proved.
- *   - A comparison takes microseconds for small images, and grows with the square of what one declaration holds. The longest that were found,
- *     on a virtual machine, of images of 32,768 bytes: 2,700 fields of which the last differs, 0.2 s for the values and 0.4 s for the report;
- *     1,259 fields of `bits`, none of them kept, 0.4 s and 0.9 s; 2,762 fields of mixed types, none of them kept, 1.5 s and 3.0 s. With imports
- *     they take up to three quarters more; the mended verdict takes about as long as the first. docs/BENCHMARKS.md has the table. Nothing is
- *     waited for, and longer ones may be found.
+ *   - A comparison takes microseconds for small images, and grows with the square of what one declaration holds, by the mended verdict also
+ *     of the numbers that it strikes off. The longest that were found, on a virtual machine, of images of 32,768 bytes: 2,700 fields of which
+ *     the last differs, 0.2 s for the values and 0.4 s for the report; 1,259 fields of `bits`, none of them kept, 0.4 s and 0.9 s;
+ *     2,762 fields of mixed types, none of them kept, 1.5 s and 3.0 s. With imports they take up to three quarters more; the mended verdict
+ *     takes about as long as the first. docs/BENCHMARKS.md has the table. Nothing is waited for, and longer ones may be found.
  *   - Nothing is allocated and nothing is kept from one call to the next, so that threads may call at the same time.
  *
  * Each number has a name with the prefix of what it is: VEXIL_COMPAT_SELECT_.. is asked for; VEXIL_COMPAT_REFUSAL_.., _SIDE_.., _BUMP_.. and
@@ -42,8 +43,8 @@ extern "C" {
 
 /* The version of this header: the first number rises if a program may have to change, the second if something is added. */
 #define VEXIL_COMPAT_VERSION_MAJOR 2
-#define VEXIL_COMPAT_VERSION_MINOR 0
-#define VEXIL_COMPAT_VERSION "2.0"
+#define VEXIL_COMPAT_VERSION_MINOR 1
+#define VEXIL_COMPAT_VERSION "2.1"
 
 /* The toolchain that the library is proved with, as `rt version` names it. */
 #define VEXIL_COMPAT_KIT "rattle-kit-13f logic dac8208d650f15bf"
@@ -65,7 +66,7 @@ enum vexil_compat_refusal {
     VEXIL_COMPAT_REFUSAL_NONE = 0,
     VEXIL_COMPAT_REFUSAL_LONG = 1,        /* image over 32,768 bytes */
     VEXIL_COMPAT_REFUSAL_SHORT_HEAD = 2,  /* head, contents, ids or namespace run past the end */
-    VEXIL_COMPAT_REFUSAL_FORMAT = 3,      /* neither 1 nor 2 */
+    VEXIL_COMPAT_REFUSAL_FORMAT = 3,      /* none of 1, 2 and 3 */
     VEXIL_COMPAT_REFUSAL_CROWDED = 4,     /* over 512 entries or ids, or over 16 namespace segments */
     VEXIL_COMPAT_REFUSAL_CONTENTS = 5,    /* an entry that is not laid out as it must be, or bytes after the last body */
     VEXIL_COMPAT_REFUSAL_KIND = 6,        /* a declaration's kind over 8 */
@@ -75,7 +76,7 @@ enum vexil_compat_refusal {
     VEXIL_COMPAT_REFUSAL_DEEP = 10,       /* a 33rd node or a 9th delta */
     VEXIL_COMPAT_REFUSAL_ALIAS_PAIR = 11, /* of the pair: one name is a generic alias in both images */
     VEXIL_COMPAT_REFUSAL_FULL = 12,       /* a report or a listing is longer than its buffer; of the verdict calls only the listing's gives it */
-    VEXIL_COMPAT_REFUSAL_MIXED = 16       /* of the pair, in the mended verdict: one image or both are of format 1; tested before 11 */
+    VEXIL_COMPAT_REFUSAL_MIXED = 16       /* of the pair, in the mended verdict: one or both are of format 1, or one alone of 3; before 11 */
 };
 
 enum vexil_compat_side {
@@ -115,12 +116,14 @@ enum vexil_compat_kind {
     VEXIL_COMPAT_KIND_FLAGS_BIT_ADDED = 15,
     VEXIL_COMPAT_KIND_FLAGS_BIT_REMOVED = 16,
     VEXIL_COMPAT_KIND_FLAGS_BIT_ORDINAL_CHANGED = 17, /* always 0 */
-    VEXIL_COMPAT_KIND_WIDTH_CHANGED = 18 /* 0 but in the mended verdict */
+    VEXIL_COMPAT_KIND_WIDTH_CHANGED = 18,    /* this one and those that follow: 0 but in the mended verdict */
+    VEXIL_COMPAT_KIND_TOMBSTONE_REUSED = 19, /* 0 but of two images of format 3, as the next */
+    VEXIL_COMPAT_KIND_TOMBSTONE_DROPPED = 20
 };
 
 /* How many kinds of change there are, and how many selectors that may give anything but 0. */
-#define VEXIL_COMPAT_KINDS 19
-#define VEXIL_COMPAT_VALUES 24
+#define VEXIL_COMPAT_KINDS 21
+#define VEXIL_COMPAT_VALUES 26
 
 /*
  * There are three verdicts on two images, with three calls each. Values, refusals, lines and their order mean the same in all of them.
@@ -133,8 +136,11 @@ enum vexil_compat_kind {
  *     all that stand.
  *   - The mended one, `vexil_compat_mended_..`, compares what the first does, and vectors, quaternions and matrices like all other types: by
  *     what they are, and by their inner types. It does not look at imports; no verdict does both. Where the width of an enum or of flags has
- *     changed, it reports VEXIL_COMPAT_KIND_WIDTH_CHANGED, Major. Format 1 stores no widths, so that both images must be of format 2: every
- *     other pair is refused by VEXIL_COMPAT_REFUSAL_MIXED. The other two verdicts accept both formats, mixed too, and ignore widths.
+ *     changed, it reports VEXIL_COMPAT_KIND_WIDTH_CHANGED, Major. Where a number was struck off, it reports the new schema that uses it again
+ *     by VEXIL_COMPAT_KIND_TOMBSTONE_REUSED, and one that neither uses it nor strikes it off by VEXIL_COMPAT_KIND_TOMBSTONE_DROPPED, both
+ *     Major. Format 1 stores no widths, and only format 3 numbers that are struck off, so that both images must be of format 2 or both of
+ *     format 3: every other pair is refused by VEXIL_COMPAT_REFUSAL_MIXED. The other two verdicts accept every format, mixed too, and ignore
+ *     widths and struck-off numbers.
  */
 
 /*
@@ -302,6 +308,8 @@ static inline const char *vexil_compat_kind_name(uint64_t kind)
         "FlagsBitRemoved",
         "FlagsBitOrdinalChanged",
         "WidthChanged",
+        "TombstoneReused",
+        "TombstoneDropped",
     };
     return kind < VEXIL_COMPAT_KINDS ? names[kind] : "unknown";
 }

@@ -19,20 +19,29 @@ SIDES = ("none", "old", "new", "both")
 MIXED = "refused 16 both\n"
 # Pairs of samples whose difference no verdict sees.
 NOT_SEEN = ("unresolved", "twice", "silent")
+# Releases between which a number that was struck off is dropped, used, and both.
+STRUCK = [(f"{name}-{old}", f"{name}-{new}") for name in ("lamp", "effect") for old, new in ((1, 2), (2, 3), (1, 3))]
 # A verdict is the words that ask for it, of a tool and of the oracle. The recorded answers have them in this order.
 VERDICTS = PLAIN, IMPORTS, MENDED = (), ("--imports",), ("--mended",)
 
 
 def in_format(image: bytes, number: int) -> bytes:
-    """An image in another format, if it has neither enums nor flags: the others have the same bytes in each."""
+    """An image of format 1 or 2 under another number: in the other of the two, if it has neither enums nor flags, which alone have other bytes there."""
     return number.to_bytes(2, "little") + image[2:]
+
+
+def in_format_3(image: bytes, *struck: int) -> bytes:
+    """An image of format 2 in format 3, with these numbers struck off; its one body is a message, an enum or flags."""
+    (length,) = struct.unpack_from("<H", image, 10)
+    tombstones = struct.pack(f"<H{len(struck)}I", len(struck), *struck)
+    return in_format(image[:10] + struct.pack("<H", length + len(tombstones)) + image[12:] + tombstones, 3)
 
 
 class Record:
     """The file of recorded answers, read from front to back; tools/oracle/README.md gives its form."""
 
     def __init__(self, data: bytes):
-        assert data[:8] == b"VEXANSW5", f"recorded answers of another form: {data[:8]}"
+        assert data[:8] == b"VEXANSW6", f"recorded answers of another form: {data[:8]}"
         self.data, self.at = data, 8
         self.pairs, self.counts, *_ = self.numbers("6I")
 
@@ -162,8 +171,9 @@ class Suite:
         return path
 
     def sample(self, number: int) -> list[Path]:
-        """The sample pair in a format; all verdicts read format 2."""
-        return [self.image(f"{path.stem}-{number}", in_format(path.read_bytes(), number)) for path in SAMPLE]
+        """The sample pair in a format; all verdicts read formats 2 and 3."""
+        images = [in_format_3(path.read_bytes()) if number == 3 else in_format(path.read_bytes(), number) for path in SAMPLE]
+        return [self.image(f"{path.stem}-{number}", image) for path, image in zip(SAMPLE, images)]
 
 
 def by_each(*groups, verdicts=VERDICTS):
@@ -182,29 +192,40 @@ def sample_files(*names: str) -> list[Path]:
     return [ROOT / "samples" / f"{name}.img" for name in names]
 
 
-def without_widths(suite: Suite, name: str) -> Path:
-    """A sample of format 2 as format 1 has it, made by the oracle from its text."""
-    text, image = (suite.folder / f"{name}-1.{ending}" for ending in ("txt", "img"))
-    of_two = (ROOT / "samples" / f"{name}.txt").read_text()
-    text.write_text(re.sub(r"(?m) width \d+$", "", of_two.removeprefix("format 2\n")))
+def remade(suite: Suite, name: str, number: int) -> Path:
+    """A sample of format 2 or 3 as another format has it, made by the oracle from its text."""
+    text, image = (suite.folder / f"{name}-{number}.{ending}" for ending in ("txt", "img"))
+    lines = (ROOT / "samples" / f"{name}.txt").read_text().partition("\n")[2]
+    if number < 3:
+        lines = re.sub(r"(?m)^ +struck .*\n", "", lines)
+    if number < 2:
+        lines = re.sub(r"(?m) width \d+$", "", lines)
+    text.write_text(lines if number == 1 else f"format {number}\n{lines}")
     assert told(ORACLE, "make", text, image)[0] == 0, f"oracle make {text}"
     return image
 
 
+def remade_samples(suite: Suite, names: tuple):
+    """A pair of samples in each format. Where tombstones tell them apart, the mended verdict is in format 2 the first one."""
+    report = suite.asked(*sample_files(*names))[1]
+    first = output(ORACLE, "report", *sample_files(*names))[1] if names in STRUCK else report
+    for number, printed in ((1, MIXED if suite.verdict == MENDED else report), (2, first), (3, report)):
+        suite.files(f"{names} in format {number}", *(remade(suite, name, number) for name in names), printed)
+
+
 def formats(suite: Suite):
-    """The sample pair in both formats, and samples of format 2 in format 1: the mended verdict needs format 2 on both sides, the others read both alike."""
-    for numbers in itertools.product((1, 2), repeat=2):
+    """The sample pair in all formats, and samples in others than their own: the mended verdict needs format 2 on both sides, or 3 on both, the others
+    read all alike."""
+    for numbers in itertools.product((1, 2, 3), repeat=2):
         (old, swapped), (same, new) = map(suite.sample, numbers)
-        read = suite.verdict != MENDED or numbers == (2, 2)
+        read = suite.verdict != MENDED or numbers in ((2, 2), (3, 3))
         suite.files(f"the sample in {numbers}", old, new, SAMPLE_REPORT if read else MIXED)
         suite.files(f"against itself in {numbers}", old, same, "Compatible;Patch;0\n" if read else MIXED)
         suite.files(f"swapped in {numbers}", swapped, same)
-    for name in (*NOT_SEEN, "import", "width"):
-        names = f"{name}-old", f"{name}-new"
-        printed = MIXED if suite.verdict == MENDED else suite.asked(*sample_files(*names))[1]
-        suite.files(f"{name} in format 1", *(without_widths(suite, name) for name in names), printed)
+    for names in [(f"{name}-old", f"{name}-new") for name in (*NOT_SEEN, "import", "width")] + STRUCK:
+        remade_samples(suite, names)
     old, new = suite.sample(2)
-    for number in (0, 3, 258):
+    for number in (0, 4, 258, 259):
         other = suite.image("other", in_format(SAMPLE[0].read_bytes(), number))
         suite.files(f"format {number}, old", other, new, "refused 3 old\n")
         suite.files(f"format {number}, new", old, other, "refused 3 new\n")
@@ -215,6 +236,7 @@ def samples(suite: Suite):
         ("drive-1", "drive-2"), ("drive-2", "drive-3"), ("import-old", "import-new"), ("drive-1", "damaged"),
         ("carousel-1", "carousel-2"), ("carousel-2", "carousel-3"), ("carousel-1", "carousel-3"), ("wheel-1", "wheel-1"),
         ("wheel-1", "wheel-2"), ("wheel-2", "wheel-3"), ("wheel-1", "wheel-3"), ("wheel-3", "wheel-4"), ("wheel-1", "wheel-4"),
+        ("width-old", "lamp-1"), ("lamp-2", "lamp-1"), *STRUCK,
     ):
         suite.files(" ".join(names), *sample_files(*names))
     for name in (*NOT_SEEN, "width"):
@@ -241,7 +263,7 @@ def files(suite: Suite):
 
 
 def both_bad(suite: Suite):
-    short, other_format = b"\1\0", b"\3\0\0\0\0\0\0\0"
+    short, other_format = b"\1\0", b"\4\0\0\0\0\0\0\0"
     suite.images("both bad, the old answers", short, other_format, "refused 2 old\n")
     suite.images("both bad, swapped", other_format, short, "refused 3 old\n")
 
@@ -267,7 +289,7 @@ def of_record(suite: Suite):
 def listings(suite: Suite):
     """The contents of named images, and of the recorded ones, of each length and each refusal the first."""
     suite.listed("the sample", SAMPLE[0], "0;message;Drive\n")
-    for number in (1, 2):
+    for number in (1, 2, 3):
         suite.listed(f"no entries, format {number}", suite.image("old", in_format(bytes(8), number)), "")
         suite.listed(f"the sample, format {number}", suite.sample(number)[0], "0;message;Drive\n")
     suite.listed("a missing file", suite.folder / "missing.img", "refused 2 old\n")

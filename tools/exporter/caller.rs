@@ -2,13 +2,14 @@
 //! beside it (`pub mod caller;` in lib.rs) and changed at will.
 //!
 //! ```ignore
-//! caller::write_image(&schema, exporter::Format::Two, Path::new("new.img"))
+//! caller::write_image(&schema, exporter::Format::Three, Path::new("new.img"))
 //! ```
 //!
-//! The mended verdict needs format 2 on both sides, as this call asks for it: it
-//! compares the widths of enums and flags, which format 1 (`Format::One`) does not hold.
-//! The schema must have been through `typeck::check`, where they come from. The other
-//! verdicts read either format.
+//! The mended verdict needs format 3 on both sides, as this call asks for it, or format 2
+//! on both: it compares the widths of enums and flags, which format 1 (`Format::One`) does
+//! not hold, and the tombstones, which format 2 (`Format::Two`) does not hold either. The
+//! schema must have been through `typeck::check`, where the widths come from. The other
+//! verdicts read every format.
 
 use super::exporter::{export, Format};
 use crate::ir::CompiledSchema;

@@ -1,11 +1,11 @@
-//! From a `CompiledSchema` to an image of format 1 or 2, the file that the comparer
+//! From a `CompiledSchema` to an image of format 1, 2 or 3, the file that the comparer
 //! reads, or the reason why there is no such image.
 //!
 //! One file over `std` alone, made to be a module of the crate vexil-lang:
 //! copy it beside compat.rs, write `pub mod exporter;` in lib.rs and call
 //!
 //! ```ignore
-//! let exported = exporter::export(&schema, exporter::Format::Two)?;
+//! let exported = exporter::export(&schema, exporter::Format::Three)?;
 //! for warning in &exported.warnings {
 //!     eprintln!("{warning}");
 //! }
@@ -14,8 +14,9 @@
 //!
 //! caller.rs, beside this file, is a whole function that does so, to be copied too.
 //!
-//! The mended verdict needs format 2 on both sides; all others read both formats, and
-//! answer to a schema in either one the same. `Format::One` has no widths.
+//! The mended verdict needs format 2 on both sides, or format 3 on both; all others read
+//! every format, and answer to a schema in each of them the same. `Format::One` has no
+//! widths, and `Format::Three` alone has tombstones.
 //!
 //! As a part of that crate it does not compile once the IR has a kind, a type
 //! or an encoding more, so none is dropped in silence.
@@ -24,17 +25,19 @@
 //! (a stub becomes an empty entry, with a warning), the listed ids as they are, resolvable or
 //! not, and of each definition what `compat::check` reads: names, ordinals and
 //! bits, types, encodings with limits, and the marks deprecated and
-//! non-exhaustive of messages, enums and fields. In format 2 also the widths as they
-//! stand in the schema: `wire_bits` of enums, `wire_bytes` of flags. They are 0 until
+//! non-exhaustive of messages, enums and fields. In formats 2 and 3 also the widths as
+//! they stand in the schema: `wire_bits` of enums, `wire_bytes` of flags. They are 0 until
 //! `typeck::check` fills them in, which it does for what a schema declares itself: an
 //! import comes with those of its own check, or with 0. A 0 of an enum is written; of
-//! flags it is refused.
+//! flags it is refused. In format 3 also the ordinals of the tombstones of messages,
+//! enums, flags, unions and union variants, all of them in the order of the schema.
 //!
 //! Lost are all other annotations, also deprecation's reason and the marks of
-//! other definitions, of variants and of bits; tombstones, constants,
-//! constraints, wire sizes, in format 1 the widths, an enum's backing type, spans,
-//! origins, aliases that the registry resolves; of configs, generic aliases and traits
-//! all but the name; of impls everything.
+//! other definitions, of variants and of bits; a tombstone's reason, since and original
+//! type, in formats 1 and 2 the tombstones; constants, constraints, wire sizes, in
+//! format 1 the widths, an enum's backing type, spans, origins, aliases that the registry
+//! resolves; of configs, generic aliases and traits all but the name; of impls
+//! everything.
 //!
 //! A warning names an entry that was left a stub, such as an import that was not
 //! resolved. The image hides what it stands for: a field that goes from one stub to
@@ -48,19 +51,19 @@
 //! |---|---|
 //! | 4 | over 512 entries or listed ids, over 16 segments, over 255 names of inline bits |
 //! | 7 | a name over 255 bytes or with a byte other than a letter, a digit or `_` |
-//! | 9 | a sub-byte type of 0 or over 64 bits; in format 2 wire bytes of flags other than 1, 2, 4 or 8 |
+//! | 9 | a sub-byte type of 0 or over 64 bits; in formats 2 and 3 wire bytes of flags other than 1, 2, 4 or 8 |
 //! | 10 | a 33rd node on a path of a type, a ninth delta |
-//! | 1 | over 32,768 bytes at a body's end; over 65,535 items in a list |
+//! | 1 | over 32,768 bytes at a body's end; over 65,535 items or tombstones in a list |
 //!
 //! A reader never meets two of these, for the count has no room: 256 names of
-//! inline bits (4, as for other counts) and 65,536 items (1, for an item has 5
-//! bytes or more). Of the other numbers 2, 3, 5, 6 and 8 tell of bytes that are
+//! inline bits (4, as for other counts) and 65,536 items or tombstones (1, for each
+//! has 4 bytes or more). Of the other numbers 2, 3, 5, 6 and 8 tell of bytes that are
 //! not written here, 11, 12 and 16 of two images.
 
 use crate::ast::{PrimitiveType, SemanticType, SubByteType};
 use crate::ir::{
     CompiledSchema, Encoding, EnumVariantDef, FieldDef, FlagsBitDef, ResolvedAnnotations,
-    ResolvedType, TypeDef, TypeId, TypeRegistry, UnionVariantDef,
+    ResolvedType, TombstoneDef, TypeDef, TypeId, TypeRegistry, UnionVariantDef,
 };
 use std::fmt;
 
@@ -86,10 +89,12 @@ pub enum Format {
     One = 1,
     /// With the widths of enums and flags.
     Two = 2,
+    /// With the tombstones of messages, enums, flags, unions and union variants.
+    Three = 3,
 }
 
 impl Format {
-    const ALL: [Format; 2] = [Format::One, Format::Two];
+    const ALL: [Format; 3] = [Format::One, Format::Two, Format::Three];
 
     /// The format of a number, if there is one.
     pub fn of(number: u16) -> Option<Format> {
@@ -103,6 +108,10 @@ impl Format {
 
     fn has_widths(self) -> bool {
         self >= Format::Two
+    }
+
+    fn has_tombstones(self) -> bool {
+        self >= Format::Three
     }
 }
 
@@ -296,22 +305,22 @@ fn put_body(image: &mut Vec<u8>, format: Format, heading: &Heading, def: &TypeDe
     match def {
         TypeDef::Message(d) => {
             put_marks(image, &d.annotations);
-            put_list(image, &d.fields)
+            put_items(image, format, &d.fields, &d.tombstones)
         }
         TypeDef::Enum(d) => {
             put_marks(image, &d.annotations);
             if format.has_widths() {
                 image.push(d.wire_bits);
             }
-            put_list(image, &d.variants)
+            put_items(image, format, &d.variants, &d.tombstones)
         }
         TypeDef::Flags(d) => {
             if format.has_widths() {
                 put_wire_bytes(image, d.wire_bytes).map_err(|refused| refused.within("width"))?;
             }
-            put_list(image, &d.bits)
+            put_items(image, format, &d.bits, &d.tombstones)
         }
-        TypeDef::Union(d) => put_list(image, &d.variants),
+        TypeDef::Union(d) => put_items(image, format, &d.variants, &d.tombstones),
         TypeDef::Newtype(d) => put_root(image, &d.inner_type),
         TypeDef::Config(_) | TypeDef::GenericAlias(_) | TypeDef::Trait(_) | TypeDef::Impl(_) => {
             Ok(())
@@ -353,7 +362,7 @@ trait Item {
     const WORD: &'static str;
     fn number(&self) -> u32;
     fn name(&self) -> &str;
-    fn put_rest(&self, image: &mut Vec<u8>) -> Written;
+    fn put_rest(&self, image: &mut Vec<u8>, format: Format) -> Written;
 }
 
 impl Item for FieldDef {
@@ -367,7 +376,7 @@ impl Item for FieldDef {
         &self.name
     }
 
-    fn put_rest(&self, image: &mut Vec<u8>) -> Written {
+    fn put_rest(&self, image: &mut Vec<u8>, _format: Format) -> Written {
         put_marks(image, &self.annotations);
         put_encoding(image, &self.encoding.encoding, 0)
             .map_err(|refused| refused.within("encoding"))?;
@@ -390,7 +399,7 @@ impl Item for EnumVariantDef {
         &self.name
     }
 
-    fn put_rest(&self, _image: &mut Vec<u8>) -> Written {
+    fn put_rest(&self, _image: &mut Vec<u8>, _format: Format) -> Written {
         Ok(())
     }
 }
@@ -406,7 +415,7 @@ impl Item for FlagsBitDef {
         &self.name
     }
 
-    fn put_rest(&self, _image: &mut Vec<u8>) -> Written {
+    fn put_rest(&self, _image: &mut Vec<u8>, _format: Format) -> Written {
         Ok(())
     }
 }
@@ -422,25 +431,44 @@ impl Item for UnionVariantDef {
         &self.name
     }
 
-    fn put_rest(&self, image: &mut Vec<u8>) -> Written {
-        put_list(image, &self.fields)
+    fn put_rest(&self, image: &mut Vec<u8>, format: Format) -> Written {
+        put_items(image, format, &self.fields, &self.tombstones)
     }
 }
 
-fn put_list<T: Item>(image: &mut Vec<u8>, list: &[T]) -> Written {
-    let Ok(count) = u16::try_from(list.len()) else {
-        let found = format!("{} items, at most 65535", list.len());
-        return Err(Refused::new(LONG, found).within(format!("{} list", T::WORD)));
-    };
-    image.extend(count.to_le_bytes());
-    list.iter().try_for_each(|item| put_item(image, item))
+/// The items of a body or of a variant, and what is struck off of their numbers.
+fn put_items<T: Item>(
+    image: &mut Vec<u8>,
+    format: Format,
+    items: &[T],
+    tombstones: &[TombstoneDef],
+) -> Written {
+    put_length(image, items.len(), T::WORD)?;
+    items
+        .iter()
+        .try_for_each(|item| put_item(image, format, item))?;
+    if format.has_tombstones() {
+        put_length(image, tombstones.len(), "tombstone")?;
+        image.extend(tombstones.iter().flat_map(|t| t.ordinal.to_le_bytes()));
+    }
+    Ok(())
 }
 
-fn put_item<T: Item>(image: &mut Vec<u8>, item: &T) -> Written {
+/// How many items or tombstones there are.
+fn put_length(image: &mut Vec<u8>, length: usize, word: &str) -> Written {
+    let Ok(count) = u16::try_from(length) else {
+        let found = format!("{length} items, at most 65535");
+        return Err(Refused::new(LONG, found).within(format!("{word} list")));
+    };
+    image.extend(count.to_le_bytes());
+    Ok(())
+}
+
+fn put_item<T: Item>(image: &mut Vec<u8>, format: Format, item: &T) -> Written {
     let (number, name) = (item.number(), item.name());
     image.extend(number.to_le_bytes());
     put_name(image, name)
-        .and_then(|()| item.put_rest(image))
+        .and_then(|()| item.put_rest(image, format))
         .map_err(|refused| refused.within(format!("{} {name:?} @{number}", T::WORD)))
 }
 

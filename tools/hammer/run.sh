@@ -1,9 +1,9 @@
 #!/usr/bin/env bash
-# Hammers the library: the recorded pairs, then COUNT random ones of SEED and of both formats, against the oracle in one process, for
+# Hammers the library: the recorded pairs, then COUNT random ones of SEED and of all formats, against the oracle in one process, for
 # SECONDS (60) at most, by the verdict of 01, the one with imports and the mended one; and the contents of each image. With every fourth
 # random pair go three more: one without repeats whose images have a copy that is filed anew, so that all four pairs of image and copy
-# must get the answer of the first, one made for imports, and one made for the mended verdict, mostly of format 2. With
-# --refiled, --imports or --mended only COUNT of these are run.
+# must get the answer of the first, one made for imports, and one made for the mended verdict, mostly of format 3.
+# With --refiled, --imports or --mended only COUNT of these are run.
 #
 #   tools/hammer/run.sh [--refiled | --imports | --mended] SEED COUNT [SECONDS]
 #

@@ -8,6 +8,17 @@ enum { DELTA = 3 };
 /* The tags that are followed by more than one inner type alone. */
 enum { PRIMITIVE = 0, SUB_BYTE = 1, SEMANTIC = 2, NAMED = 3, FIXED_ARRAY = 6, MAP = 8, RESULT = 9, BITS = 16 };
 
+/* What the formats hold. */
+static bool has_widths(const struct cursor *c)
+{
+    return c->format >= 2;
+}
+
+static bool has_tombstones(const struct cursor *c)
+{
+    return c->format >= 3;
+}
+
 static bool read_encoding(struct cursor *c)
 {
     uint64_t code;
@@ -113,11 +124,22 @@ static bool read_bit(struct cursor *c)
     return read_item(c, "bit name");
 }
 
+static bool read_tombstone(struct cursor *c)
+{
+    uint64_t number;
+    return read_number(c, 4, "tombstone", &number);
+}
+
+static bool read_tombstones(struct cursor *c)
+{
+    return !has_tombstones(c) || read_list(c, "tombstone count", read_tombstone);
+}
+
 static bool read_union_variant(struct cursor *c)
 {
     uint64_t ordinal;
     return read_number(c, 4, "variant ordinal", &ordinal) && read_name(c, "union variant name")
-        && read_list(c, "variant's field count", read_field);
+        && read_list(c, "variant's field count", read_field) && read_tombstones(c);
 }
 
 static bool read_declaration_name(struct cursor *c)
@@ -130,21 +152,16 @@ static bool read_declaration_name(struct cursor *c)
     return true;
 }
 
-static bool has_widths(uint64_t format)
-{
-    return format >= 2;
-}
-
-static bool read_wire_bits(struct cursor *c, uint64_t format)
+static bool read_wire_bits(struct cursor *c)
 {
     uint64_t bits;
-    return !has_widths(format) || read_number(c, 1, "width", &bits);
+    return !has_widths(c) || read_number(c, 1, "width", &bits);
 }
 
-static bool read_wire_bytes(struct cursor *c, uint64_t format)
+static bool read_wire_bytes(struct cursor *c)
 {
     uint64_t bytes;
-    if (!has_widths(format))
+    if (!has_widths(c))
         return true;
     if (!read_number(c, 1, "width", &bytes))
         return false;
@@ -153,18 +170,18 @@ static bool read_wire_bytes(struct cursor *c, uint64_t format)
 }
 
 /* What follows kind and name. */
-static bool read_rest(struct cursor *c, uint64_t format)
+static bool read_rest(struct cursor *c)
 {
     uint64_t marks;
     switch (c->fault.place.kind) {
     case MESSAGE:
-        return read_code(c, "marks", 0, 3, &marks) && read_list(c, "count", read_field);
+        return read_code(c, "marks", 0, 3, &marks) && read_list(c, "count", read_field) && read_tombstones(c);
     case ENUM:
-        return read_code(c, "marks", 0, 3, &marks) && read_wire_bits(c, format) && read_list(c, "count", read_enum_variant);
+        return read_code(c, "marks", 0, 3, &marks) && read_wire_bits(c) && read_list(c, "count", read_enum_variant) && read_tombstones(c);
     case FLAGS:
-        return read_wire_bytes(c, format) && read_list(c, "count", read_bit);
+        return read_wire_bytes(c) && read_list(c, "count", read_bit) && read_tombstones(c);
     case UNION:
-        return read_list(c, "count", read_union_variant);
+        return read_list(c, "count", read_union_variant) && read_tombstones(c);
     case NEWTYPE:
         return read_type(c, 1);
     default:
@@ -172,7 +189,7 @@ static bool read_rest(struct cursor *c, uint64_t format)
     }
 }
 
-bool read_body(struct cursor *c, uint64_t format)
+bool read_body(struct cursor *c)
 {
     uint64_t kind;
     if (!read_number(c, 1, "kind", &kind))
@@ -180,7 +197,7 @@ bool read_body(struct cursor *c, uint64_t format)
     if (kind > IMPL)
         return refuse(c, VEXIL_COMPAT_REFUSAL_KIND, c->at - 1, (struct found){"kind", VALUE, kind});
     c->fault.place.kind = (int)kind;
-    if ((kind != IMPL && !read_declaration_name(c)) || !read_rest(c, format))
+    if ((kind != IMPL && !read_declaration_name(c)) || !read_rest(c))
         return false;
     return c->at == c->end || refuse(c, VEXIL_COMPAT_REFUSAL_BODY, c->at, (struct found){"left over", BYTES, c->end - c->at});
 }

@@ -8,6 +8,7 @@ struct cursor {
     const uint8_t *image;
     size_t at;
     size_t end;
+    uint64_t format; /* of the image, once its head is read: by it a body is read */
     uint64_t early; /* the refusal for a part that ends early */
     struct fault fault;
 };
@@ -24,7 +25,7 @@ bool read_number(struct cursor *c, size_t width, const char *what, uint64_t *num
 bool read_code(struct cursor *c, const char *what, uint64_t least, uint64_t most, uint64_t *code);
 bool read_name(struct cursor *c, const char *what);
 
-/* A whole body of an image of this format, to its end. */
-bool read_body(struct cursor *c, uint64_t format);
+/* A whole body, to its end. */
+bool read_body(struct cursor *c);
 
 #endif

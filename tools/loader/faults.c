@@ -4,11 +4,10 @@
 
 #include <inttypes.h>
 
-enum { FIRST_FORMAT = 1, LAST_FORMAT = 2 };
+enum { FIRST_FORMAT = 1, LAST_FORMAT = 3 };
 enum { HEAD_BYTES = 8, PAIR_BYTES = 4, ID_BYTES = 4, MOST_ENTRIES = 512, MOST_IDS = 512, MOST_SEGMENTS = 16 };
 
 struct head {
-    uint64_t format;
     size_t entries;
     size_t ids;
     size_t segments;
@@ -31,9 +30,9 @@ static bool read_head(struct cursor *c, struct head *head)
 {
     if (!take(c, HEAD_BYTES, "head"))
         return false;
-    head->format = format_of(c->image);
-    if (head->format < FIRST_FORMAT || head->format > LAST_FORMAT)
-        return refuse(c, VEXIL_COMPAT_REFUSAL_FORMAT, 0, (struct found){"format", VALUE, head->format});
+    c->format = format_of(c->image);
+    if (c->format < FIRST_FORMAT || c->format > LAST_FORMAT)
+        return refuse(c, VEXIL_COMPAT_REFUSAL_FORMAT, 0, (struct found){"format", VALUE, c->format});
     return count_at(c, 2, "N", MOST_ENTRIES, &head->entries) && count_at(c, 4, "M", MOST_IDS, &head->ids)
         && count_at(c, 6, "S", MOST_SEGMENTS, &head->segments);
 }
@@ -115,7 +114,7 @@ static bool read_bodies(struct cursor *c, const struct head *head)
         c->at = body.offset;
         c->end = body.offset + body.length;
         c->fault.place = (struct place){.entry = (int)id, .kind = NO_KIND};
-        if (!read_body(c, head->format))
+        if (!read_body(c))
             return false;
     }
     return true;
@@ -123,8 +122,8 @@ static bool read_bodies(struct cursor *c, const struct head *head)
 
 struct fault find_fault(const uint8_t *image, size_t length)
 {
-    struct cursor c = {image, 0, length, VEXIL_COMPAT_REFUSAL_SHORT_HEAD, {.place = {.entry = NO_ENTRY, .kind = NO_KIND}}};
-    struct head head = {0, 0, 0, 0};
+    struct cursor c = {image, 0, length, 0, VEXIL_COMPAT_REFUSAL_SHORT_HEAD, {.place = {.entry = NO_ENTRY, .kind = NO_KIND}}};
+    struct head head = {0, 0, 0};
     if (length > VEXIL_COMPAT_IMAGE_BYTES)
         refuse(&c, VEXIL_COMPAT_REFUSAL_LONG, 0, (struct found){"image", BYTES, length});
     else if (read_front(&c, &head) && judge_contents(&c, &head))

@@ -112,5 +112,7 @@ void explain_mixed(const struct image *old, const struct image *new)
     fprintf(stderr, ": format %" PRIu64 "; ", format_of(old->bytes));
     print_path(new->path);
     fprintf(stderr, ": format %" PRIu64, format_of(new->bytes));
-    fputs(" (--mended needs format 2 on both sides, export with `Format::Two`: README, \"How to make images\")\n", stderr);
+    fputs(" (--mended needs format 3 on both sides, or 2 on both, export with `Format::Three` or `Format::Two`: README, "
+          "\"How to make images\")\n",
+          stderr);
 }

@@ -11,6 +11,7 @@ import random
 import re
 import shutil
 import signal
+import struct
 import subprocess
 import sys
 
@@ -37,12 +38,13 @@ def another_answer(suite: Suite):
 
 
 def counts(suite: Suite):
-    """Those of the recorded pair that changes in most kinds: in all but the three that never change, and in width by the mended verdict alone."""
+    """Those of the recorded pair that changes in most kinds: in all but the three that never change, and in widths and tombstones by the mended
+    verdict alone."""
     _, old, new, *_ = max(recorded(suite.verdict), key=lambda pair: sum(map(bool, pair[3][5:])))
     old, new = suite.image("old", old), suite.image("new", new)
     values = [int(line.split()[1]) for line in output(ORACLE, "verdict", *suite.call(old, new))[1].splitlines()][5:]
     lines = "".join(f"{kind} {value}\n" for kind, value in zip(kinds(), values, strict=True) if value)
-    never = 3 if suite.verdict == MENDED else 4
+    never = 3 if suite.verdict == MENDED else 6
     suite.equal("all other kinds are there", lines.count("\n"), len(kinds()) - never)
     status, report = suite.asked(old, new)
     suite.equal("counts", output(LOADER, "--counts", *suite.call(old, new)), (status, lines + report))
@@ -58,6 +60,9 @@ def counts_by_verdict(suite: Suite):
         (PLAIN, ("wheel-1", "wheel-2"), ["FieldTypeChanged 2", "FieldRenamed 1", "VariantAdded 1"]),
         (MENDED, ("wheel-1", "wheel-2"), ["FieldRenamed 1", "VariantAdded 1"]),
         (MENDED, ("wheel-1", "wheel-1"), []),
+        (PLAIN, ("effect-1", "effect-3"), ["VariantAdded 1"]),
+        (MENDED, ("effect-1", "effect-3"), ["VariantAdded 1", "TombstoneReused 1"]),
+        (MENDED, ("effect-1", "effect-2"), ["TombstoneDropped 2"]),
     ):
         for options in ([*verdict, "--counts"], ["--counts", *verdict]):
             found = output(LOADER, *options, *sample_files(*names))[1].splitlines()
@@ -65,13 +70,15 @@ def counts_by_verdict(suite: Suite):
 
 
 def told_apart(suite: Suite):
-    """A changed import is Breaking by the verdict with imports alone, a changed width by the mended one alone; the wheel's vectors are not by the
-    mended one alone, until one changes."""
+    """A changed import is Breaking by the verdict with imports alone, a changed width and a tombstone that is dropped or reused by the mended one
+    alone; the wheel's vectors are not by the mended one alone, until one changes."""
     for verdict in VERDICTS:
         imports = DO_NOT_LOAD if verdict == IMPORTS else LOAD
         suite.equal(f"an import that changes {verdict}", output(LOADER, *verdict, *sample_files("import-old", "import-new"))[0], imports)
         widths = DO_NOT_LOAD if verdict == MENDED else LOAD
-        suite.equal(f"a width that changes {verdict}", output(LOADER, *verdict, *sample_files("width-old", "width-new"))[0], widths)
+        for names in (("width-old", "width-new"), ("lamp-1", "lamp-2"), ("effect-1", "effect-2"), ("effect-1", "effect-3")):
+            suite.equal(f"{names} {verdict}", output(LOADER, *verdict, *sample_files(*names))[0], widths)
+        suite.equal(f"a number that is free {verdict}", output(LOADER, *verdict, *sample_files("effect-2", "effect-3"))[0], LOAD)
         vectors = LOAD if verdict == MENDED else DO_NOT_LOAD
         for old, new in ((1, 1), (1, 2), (2, 3), (1, 3), (4, 4)):
             suite.equal(f"wheel {old} {new} {verdict}", output(LOADER, *verdict, *sample_files(f"wheel-{old}", f"wheel-{new}"))[0], vectors)
@@ -120,7 +127,8 @@ def asked_for_help(suite: Suite):
     suite.equal("--help has the statuses", named in help_text, True)
     for page in (help_text, readme):
         page = " ".join(page.split())
-        suite.equal("it has what --mended needs", "needs images of format 2 on both sides" in page and "`Format::Two`" in page, True)
+        needed = ("needs images of format 2 on both sides, or of format 3 on both", "`Format::Three`", "`Format::Two`")
+        suite.equal("it has what --mended needs", [words for words in needed if words not in page], [])
     suite.equal("README has the usage", "".join(f"    {line}\n" for line in help_text.partition("\n\n")[0].splitlines()) in readme, True)
     status, printed, said = told(LOADER, "--version")
     suite.equal("--version", (status, printed.partition(", toolchain ")[0], said), (0, f"vexil-compat {version()}", ""))
@@ -143,11 +151,11 @@ def refusals(suite: Suite):
 
 def mixed(suite: Suite):
     """Of refusal 16 it is said which image has which format, and what the mended verdict needs."""
-    advice = '(--mended needs format 2 on both sides, export with `Format::Two`: README, "How to make images")'
-    (first, _), (second, _) = suite.sample(1), suite.sample(2)
-    for (old, of_old), (new, of_new) in itertools.product(((first, 1), (second, 2)), repeat=2):
-        if of_old == of_new == 2:
-            suite.equal("both of format 2", told(LOADER, *MENDED, old, new), (LOAD, "Compatible;Patch;0\n", ""))
+    advice = '(--mended needs format 3 on both sides, or 2 on both, export with `Format::Three` or `Format::Two`: README, "How to make images")'
+    images = [(suite.sample(number)[0], number) for number in (1, 2, 3)]
+    for (old, of_old), (new, of_new) in itertools.product(images, repeat=2):
+        if of_old == of_new != 1:
+            suite.equal(f"both of format {of_old}", told(LOADER, *MENDED, old, new), (LOAD, "Compatible;Patch;0\n", ""))
         else:
             suite.refused(f"{of_old} {of_new}", [*MENDED, old, new], MIXED, f"{old}: refused 16: mixed: format {of_old}; {new}: format {of_new} {advice}")
         for verdict in (PLAIN, IMPORTS):
@@ -169,6 +177,34 @@ def of_widths(suite: Suite):
     first = suite.image("first", in_format(image, 1))
     why = f"{first}: refused 8: body: entry 0, flags 'Lamps', at byte {at + 11}: name length, 1 byte missing"
     suite.refused("a width in format 1", [first, good], "refused 8 old\n", why)
+
+
+def of_tombstones(suite: Suite):
+    """Of a body that ends within its tombstones it is said which of them is missing, and where."""
+    count, number = ("tombstone count", 2), ("tombstone", 4)
+    for name, items, parts in (
+        ("flags 'Lamps'", "#0 flags Lamps width 1\n  struck 5 7\n  @0 red\n", (count, number, number)),
+        ("union 'Lit'", "#0 union Lit\n  struck 4\n  @0 On\n    struck 6\n", (count, number, count, number)),
+    ):
+        good = suite.made("struck", f"format 3\nnamespace\ndeclares {name.split()[1][1:-1]}#0\n\n{items}")
+        image, at = good.read_bytes(), good.stat().st_size - sum(size for _, size in parts)
+        for what, size in parts:
+            for kept in range(size):
+                cut, left = suite.image("cut", shortened(image, at + kept)), size - kept
+                why = f"{cut}: refused 8: body: entry 0, {name}, at byte {at}: {what}, {left} byte{'s' * (left > 1)} missing"
+                suite.refused(f"{name} of {at + kept} bytes", [good, cut], "refused 8 new\n", why)
+            at += size
+    image = suite.made("struck", "format 3\nnamespace\ndeclares M#0\n\n#0 message M\n  struck 5 7\n").read_bytes()
+    for name, bad, at in (("fewer counted", image[:-10] + b"\1" + image[-9:], len(image) - 4), ("in format 2", in_format(image, 2), len(image) - 10)):
+        path = suite.image("bad", bad)
+        why = f"{path}: refused 8: body: entry 0, message 'M', at byte {at}: left over, {len(image) - at} bytes"
+        suite.refused(f"tombstones, {name}", ["--list", path], "refused 8 old\n", why)
+
+
+def shortened(image: bytes, length: int) -> bytes:
+    """An image of one body that ends early."""
+    (offset,) = struct.unpack_from("<H", image, 8)
+    return image[:10] + struct.pack("<H", length - offset) + image[12:length]
 
 
 def no_images(suite: Suite):
@@ -208,7 +244,8 @@ def places(suite: Suite):
     suite.equal("the numbers of damaged images", (done.returncode, done.stdout[-200:] if done.returncode else b""), (0, b""))
     told_of = {line.split(b":")[0] for line in done.stdout.splitlines()}
     suite.equal("every number is among them", len(told_of - {b"accepted"}), 10)
-    suite.equal("a width is among them", b": width " in done.stdout, True)
+    for what in (b": width ", b": tombstone, "):
+        suite.equal(f"{what} is among them", what in done.stdout, True)
 
 
 def damaged_images(images: list[bytes], count: int):
@@ -317,5 +354,5 @@ if __name__ == "__main__":
         counts_by_verdict,
         told_apart,
     )
-    sayings = (refusals, mixed, of_widths, no_images, places, alias_pairs)
+    sayings = (refusals, mixed, of_widths, of_tombstones, no_images, places, alias_pairs)
     sys.exit(Suite.run(*by_verdict, listings, statuses, usage, asked_for_help, *sayings, calls, overruns, under_valgrind))

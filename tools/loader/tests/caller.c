@@ -7,7 +7,7 @@
 #include <stdio.h>
 #include <string.h>
 
-/* All in format 2. `ride` with message `Drive`: `speed` u16 at 0, and in the new one `limit` u16 at 1. */
+/* In format 2 if nothing else is said. `ride` with message `Drive`: `speed` u16 at 0, and in the new one `limit` u16 at 1. */
 static const uint8_t old_image[] = {
     2, 0, 1, 0, 1, 0, 1, 0, 21, 0, 25, 0, 0, 0, 0, 0, 4, 'r', 'i', 'd', 'e', 0, 5, 'D', 'r', 'i', 'v', 'e', 0, 1, 0,
     0, 0, 0, 0, 5, 's', 'p', 'e', 'e', 'd', 0, 0, 0, 0, 2,
@@ -28,6 +28,10 @@ static const uint8_t vector_old[] = {
 /* Flags `A` of one byte or, with another byte before the two of the count, of two; and in format 1, which lacks that byte. */
 static const uint8_t width_old[] = {2, 0, 1, 0, 1, 0, 0, 0, 16, 0, 6, 0, 0, 0, 0, 0, 2, 1, 'A', 1, 0, 0};
 static const uint8_t width_none[] = {1, 0, 1, 0, 1, 0, 0, 0, 16, 0, 5, 0, 0, 0, 0, 0, 2, 1, 'A', 0, 0};
+/* Flags `A` in format 3: without bits, and bit 3 struck off; the same without that; and with bit 3, `x`. */
+static const uint8_t struck[] = {3, 0, 1, 0, 1, 0, 0, 0, 16, 0, 12, 0, 0, 0, 0, 0, 2, 1, 'A', 1, 0, 0, 1, 0, 3, 0, 0, 0};
+static const uint8_t not_struck[] = {3, 0, 1, 0, 1, 0, 0, 0, 16, 0, 8, 0, 0, 0, 0, 0, 2, 1, 'A', 1, 0, 0, 0, 0};
+static const uint8_t used[] = {3, 0, 1, 0, 1, 0, 0, 0, 16, 0, 14, 0, 0, 0, 0, 0, 2, 1, 'A', 1, 1, 0, 3, 0, 0, 0, 1, 'x', 0, 0};
 static uint8_t import_new[sizeof import_old], vector_new[sizeof vector_old], width_new[sizeof width_old];
 static const char report[] = "FieldAdded;Major;Drive;+limit;field 'limit' @1 was added\nBreaking;Major;1\n";
 static const char listing[] = "0;message;Drive\n";
@@ -46,7 +50,7 @@ static const struct verdict {
     uint64_t (*report)(const uint8_t *, size_t, const uint8_t *, size_t, uint8_t *, size_t);
     bool loads_changed_import;
     bool loads_same_vector;
-    bool ignores_widths;
+    bool ignores_formats; /* and what only a later one holds: widths, tombstones */
 } verdicts[] = {
     {"the first", vexil_compat_may_load, vexil_compat_verdict, vexil_compat_values, vexil_compat_report, true, false, true},
     {"with imports", vexil_compat_imports_may_load, vexil_compat_imports_verdict, vexil_compat_imports_values, vexil_compat_imports_report, false, false, true},
@@ -88,16 +92,40 @@ static void may_load(const struct verdict *by)
 /* A verdict that compares widths refuses an image that has none, also against itself. */
 static void widths(const struct verdict *by)
 {
-    const uint64_t mixed = by->ignores_widths ? VEXIL_COMPAT_REFUSAL_NONE : VEXIL_COMPAT_REFUSAL_MIXED;
-    const uint64_t both = by->ignores_widths ? VEXIL_COMPAT_SIDE_NONE : VEXIL_COMPAT_SIDE_BOTH;
+    const uint64_t mixed = by->ignores_formats ? VEXIL_COMPAT_REFUSAL_NONE : VEXIL_COMPAT_REFUSAL_MIXED;
+    const uint64_t both = by->ignores_formats ? VEXIL_COMPAT_SIDE_NONE : VEXIL_COMPAT_SIDE_BOTH;
     HOLD(by->may_load(width_old, sizeof width_old, width_old, sizeof width_old));
-    HOLD(by->may_load(width_old, sizeof width_old, width_new, sizeof width_new) == by->ignores_widths);
+    HOLD(by->may_load(width_old, sizeof width_old, width_new, sizeof width_new) == by->ignores_formats);
     HOLD(by->value(width_old, sizeof width_old, width_new, sizeof width_new, vexil_compat_count_of(VEXIL_COMPAT_KIND_WIDTH_CHANGED))
-         == !by->ignores_widths);
-    HOLD(by->may_load(width_none, sizeof width_none, width_none, sizeof width_none) == by->ignores_widths);
+         == !by->ignores_formats);
+    HOLD(by->may_load(width_none, sizeof width_none, width_none, sizeof width_none) == by->ignores_formats);
     HOLD(by->value(width_none, sizeof width_none, width_new, sizeof width_new, VEXIL_COMPAT_SELECT_NUMBER) == mixed);
     HOLD(by->value(width_old, sizeof width_old, width_none, sizeof width_none, VEXIL_COMPAT_SELECT_NUMBER) == mixed);
     HOLD(by->value(width_old, sizeof width_old, width_none, sizeof width_none, VEXIL_COMPAT_SELECT_SIDE) == both);
+}
+
+static uint64_t changes(const struct verdict *by, const uint8_t *image, size_t len, uint64_t kind)
+{
+    return by->value(struck, sizeof struck, image, len, vexil_compat_count_of(kind));
+}
+
+/* A number that was struck off and is dropped or used; and format 3 beside format 2. */
+static void tombstones(const struct verdict *by)
+{
+    const uint64_t mixed = by->ignores_formats ? VEXIL_COMPAT_REFUSAL_NONE : VEXIL_COMPAT_REFUSAL_MIXED;
+    const uint64_t told = !by->ignores_formats;
+    HOLD(by->may_load(struck, sizeof struck, struck, sizeof struck));
+    HOLD(by->may_load(not_struck, sizeof not_struck, struck, sizeof struck));
+    HOLD(by->may_load(not_struck, sizeof not_struck, used, sizeof used));
+    HOLD(by->may_load(struck, sizeof struck, not_struck, sizeof not_struck) == by->ignores_formats);
+    HOLD(by->may_load(struck, sizeof struck, used, sizeof used) == by->ignores_formats);
+    HOLD(changes(by, not_struck, sizeof not_struck, VEXIL_COMPAT_KIND_TOMBSTONE_DROPPED) == told);
+    HOLD(changes(by, not_struck, sizeof not_struck, VEXIL_COMPAT_KIND_TOMBSTONE_REUSED) == 0);
+    HOLD(changes(by, used, sizeof used, VEXIL_COMPAT_KIND_TOMBSTONE_REUSED) == told);
+    HOLD(changes(by, used, sizeof used, VEXIL_COMPAT_KIND_TOMBSTONE_DROPPED) == 0);
+    HOLD(by->value(width_old, sizeof width_old, not_struck, sizeof not_struck, VEXIL_COMPAT_SELECT_NUMBER) == mixed);
+    HOLD(by->value(not_struck, sizeof not_struck, width_old, sizeof width_old, VEXIL_COMPAT_SELECT_NUMBER) == mixed);
+    HOLD(by->value(width_none, sizeof width_none, not_struck, sizeof not_struck, VEXIL_COMPAT_SELECT_NUMBER) == mixed);
 }
 
 static void answers(const struct verdict *by)
@@ -160,10 +188,12 @@ static void names(void)
     HOLD(is(vexil_compat_result_name(VEXIL_COMPAT_RESULT_BREAKING), "Breaking"));
     HOLD(is(vexil_compat_kind_name(VEXIL_COMPAT_KIND_FIELD_ADDED), "FieldAdded"));
     HOLD(is(vexil_compat_kind_name(VEXIL_COMPAT_KIND_WIDTH_CHANGED), "WidthChanged"));
+    HOLD(is(vexil_compat_kind_name(VEXIL_COMPAT_KIND_TOMBSTONE_REUSED), "TombstoneReused"));
+    HOLD(is(vexil_compat_kind_name(VEXIL_COMPAT_KIND_TOMBSTONE_DROPPED), "TombstoneDropped"));
     HOLD(is(vexil_compat_refusal_name(VEXIL_COMPAT_REFUSAL_FULL + 1), "unknown"));
     HOLD(is(vexil_compat_refusal_name(VEXIL_COMPAT_REFUSAL_MIXED + 1), "unknown"));
     HOLD(is(vexil_compat_side_name(4), "unknown") && is(vexil_compat_bump_name(3), "unknown") && is(vexil_compat_result_name(2), "unknown"));
-    HOLD(vexil_compat_count_of(VEXIL_COMPAT_KIND_WIDTH_CHANGED) == VEXIL_COMPAT_VALUES - 1);
+    HOLD(vexil_compat_count_of(VEXIL_COMPAT_KIND_TOMBSTONE_DROPPED) == VEXIL_COMPAT_VALUES - 1);
     HOLD(is(vexil_compat_kind_name(VEXIL_COMPAT_KINDS), "unknown") && is(vexil_compat_kind_name(UINT64_MAX), "unknown"));
 }
 
@@ -179,6 +209,7 @@ int main(void)
         held = verdicts[i].name;
         may_load(&verdicts[i]);
         widths(&verdicts[i]);
+        tombstones(&verdicts[i]);
         answers(&verdicts[i]);
         nothing_lent(&verdicts[i]);
     }
