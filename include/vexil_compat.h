@@ -22,7 +22,8 @@
  *     of the numbers that it strikes off. The longest that were found, on a virtual machine, of images of 32,768 bytes: 2,700 fields of which
  *     the last differs, 0.2 s for the values and 0.4 s for the report; 1,259 fields of `bits`, none of them kept, 0.4 s and 0.9 s;
  *     2,762 fields of mixed types, none of them kept, 1.5 s and 3.0 s. With imports they take up to three quarters more; the mended verdict
- *     takes about as long as the first. docs/BENCHMARKS.md has the table. Nothing is waited for, and longer ones may be found.
+ *     takes about as long as the first, and of 8,180 numbers struck off, which the first skips, 0.2 s and 0.4 s. docs/BENCHMARKS.md has the
+ *     tables. Nothing is waited for, and longer ones may be found.
  *   - Nothing is allocated and nothing is kept from one call to the next, so that threads may call at the same time.
  *
  * Each number has a name with the prefix of what it is: VEXIL_COMPAT_SELECT_.. is asked for; VEXIL_COMPAT_REFUSAL_.., _SIDE_.., _BUMP_.. and
