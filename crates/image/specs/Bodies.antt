@@ -1,7 +1,8 @@
 -- Bodies: "A body is a u8 kind, then ..". What a body holds depends on the format, which is handed in. Assumes nothing.
 use Rattle.std.specs.Prelude.{List, [], ℕ, eqb, length}
 use Rattle.std.specs.Prelude.{None}
-use Rattle.image.specs.Codes.{number, kind_refusal, body_refusal, message_kind, enum_kind, flags_kind, union_kind, newtype_kind, config_kind, alias_kind, trait_kind, impl_kind}
+use Rattle.image.specs.Codes.{number, kind_refusal, body_refusal}
+use Rattle.image.specs.Codes.{message_kind, enum_kind, flags_kind, union_kind, newtype_kind, config_kind, alias_kind, trait_kind, impl_kind}
 use Rattle.image.specs.Kinds.{Kind, message, enum, flags, union, newtype, config, alias, trait, impl, other, kind_of}
 use Rattle.image.specs.Schema.{Decl, decl, struck, unmarked, no_type}
 use Rattle.image.specs.Parse.{Parsed, ok, no, bind, need, byte_at, counted}

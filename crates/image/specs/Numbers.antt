@@ -1,10 +1,12 @@
 -- The numbers that the code's enums stand for: of refusals, sides, kinds, tags and formats; and what a number is read as one of them. Assumes
 -- nothing.
 use Rattle.std.specs.Prelude.{◌≡◌, ℕ, ◌<◌, true, false, Result, MatchResult}
-use Rattle.image.specs.Codes.{number, long_refusal, short_head_refusal, format_refusal, crowded_refusal, contents_refusal, kind_refusal, name_refusal, body_refusal, code_refusal, deep_refusal, alias_pair_refusal, full_refusal, mixed_refusal}
-use Rattle.image.specs.Codes.{old_side, new_side, both_sides}
+use Rattle.image.specs.Codes.{number, old_side, new_side, both_sides}
+use Rattle.image.specs.Codes.{long_refusal, short_head_refusal, format_refusal, crowded_refusal, contents_refusal, kind_refusal, name_refusal}
+use Rattle.image.specs.Codes.{body_refusal, code_refusal, deep_refusal, alias_pair_refusal, full_refusal, mixed_refusal}
 use Rattle.image.specs.Codes.{message_kind, enum_kind, flags_kind, union_kind, newtype_kind, config_kind, alias_kind, trait_kind, impl_kind}
-use Rattle.image.specs.Codes.{primitive_tag, sub_byte_tag, semantic_tag, named_tag, optional_tag, array_tag, fixed_array_tag, set_tag, map_tag, result_tag, vec2_tag, vec3_tag, vec4_tag, quat_tag, mat3_tag, mat4_tag, bits_tag}
+use Rattle.image.specs.Codes.{primitive_tag, sub_byte_tag, semantic_tag, named_tag, optional_tag, array_tag, fixed_array_tag, set_tag}
+use Rattle.image.specs.Codes.{map_tag, result_tag, vec2_tag, vec3_tag, vec4_tag, quat_tag, mat3_tag, mat4_tag, bits_tag}
 use Rattle.image.specs.Formats.{known}
 use Rattle.image.specs.declared.refusals.Refusal.{Refusal}
 use Rattle.image.specs.declared.refusals.Refusal.TheVariants as refusal

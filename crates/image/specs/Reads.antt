@@ -37,5 +37,10 @@ ReadsAt {P} asks carried = (s : Bor (List ℕ)) (at : P) → Carries carried s.n
 abbrev pub ReadsAs : {P : Type 0} → (Bor (List ℕ) → P → Read → Type 0) → (P → ℕ) → (List ℕ → ℕ → Parsed ⊤) → Type 0
 ReadsAs {P} returns place p = (s : Bor (List ℕ)) (at : P) (r : Read) → returns s at r → read_of r ≡ p s.now (place at)
 
+-- so do two, of narrow positions and of wide ones
+abbrev pub ReadAlike : (Bor (List ℕ) → ℕ → Read → Type 0) → (Bor (List ℕ) → ℕ → Read → Type 0) → (List ℕ → ℕ → Parsed ⊤)
+    → Type 0
+ReadAlike narrow wide p = ReadsAs narrow (λ i. i) p × ReadsAs wide (λ i. i) p
+
 abbrev pub ReadsInside : {P : Type 0} → (Bor (List ℕ) → P → Read → Type 0) → Type 0
 ReadsInside {P} returns = (s : Bor (List ℕ)) (at : P) (r : Read) → returns s at r → IfOk r (λ n. n ≤ length s.now)

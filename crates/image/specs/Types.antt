@@ -1,6 +1,7 @@
 -- Types: "A type starts with a u8 tag". Assumes nothing.
 use Rattle.std.specs.Prelude.{cond, ◌&&◌, List, [], ℕ, zero, suc, leb, eqb}
-use Rattle.image.specs.Codes.{number, body_refusal, code_refusal, deep_refusal, primitive_tag, sub_byte_tag, semantic_tag, named_tag, optional_tag, fixed_array_tag, map_tag, result_tag, mat4_tag, bits_tag}
+use Rattle.image.specs.Codes.{number, body_refusal, code_refusal, deep_refusal}
+use Rattle.image.specs.Codes.{primitive_tag, sub_byte_tag, semantic_tag, named_tag, optional_tag, fixed_array_tag, map_tag, result_tag, mat4_tag, bits_tag}
 use Rattle.image.specs.Schema.{Label, label, Ty, leaf, one, two}
 use Rattle.image.specs.Parse.{Parsed, ok, no, bind, within, byte_at, code_at, number_at}
 use Rattle.image.specs.Names.{names_at}
@@ -31,7 +32,10 @@ after_tag tag sub_byte s at = bind (code_at 0 1 s at) (λ signed n. bind (code_a
 after_tag tag identity s at = bind (number_at 4 s at) (λ id n. ok (label tag id 0 []) n)
 after_tag tag size s at = bind (number_at 8 s at) (λ k n. ok (label tag k 0 []) n)
 after_tag tag nothing s at = ok (label tag 0 0 []) at
-after_tag tag bits s at = bind (byte_at (number body_refusal) s at) (λ k n. bind (names_at (number body_refusal) k s n) (λ names m. ok (label tag 0 0 names) m))
+after_tag tag bits s at =
+    bind (byte_at (number body_refusal) s at) (λ k n.
+    bind (names_at (number body_refusal) k s n) (λ names m.
+    ok (label tag 0 0 names) m))
 after_tag tag unknown s at = no (number code_refusal)
 
 -- the label at the start of a part

@@ -1,7 +1,7 @@
 // A count and as many items, each of which a given function reads.
 ghost use Rattle.std.specs.Prelude.{◌≡◌, ℕ, ◌^◌, ◌<◌, List, ⊤};
 ghost use Rattle.image.specs.Parse.{Parsed, counted};
-ghost use Rattle.image.specs.Reads.{read_of, skip, Carries, ReadsAt, ReadsAs, ReadsInside};
+ghost use Rattle.image.specs.Reads.{read_of, skip, Carries, ReadsAt, ReadsAs, ReadAlike, ReadsInside};
 
 use crate::Read;
 use crate::numbers::{read_number, u16_at};
@@ -18,13 +18,12 @@ pub(crate) fn read_counted<P: Position, F: Fn(&[u8], P) -> Read>(s: &[u8], at: P
     requires inside { ReadsInside (F.post read) }
     ensures { (p : List ℕ → ℕ → Parsed ⊤) → ReadsAs (F.post read) P.place_of p → read_of result ≡ skip (counted p s.now (P.place_of at)) }
 {
-    let here = at.place();
-    let count = read_number(s, here, 2);
+    let count = read_number(s, at.place(), 2);
     let Ok(first) = count else {
         return count;
     };
     let mut next = P::hold(first);
-    for _ in 0..u16_at(s, here) {
+    for _ in 0..u16_at(s, at.place()) {
         let step = read(s, next);
         let Ok(end) = step else {
             return step;
@@ -45,7 +44,7 @@ pub(crate) fn read_items<N: Fn(&[u8], u16) -> Read, W: Fn(&[u8], usize) -> Read>
     requires narrow_inside { ReadsInside (N.post narrow) }
     requires wide_callable { ReadsAt (W.pre wide) (λ _. ⊤) }
     requires wide_inside { ReadsInside (W.post wide) }
-    ensures { (p : List ℕ → ℕ → Parsed ⊤) → ReadsAs (N.post narrow) (λ i. i) p → ReadsAs (W.post wide) (λ i. i) p → read_of result ≡ skip (counted p s.now at) }
+    ensures { (p : List ℕ → ℕ → Parsed ⊤) → ReadAlike (N.post narrow) (W.post wide) p → read_of result ≡ skip (counted p s.now at) }
 {
     if s.len() <= NARROW && at <= s.len() {
         return read_counted(s, at as u16, narrow);

@@ -30,12 +30,11 @@ fn read_encoding<P: Position>(s: &[u8], at: P) -> Read
 {
     let mut next = at;
     for _ in 0..9u8 {
-        let here = next.place();
-        let step = read_code(s, here, 0, 3);
+        let step = read_code(s, next.place(), 0, 3);
         let Ok(after) = step else {
             return step;
         };
-        if s[here] != 3 {
+        if s[next.place()] != 3 {
             return step;
         }
         next = P::hold(after);
@@ -48,13 +47,12 @@ fn read_limit<P: Position>(s: &[u8], at: P) -> Read
     requires { Carries P.carries s.now }
     ensures { read_of result ≡ skip (limit_at s.now (P.place_of at)) }
 {
-    let here = at.place();
-    let step = read_code(s, here, 0, 1);
+    let step = read_code(s, at.place(), 0, 1);
     let Ok(after) = step else {
         return step;
     };
     let next = P::hold(after);
-    if s[here] == 0 {
+    if s[at.place()] == 0 {
         return step;
     }
     read_number(s, next.place(), 8)

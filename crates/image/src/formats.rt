@@ -6,7 +6,7 @@ ghost use Rattle.image.specs.Numbers.{format_number, IsFormat};
 use crate::refusals::Refusal;
 
 // A format, with its number in the head.
-#[derive(Clone, Copy, Debug, PartialEq, Eq)]
+#[derive(Clone, Copy)]
 pub enum Format {
     One = 1,
     Two = 2,
@@ -59,9 +59,7 @@ impl TryFrom<usize> for Format {
     #[tactic(auto, unfolding(crate::specs::Formats::known))]
     fn try_from(number: usize) -> Result<Format, Refusal> {
         match number {
-            1 => Ok(Format::One),
-            2 => Ok(Format::Two),
-            3 => Ok(Format::Three),
+            1..=3 => Ok(Format::of(number)),
             _ => Err(Refusal::Format),
         }
     }

@@ -6,7 +6,7 @@ ghost use Rattle.image.specs.Numbers.{kind_number, IsKind};
 use crate::refusals::Refusal;
 
 // A kind, with its number in an image. `Alias` is the generic alias.
-#[derive(Clone, Copy, Debug, PartialEq, Eq)]
+#[derive(Clone, Copy, PartialEq, Eq)]
 pub enum Kind {
     Message = 0,
     Enum = 1,

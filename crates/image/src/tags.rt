@@ -6,7 +6,7 @@ ghost use Rattle.image.specs.Numbers.{tag_number, IsTag};
 use crate::refusals::Refusal;
 
 // A tag, with its number in an image. From `Optional` to `Mat4` they have inner types.
-#[derive(Clone, Copy, Debug, PartialEq, Eq)]
+#[derive(Clone, Copy, PartialEq, Eq)]
 pub enum Tag {
     Primitive = 0,
     SubByte = 1,

@@ -13,7 +13,7 @@ use Rattle.maps.specs.Orders.{Strict}
 use Rattle.maps.specs.Keyed.{lookup}
 use Rattle.maps.specs.Compare.{Rules, unmatched, matched, between, compare}
 use Rattle.maps.specs.Walk.{Rising}
-use Rattle.maps.proofs.Lists.{all, all_map, largest_whole, largest_parts, largest_bound, largest_each, largest_same, largest_flat_map, flat_map_same, flat_map_none}
+use Rattle.maps.proofs.Lists.{all, all_map, largest_whole, largest_parts, largest_bound, largest_each, largest_flat_map, flat_map_same, flat_map_none}
 use Rattle.maps.proofs.Survivors.{all_lookup, lookup_key, lookup_own}
 
 -- ---- three lists of reports
@@ -212,11 +212,6 @@ module _ {K E : Type 0} {lt : K → K → Bool} (key : E → K) (S : Strict K lt
       module _ (w : C → ℕ) where
         pub self_largest : largest w (compare key lt r m m) ≡ largest (λ e. largest w (r.kept e e)) m
         self_largest = rw compare_self (largest_flat_map (λ e. r.kept e e) w m)
-
-        -- the same by lists of another type, one for each entry
-        pub self_flat_map : {D : Type 0} (v : D → ℕ) (f : E → List D) → All (λ e. largest w (r.kept e e) ≡ largest v (f e)) m
-            → largest w (compare key lt r m m) ≡ largest v (flat_map f m)
-        self_flat_map v f h = self_largest ∙ (largest_same _ _ m h ∙ sym (largest_flat_map f v m))
 
         pub self_bound : (b : ℕ) → All (λ e. largest w (r.kept e e) ≤ b) m → largest w (compare key lt r m m) ≤ b
         self_bound b h = rw self_largest (largest_bound (λ e. largest w (r.kept e e)) b m h)

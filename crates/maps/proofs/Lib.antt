@@ -8,6 +8,7 @@ pub mod Searches
 pub mod Walking
 pub mod Places
 pub mod Reorderings
+pub mod Any
 pub mod Alike
 pub mod Mapped
 pub mod Levels

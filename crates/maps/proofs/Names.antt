@@ -104,10 +104,6 @@ flipped (x ∷ a) (y ∷ b) = go (ltb x y) (ltb y x) refl refl (flipped a b)
 
 -- what an answer says of two names
 module _ (a b : List ℕ) {o : Ordering} (e : order_of a b ≡ o) where
-  pub before_told : before a b ≡ is_lt o
-  unfolding before
-  before_told = ap is_lt e
-
   pub same_told : same before a b ≡ is_eq o
   unfolding before same
   same_told = rw (flipped a b, e) (go o)
@@ -123,14 +119,6 @@ module _ (a b : List ℕ) (i : ℕ) (p : order_of a b ≡ order_of (drop i a) (d
   pub ends_same : length a ≤ i → length b ≤ i → Equal ≡ order_of a b
   unfolding order_of
   ends_same h k = sym (p ∙ rw (drop_of_length-le a h, drop_of_length-le b k))
-
-  pub ends_less : length a ≤ i → i < length b → Less ≡ order_of a b
-  unfolding order_of
-  ends_less h k = sym (p ∙ rw (drop_of_length-le a h, drop-cons b i 0 k))
-
-  pub ends_greater : i < length a → length b ≤ i → Greater ≡ order_of a b
-  unfolding order_of
-  ends_greater h k = sym (p ∙ rw (drop_of_length-le b k, drop-cons a i 0 h))
 
   -- a byte of each
   module _ (h : i < length a) (k : i < length b) where

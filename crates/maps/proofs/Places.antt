@@ -36,25 +36,20 @@ module _ {K E P : Type 0} (key : E → K) (lt : K → K → Bool) (f : P → E) 
   unfolding survivors All
   survivors_map ps h = inserts_map [] ps tt h
 
+  -- the place in front is taken, or what is found further on
+  front_map : (u : Bool) (p : P) (e : Option E) (o : Option P) → e ≡ option_map f o → cond u (Some (f p)) e ≡ option_map f (cond u (Some p) o)
+  front_map true p e o q = refl
+  front_map false p e o q = q
+
   pub lookup_map : (k : K) (m : List P) → Placed m → lookup key lt k (map f m) ≡ option_map f (lookup at lt k m)
   unfolding lookup All
   lookup_map k [] h = refl
-  lookup_map k (p ∷ m) h = rw h.0 (go (same lt k (at p)) (lookup_map k m h.1))
-    where
-      go : (u : Bool) → lookup key lt k (map f m) ≡ option_map f (lookup at lt k m)
-          → cond u (Some (f p)) (lookup key lt k (map f m)) ≡ option_map f (cond u (Some p) (lookup at lt k m))
-      go true ih = refl
-      go false ih = ih
+  lookup_map k (p ∷ m) h = rw h.0 (front_map (same lt k (at p)) p _ _ (lookup_map k m h.1))
 
   following_map : (b : Option K) (m : List P) → Placed m → following key lt b (map f m) ≡ option_map f (following at lt b m)
   unfolding following All
   following_map b [] h = refl
-  following_map b (p ∷ m) h = rw h.0 (go (past lt b (at p)) (following_map b m h.1))
-    where
-      go : (u : Bool) → following key lt b (map f m) ≡ option_map f (following at lt b m)
-          → cond u (Some (f p)) (following key lt b (map f m)) ≡ option_map f (cond u (Some p) (following at lt b m))
-      go true ih = refl
-      go false ih = ih
+  following_map b (p ∷ m) h = rw h.0 (front_map (past lt b (at p)) p _ _ (following_map b m h.1))
 
   -- the place that stands has the entry that stands
   pub lookup_placed : (k : K) (ps : List P) → Placed ps → lookup key lt k (survivors key lt (map f ps)) ≡ option_map f (lookup at lt k (survivors at lt ps))

@@ -1,6 +1,6 @@
--- A pass over a list from the front; the largest, the sum and the number over a list; what all its elements pass or have.
+-- A pass over a list from the front; the largest, the sum and the number over a list; what all its elements pass or have, or one of them.
 -- Assumes nothing.
-use Rattle.std.specs.Prelude.{Bool, true, cond, ◌&&◌, List, [], ◌∷◌, ℕ, ◌+◌, max}
+use Rattle.std.specs.Prelude.{Bool, true, false, cond, ◌&&◌, ◌||◌, List, [], ◌∷◌, ℕ, eqb, ◌+◌, max}
 
 -- each element in turn is taken into the state
 unfoldable pub pass : {S A : Type 0} → (S → A → S) → S → List A → S
@@ -25,6 +25,15 @@ count p l = total (λ a. cond (p a) 1 0) l
 unfoldable pub every : {A : Type 0} → (A → Bool) → List A → Bool
 every p [] = true
 every p (a ∷ l) = p a && every p l
+
+-- whether one of the elements passes a test
+unfoldable pub any : {A : Type 0} → (A → Bool) → List A → Bool
+any p [] = false
+any p (a ∷ l) = p a || any p l
+
+-- whether a number is one of those listed
+unfoldable pub among : ℕ → List ℕ → Bool
+among n l = any (eqb n) l
 
 -- every element has P
 unfoldable pub All : {A : Type 0} → (A → Type 0) → List A → Type 0

@@ -1,5 +1,5 @@
 -- The tombstones of a body stand after its items. Assumes nothing.
-use Rattle.std.proofs.Common.{◌≡◌, ℕ, ◌≤◌, length, refl, arith}
+use Rattle.std.proofs.Common.{◌≡◌, ℕ, zero, suc, ◌≤◌, length, refl, arith}
 use Rattle.image.specs.Codes.{number, union_kind}
 use Rattle.image.specs.Kinds.{kind_of}
 use Rattle.parts.specs.Promise.{Closed, items_in, ItemsHere, variant_items, variant_tombstones, shape_by, tombstones_place, tombstone_items}
@@ -10,13 +10,10 @@ use Rattle.parts.specs.declared.handles.Image.{Image}
 use Rattle.parts.specs.declared.handles.Decl.{Decl}
 use Rattle.parts.specs.Handles.{decl_of}
 use Rattle.parts.proofs.Promise.{head_there, decl_closed, variant_closed, closed_listed}
-use Rattle.members.specs.Handles.{ItemsAt, place_after}
+use Rattle.members.specs.Handles.{ItemsAt, HoldsItems, place_after}
 use Rattle.members.specs.declared.handles.Items.{Items}
 use Rattle.members.specs.declared.handles.Variant.{Variant}
-use Rattle.members.specs.declared.kinds.Message.{Message}
-use Rattle.members.specs.declared.kinds.Enum.{Enum}
-use Rattle.members.specs.declared.kinds.Flags.{Flags}
-use Rattle.members.specs.declared.kinds.Union.{Union}
+use Rattle.members.proofs.Runs.{message_holds, enum_holds, flags_hold, union_holds}
 
 -- an image has a format
 pub format_there : (i : Image) → 2 ≤ length i.bytes.now
@@ -43,32 +40,22 @@ pub variant_body : (v : Variant) → {x : Items} → ItemsAt v.item.image shape.
 unfolding variant_tombstones
 variant_body v a = rw (a.image, a.shape, a.run) (variant_closed v.item.image.bytes.now v.item.at (rw v.is at v.item.here))
 
--- what is known of the items of a declaration: they are where it has them, and its tombstones stand after them
-pub record Told (d : Decl) (x : Items) : Type 0 where
-  pub at : ((decl_of d).kind ≤ number union_kind) × ItemsAt d.image (shape_by (kind_of (decl_of d).kind)) (items_in d.image.bytes.now d.at) x
-  pub closed : Closed x.image.bytes.now (place_after x)
+-- a declaration holds items of the shape of its kind
+decl_holds : (d : Decl) → (decl_of d).kind ≤ number union_kind → HoldsItems (shape_by (kind_of (decl_of d).kind)) d
+unfolding kind_of shape_by
+decl_holds d l = go (decl_of d).kind refl l
+  where
+    go : (k : ℕ) → (decl_of d).kind ≡ k → k ≤ 3 → HoldsItems (shape_by (kind_of k)) d
+    go zero e l = message_holds d e
+    go (suc zero) e l = enum_holds d e
+    go (suc (suc zero)) e l = flags_hold d e
+    go (suc (suc (suc zero))) e l = union_holds d e
+    go (suc (suc (suc (suc k)))) e l = absurd (omega arith)
 
-told : {d e : Decl} → e ≡ d → {k : ℕ} {h : Shape} → (decl_of e).kind ≡ k → shape_by (kind_of k) ≡ h → k ≤ number union_kind → {x : Items}
-    → ItemsAt e.image h (items_in e.image.bytes.now e.at) x → Told d x
-told {d} same is z l a =
-    let b : ItemsAt d.image (shape_by (kind_of (decl_of d).kind)) (items_in d.image.bytes.now d.at) _ = rw (← same, is, z) a in
-    let m : (decl_of d).kind ≤ number union_kind = rw (← same, is) l in
-    record { at = (m, b); closed = decl_body d m b }
+-- so it does of the shape h, which the kind k has, and its tombstones stand after them
+module _ (d : Decl) {k : ℕ} {h : Shape} (e : k ≡ (decl_of d).kind) (l : k ≤ number union_kind) (q : h ≡ shape_by (kind_of k)) where
+  pub shape_holds : HoldsItems h d
+  shape_holds = rw (q, e) (decl_holds d (rw e at l))
 
--- the same by each kind
-module _ {d : Decl} where
-  pub message_body : (m : Message) → m.decl ≡ d → {x : Items} → ItemsAt m.decl.image shape.Field (items_in m.decl.image.bytes.now m.decl.at) x → Told d x
-  unfolding kind_of shape_by
-  message_body m e a = told e m.is refl (omega arith) a
-
-  pub enum_body : (m : Enum) → m.decl ≡ d → {x : Items} → ItemsAt m.decl.image shape.Bare (items_in m.decl.image.bytes.now m.decl.at) x → Told d x
-  unfolding kind_of shape_by
-  enum_body m e a = told e m.is refl (omega arith) a
-
-  pub flags_body : (m : Flags) → m.decl ≡ d → {x : Items} → ItemsAt m.decl.image shape.Bare (items_in m.decl.image.bytes.now m.decl.at) x → Told d x
-  unfolding kind_of shape_by
-  flags_body m e a = told e m.is refl (omega arith) a
-
-  pub union_body : (m : Union) → m.decl ≡ d → {x : Items} → ItemsAt m.decl.image shape.Variant (items_in m.decl.image.bytes.now m.decl.at) x → Told d x
-  unfolding kind_of shape_by
-  union_body m e a = told e m.is refl (omega arith) a
+  pub shape_closed : {x : Items} → ItemsAt d.image h (items_in d.image.bytes.now d.at) x → Closed x.image.bytes.now (place_after x)
+  shape_closed a = decl_body d (rw e at l) (rw (q, e) at a)

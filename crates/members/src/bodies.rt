@@ -1,28 +1,32 @@
 // The bodies of declarations, by their kinds.
-ghost use Rattle.members.specs.Bodies.{DeclBody};
+ghost use Rattle.image.specs.Numbers.{kind_number};
+ghost use Rattle.members.specs.Bodies.{DeclBody, ShapeOf};
 
 use crate::handles::Body;
-use crate::kinds::ByKind;
+use crate::kinds::items_of;
+use parts::Shape;
 use parts::handles::Decl;
+use parts::kinds::Kind;
+
+// The shape of the items of a kind, if it has any.
+#[tactic(auto, unfolding(image::specs::Kinds::kind_of, parts::specs::Promise::shape_by))]
+fn shape_of(kind: Kind) -> Option<Shape>
+    ensures { ShapeOf (kind_number kind) result }
+{
+    match kind {
+        Kind::Message => Some(Shape::Field),
+        Kind::Enum | Kind::Flags => Some(Shape::Bare),
+        Kind::Union => Some(Shape::Variant),
+        _ => None,
+    }
+}
 
 // The body of a declaration, if it is of a kind that has items.
-#[tactic(auto, unfolding(crate::specs::Kinds::Sorted))]
 pub fn body_of(decl: Decl<'_>) -> Option<Body<'_>>
     ensures { DeclBody decl.entry result }
 {
-    match ByKind::of(decl) {
-        ByKind::Message(message) => Some(Body {
-            items: message.fields(),
-        }),
-        ByKind::Enum(enumeration) => Some(Body {
-            items: enumeration.variants(),
-        }),
-        ByKind::Flags(flags) => Some(Body {
-            items: flags.bits(),
-        }),
-        ByKind::Union(union) => Some(Body {
-            items: union.variants(),
-        }),
-        ByKind::Newtype(_) | ByKind::Silent => None,
-    }
+    let shape = shape_of(decl.kind())?;
+    Some(Body {
+        items: items_of(decl, shape),
+    })
 }

@@ -1,9 +1,9 @@
 // The items of declarations, as values that know what they are: a run of items, an item, a field, a union's variant.
 ghost use Rattle.std.specs.Prelude.{◌≡◌};
 ghost use Rattle.parts.specs.declared.Shape.{Shape};
-ghost use Rattle.parts.specs.Promise.{ItemsHere, items_end, Closed, tombstone_items, ItemHere, variant_items, ordinal_in, coding_of};
+ghost use Rattle.parts.specs.Promise.{ItemsHere, tombstone_items, ItemHere, variant_items, ordinal_in, coding_of};
 ghost use Rattle.parts.specs.Handles.{tree_of};
-ghost use Rattle.members.specs.Props.{items_prop, item_prop, closed_prop};
+ghost use Rattle.members.specs.Props.{ClosedAfter, items_prop, item_prop, closed_prop};
 
 use crate::places::Places;
 use crate::{fields, items};
@@ -24,7 +24,7 @@ pub struct Items<'a> {
 #[derive(Clone, Copy)]
 pub struct Body<'a> {
     pub items: Items<'a>,
-    pub ghost closed: { Closed items.image.bytes.now (items_end items.shape items.image.bytes.now items.run.count items.run.start) } by { closed_prop items.image.bytes.now (items_end items.shape items.image.bytes.now items.run.count items.run.start) },
+    pub ghost closed: { ClosedAfter items.image.bytes.now items.shape items.run } by { closed_prop items.image.bytes.now items.shape items.run },
 }
 
 // An item of a shape in an image.

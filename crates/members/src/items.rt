@@ -2,7 +2,8 @@
 // with their name, so that these are found without its shape.
 ghost use Rattle.std.specs.Prelude.{◌≡◌, ◌+◌, ◌≤◌, length};
 ghost use Rattle.image.specs.Codes.{number, union_kind};
-ghost use Rattle.parts.specs.Promise.{DeclHere, decl_in, items_in, ItemHere, item_end, ItemsHere, items_end, ordinal_in, item_name, items_at, Closed, tombstones_end, tombstone_items, variant_items};
+ghost use Rattle.parts.specs.Promise.{DeclHere, decl_in, items_in, ItemHere, item_end, ItemsHere, items_end, ordinal_in, item_name};
+ghost use Rattle.parts.specs.Promise.{items_at, Closed, tombstones_end, tombstone_items, variant_items};
 
 use crate::fields::field_end;
 use image::numbers::{u16_at, u32_at};
@@ -21,7 +22,7 @@ pub fn ordinal_at(image: &[u8], at: usize) -> u32
 
 // The bytes of the name of an item.
 #[tactic(auto, using(parts::proofs::Laws::Items::bares))]
-pub fn item_name(image: &[u8], at: usize) -> &[u8]
+pub(crate) fn item_name(image: &[u8], at: usize) -> &[u8]
     requires { ItemHere Shape.Bare image.now at }
     ensures { result.now ≡ item_name image.now at }
 {
@@ -42,7 +43,7 @@ fn items_at(image: &[u8], at: usize) -> Run
 
 // The items of a message, an enum, flags or a union.
 #[tactic(auto, using(parts::proofs::Laws::Counted::counts))]
-pub fn decl_items(image: &[u8], at: usize) -> Run
+pub(crate) fn decl_items(image: &[u8], at: usize) -> Run
     requires { DeclHere image.now at × ((decl_in image.now at).kind ≤ number union_kind) }
     ensures { result ≡ items_in image.now at }
 {
@@ -55,7 +56,7 @@ pub fn decl_items(image: &[u8], at: usize) -> Run
 
 // The fields of a union's variant.
 #[tactic(auto, using(parts::proofs::Laws::Items::variants), unfolding(parts::specs::Promise::variant_items))]
-pub fn variant_items(image: &[u8], at: usize) -> Run
+pub(crate) fn variant_items(image: &[u8], at: usize) -> Run
     requires { ItemHere Shape.Variant image.now at }
     ensures { result ≡ variant_items image.now at }
 {
@@ -127,7 +128,7 @@ fn bare_end(image: &[u8], at: usize) -> usize
 
 // The place after an item, where the next one starts.
 #[tactic(auto, using(parts::proofs::Laws::Items::numbers))]
-pub fn item_end(image: &[u8], shape: Shape, at: usize) -> usize
+pub(crate) fn item_end(image: &[u8], shape: Shape, at: usize) -> usize
     requires { ItemHere shape image.now at }
     ensures { result ≡ item_end shape image.now at }
 {

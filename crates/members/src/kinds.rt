@@ -44,7 +44,7 @@ pub struct Newtype<'a> {
 
 // The items of a declaration that holds items of a shape.
 #[tactic(auto, using(crate::proofs::Runs::held))]
-fn items_of<'a>(decl: Decl<'a>, shape: Shape) -> Items<'a>
+pub(crate) fn items_of<'a>(decl: Decl<'a>, shape: Shape) -> Items<'a>
     requires { HoldsItems shape decl }
     ensures { ItemsAt decl.entry.image shape (items_in decl.entry.image.bytes.now decl.entry.at) result }
 {

@@ -1,5 +1,5 @@
-// The members of declarations in an accepted image: items (fields, variants, bits) and the parts of a field; and the places of items in any
-// bytes. The promise that they rest on is that of `parts`.
+// The members of declarations in an accepted image: items (fields, variants, bits, the numbers that are struck off) and the parts of a field;
+// and the places of items in any bytes. The promise that they rest on is that of `parts`.
 #![tactic(auto)]
 
 pub mod bodies;

@@ -1,7 +1,6 @@
--- Promise: the laws that the crates above may cite; Named: those of names in turn; Tagged, Codings: tags and codings by their numbers. Laws:
--- what they and the accessors' proofs rest on, those of `members` too.
+-- Promise: the laws that the crates above may cite; Named: those of names in turn; Codings: codings by their numbers. Laws: what they and the
+-- accessors' proofs rest on, those of `members` too.
 pub mod Laws
 pub mod Promise
 pub mod Named
-pub mod Tagged
 pub mod Codings

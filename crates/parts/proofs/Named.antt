@@ -5,7 +5,7 @@ use Rattle.image.specs.declared.tags.Tag.TheVariants as tag
 use Rattle.parts.specs.Numbers.{tag_number}
 use Rattle.parts.specs.Promise.{Accepted, schema_of, NameHere, name_in, name_end, name_places, NamesIn, names_in, segments_in, LabelHere, label_in, bits_in}
 use Rattle.parts.specs.declared.Run.{Run}
-use Rattle.parts.proofs.Tagged.{same_tag}
+use Rattle.image.proofs.Laws.Apart.{same_tag}
 use Rattle.parts.proofs.Laws.Places.{places_none as by_none, places_more as by_more}
 use Rattle.parts.proofs.Laws.Skips.{names_first, names_rest}
 use Rattle.parts.proofs.Laws.Contents.{segments_listed}

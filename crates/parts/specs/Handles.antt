@@ -1,11 +1,10 @@
 -- The values that handles stand for: an image, a declaration, a type. Assumes nothing.
-use Rattle.std.specs.Prelude.{◌≡◌, List, ℕ, Option, None, Some, Result, Ok, Err, get_or, IfSome, IfOk}
+use Rattle.std.specs.Prelude.{◌≡◌, List, ℕ, Option, None, Result, get_or, IfSome, IfOk}
 use Rattle.std.specs.Option.{option_map}
 use Rattle.image.specs.Image.{read_image}
-use Rattle.image.specs.Numbers.{refusal_number}
 use Rattle.image.specs.Schema.{Name, Schema, Label, Ty, Decl as Declaration}
 use Rattle.image.specs.declared.refusals.Refusal.{Refusal}
-use Rattle.reader.specs.Answer.{refusal_in}
+use Rattle.reader.specs.Answer.{refused_by, refusal_in}
 use Rattle.parts.specs.Promise.{schema_of, names_in, decl_in, label_in, tree_in}
 use Rattle.parts.specs.declared.handles.Image.{Image}
 use Rattle.parts.specs.declared.handles.Names.{Names}
@@ -29,12 +28,8 @@ abbrev pub tree_of : TypeRef → Ty
 tree_of t = tree_in t.image.bytes.now t.at
 
 -- bytes are read as an image of these bytes, or refused by the first refusal
-abbrev pub read_as : Result Image Refusal → Option ℕ
-read_as (Ok i) = None
-read_as (Err k) = Some (refusal_number k)
-
 pub record Reads (s : List ℕ) (r : Result Image Refusal) : Type 0 where
-  pub refusal : read_as r ≡ refusal_in (read_image s)
+  pub refusal : refused_by r ≡ refusal_in (read_image s)
   pub bytes : IfOk r (λ i. i.bytes.now ≡ s)
 
 -- the declaration of an image that an id stands for

@@ -1,9 +1,11 @@
 -- What the crates above may say of an accepted image. Places are positions in the image. `XHere s at` says that an X is well formed at a
 -- place, `x_in s at` is its value, `x_end s at` the place after it, `x_place` the place of a part of it; of a place where none stands a
 -- value is a default and says nothing. proofs/Promise.antt ties all of them to `schema_of`. Assumes nothing.
-use Rattle.std.specs.Prelude.{◌≡◌, Bool, true, false, cond, ◌&&◌, ◌||◌, List, [], ◌∷◌, map, ℕ, zero, suc, ◌+◌, ◌-◌, ◌≤◌, ◌<◌, eqb, leb, length, get_or, take, drop, Option, None, Some, IfSome}
+use Rattle.std.specs.Prelude.{◌≡◌, Bool, true, false, cond, ◌&&◌, ◌||◌, ℕ, zero, suc, ◌+◌, ◌-◌, ◌≤◌, ◌<◌, eqb, leb}
+use Rattle.std.specs.Prelude.{List, [], ◌∷◌, map, length, get_or, take, drop, Option, None, Some, IfSome}
 use Rattle.std.specs.Option.{option_map}
-use Rattle.image.specs.Codes.{number, body_refusal, enum_kind, flags_kind, impl_kind, primitive_tag, sub_byte_tag, semantic_tag, named_tag, fixed_array_tag, bits_tag}
+use Rattle.image.specs.Codes.{number, body_refusal, enum_kind, flags_kind, impl_kind}
+use Rattle.image.specs.Codes.{primitive_tag, sub_byte_tag, semantic_tag, named_tag, fixed_array_tag, bits_tag}
 use Rattle.image.specs.Kinds.{Kind, kind_of, message, enum, flags, union, newtype, config, alias, trait, impl, other}
 use Rattle.image.specs.Schema.{Name, unmarked, Label, label, Ty, no_type, Field, Variant, Decl, decl, Schema, no_schema}
 use Rattle.image.specs.Formats.{has_widths, has_tombstones}

@@ -14,7 +14,7 @@ use image::kinds::Kind;
 use image::numbers::u16_at;
 
 #[tactic(auto, using(crate::proofs::Laws::Decls::heads))]
-pub fn decl_kind(image: &[u8], at: usize) -> Kind
+pub(crate) fn decl_kind(image: &[u8], at: usize) -> Kind
     requires { DeclHere image.now at }
     ensures { kind_number result ≡ (decl_in image.now at).kind }
 {
@@ -23,7 +23,7 @@ pub fn decl_kind(image: &[u8], at: usize) -> Kind
 
 // The bytes of the name; an impl's is empty.
 #[tactic(auto, using(crate::proofs::Laws::Decls::heads))]
-pub fn decl_name(image: &[u8], at: usize) -> &[u8]
+pub(crate) fn decl_name(image: &[u8], at: usize) -> &[u8]
     requires { DeclHere image.now at }
     ensures { result.now ≡ (decl_in image.now at).name }
 {
@@ -52,7 +52,7 @@ fn marks(image: &[u8], at: usize) -> u8
 
 // Whether a declaration is marked as deprecated.
 #[tactic(auto, unfolding(image::specs::Fields::marks_of))]
-pub fn deprecated(image: &[u8], at: usize) -> bool
+pub(crate) fn deprecated(image: &[u8], at: usize) -> bool
     requires { DeclHere image.now at }
     ensures { result ≡ (decl_in image.now at).marks.deprecated }
 {
@@ -61,7 +61,7 @@ pub fn deprecated(image: &[u8], at: usize) -> bool
 
 // Whether a declaration is marked as non-exhaustive.
 #[tactic(auto, unfolding(image::specs::Fields::marks_of))]
-pub fn non_exhaustive(image: &[u8], at: usize) -> bool
+pub(crate) fn non_exhaustive(image: &[u8], at: usize) -> bool
     requires { DeclHere image.now at }
     ensures { result ≡ (decl_in image.now at).marks.non_exhaustive }
 {
@@ -76,8 +76,17 @@ fn is_measured(kind: Kind) -> bool
     matches!(kind, Kind::Enum | Kind::Flags)
 }
 
+// The number of the image's format. A number and no `Format`, since a declaration may stand in bytes that are of none.
+#[tactic(auto, unfolding(image::specs::Image::format, image::specs::Image::u16_at))]
+fn format_number(image: &[u8]) -> usize
+    requires { 2 ≤ length image.now }
+    ensures { result ≡ format image.now }
+{
+    u16_at(image, 0)
+}
+
 // Whether the width of a declaration is stored.
-#[tactic(auto, using(crate::proofs::Laws::Decls::widths), unfolding(image::specs::Formats::has_widths, image::specs::Image::format, image::specs::Image::u16_at))]
+#[tactic(auto, using(crate::proofs::Laws::Decls::widths), unfolding(image::specs::Formats::has_widths))]
 pub fn stores_width(image: &[u8], at: usize) -> bool
     requires { DeclHere image.now at }
     ensures { result ≡ stores_width (format image.now) (decl_in image.now at).kind }
@@ -85,18 +94,18 @@ pub fn stores_width(image: &[u8], at: usize) -> bool
     if !is_measured(decl_kind(image, at)) {
         return false;
     }
-    // The formats from this one on store it. A number and no `Format`, since a declaration may stand in bytes that are of none.
-    u16_at(image, 0) >= Format::Two as usize
+    // The formats from this one on store it.
+    format_number(image) >= Format::Two as usize
 }
 
 // Whether the image's format stores the numbers that are struck off.
-#[tactic(auto, unfolding(image::specs::Formats::has_tombstones, image::specs::Image::format, image::specs::Image::u16_at))]
+#[tactic(auto, unfolding(image::specs::Formats::has_tombstones))]
 pub fn stores_tombstones(image: &[u8]) -> bool
     requires { 2 ≤ length image.now }
     ensures { result ≡ has_tombstones (format image.now) }
 {
-    // The formats from this one on do. A number, as above.
-    u16_at(image, 0) >= Format::Three as usize
+    // The formats from this one on do.
+    format_number(image) >= Format::Three as usize
 }
 
 // The place after the name and the marks, where the width stands if it is stored.
@@ -114,7 +123,7 @@ pub fn width_place(image: &[u8], at: usize) -> usize
 
 // The width of a declaration: of an enum in wire bits, of flags in wire bytes. Nothing else has one, nor do they in a format without widths.
 #[tactic(auto, using(crate::proofs::Laws::Decls::widths))]
-pub fn width(image: &[u8], at: usize) -> Option<u8>
+pub(crate) fn width(image: &[u8], at: usize) -> Option<u8>
     requires { DeclHere image.now at }
     ensures { result ≡ (decl_in image.now at).width }
 {
@@ -126,7 +135,7 @@ pub fn width(image: &[u8], at: usize) -> Option<u8>
 
 // Where a newtype's type stands.
 #[tactic(auto, using(crate::proofs::Laws::Decls::heads), unfolding(crate::specs::Promise::inner_place))]
-pub fn inner_type(image: &[u8], at: usize) -> usize
+pub(crate) fn inner_type(image: &[u8], at: usize) -> usize
     requires { DeclHere image.now at × ((decl_in image.now at).kind ≡ number newtype_kind) }
     ensures { result ≡ inner_place image.now at }
 {

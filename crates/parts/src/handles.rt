@@ -92,7 +92,7 @@ impl<'a> Image<'a> {
     }
 
     // Where the namespace's names stand.
-    #[tactic(auto, using(crate::proofs::Laws::Contents::heads), unfolding(crate::specs::Promise::segments_in, image::specs::Image::segments_at, image::specs::Image::ids_at))]
+    #[tactic(auto, using(crate::proofs::Laws::Contents::heads, crate::proofs::Laws::Contents::segments_run))]
     pub fn segments(self) -> Run
         ensures { result ≡ segments_in self.entry.bytes.now }
     {

@@ -30,7 +30,7 @@ pub struct Run {
 }
 
 // What an encoding without its deltas is, with its code in an image.
-#[derive(Clone, Copy, Debug, PartialEq, Eq)]
+#[derive(Clone, Copy, PartialEq, Eq)]
 pub enum Coding {
     Default = 0,
     Varint = 1,
@@ -38,7 +38,7 @@ pub enum Coding {
 }
 
 // Deltas around a coding.
-#[derive(Clone, Copy, Debug, PartialEq, Eq)]
+#[derive(Clone, Copy, PartialEq, Eq)]
 pub struct Encoding {
     pub deltas: usize,
     pub base: Coding,

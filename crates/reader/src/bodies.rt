@@ -1,11 +1,11 @@
 // Bodies: a kind, and what it has in the image's format.
-ghost use Rattle.std.specs.Prelude.{◌≡◌, ℕ, List};
+ghost use Rattle.std.specs.Prelude.{◌≡◌};
 ghost use Rattle.image.specs.Kinds.{kind_of};
-ghost use Rattle.image.specs.Bodies.{message_at, enum_at, flags_at, union_at, newtype_at, closed, decl_at, body_of};
+ghost use Rattle.image.specs.Bodies.{message_at, enum_at, flags_at, union_at, newtype_at, decl_at, body_of};
 ghost use Rattle.image.specs.Numbers.{format_number, kind_number};
-ghost use Rattle.image.specs.Parse.{Parsed};
+ghost use Rattle.image.specs.Parse.{bind};
 ghost use Rattle.image.specs.Reads.{read_of, skip};
-ghost use Rattle.image.specs.Schema.{Decl};
+ghost use Rattle.image.specs.Tombstones.{tombstones_at};
 
 use image::Read;
 use image::fields::{read_bares, read_fields, read_marks, read_variants};
@@ -95,9 +95,8 @@ fn read_newtype(s: &[u8], at: usize) -> Read
 }
 
 // The tombstones that close what was read before them.
-#[tactic(auto, using(crate::proofs::Laws::Bodies::closing))]
 fn close(format: Format, s: &[u8], body: Read) -> Read
-    ensures { (p : List ℕ → ℕ → Parsed Decl) (at : ℕ) → read_of body ≡ skip (p s.now at) → read_of result ≡ skip (closed (format_number format) p s.now at) }
+    ensures { read_of result ≡ bind (read_of body) (λ _ n. skip (tombstones_at (format_number format) s.now n)) }
 {
     let Ok(end) = body else {
         return body;
@@ -106,7 +105,6 @@ fn close(format: Format, s: &[u8], body: Read) -> Read
 }
 
 // What follows the kind: configs, generic aliases and traits have only a name, impls have nothing.
-#[tactic(auto, using(crate::proofs::Laws::Bodies::decl_named), unfolding(image::specs::Kinds::kind_of, image::specs::Bodies::decl_at, image::specs::Bodies::impl_at, image::specs::Reads::read_of, image::specs::Reads::skip))]
 fn read_decl(format: Format, kind: Kind, s: &[u8], at: usize) -> Read
     ensures { read_of result ≡ skip (decl_at (format_number format) (kind_of (kind_number kind)) s.now at) }
 {

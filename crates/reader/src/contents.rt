@@ -1,6 +1,7 @@
 // Head, contents, ids and namespace, and the bodies that the contents place.
 ghost use Rattle.std.specs.Prelude.{◌≡◌, true, ◌+◌, ◌*◌, ◌≤◌, ◌<◌, length};
-ghost use Rattle.image.specs.Image.{format, entry_count, id_count, segment_count, entry_offset, entry_length, head_of, tables_of, laid, entry_of, entries_of, read_image};
+ghost use Rattle.image.specs.Image.{format, entry_count, id_count, segment_count, entry_offset, entry_length};
+ghost use Rattle.image.specs.Image.{head_of, tables_of, laid, entry_of, entries_of, read_image};
 ghost use Rattle.image.specs.Numbers.{format_number};
 ghost use Rattle.image.specs.Reads.{read_of, skip};
 

@@ -5,14 +5,18 @@
 mod bodies;
 pub mod contents;
 
+ghost use Rattle.std.specs.Prelude.{◌≡◌};
 ghost use Rattle.image.specs.Image.{read_image};
-ghost use Rattle.reader.specs.Answer.{Answers};
+ghost use Rattle.reader.specs.Answer.{refused_by, refusal_in};
 
 use image::refusals::Refusal;
 
 // Whether an image is accepted, or the first refusal that document 01's order meets.
 pub fn read_image(image: &[u8]) -> Result<(), Refusal>
-    ensures { Answers (read_image image.now) result }
+    ensures { refused_by result ≡ refusal_in (read_image image.now) }
 {
-    contents::read_whole(image).map(|_| ())
+    match contents::read_whole(image) {
+        Ok(_) => Ok(()),
+        Err(refusal) => Err(refusal),
+    }
 }

@@ -8,6 +8,7 @@ use lib.Dec.{eqb, ltb}
 use Rattle.std.specs.Option.{is_some}
 use Rattle.maps.specs.Keyed.{lookup}
 use Rattle.maps.proofs.Orders.{by_number, eq_same, ne_same}
+use Rattle.maps.specs.Lists.{any, among}
 use Rattle.parts.specs.Promise.{ItemOf, ordinal_in, tombstone_items}
 use Rattle.parts.specs.declared.Shape.{Shape}
 use Rattle.parts.specs.declared.Shape.TheVariants as shape
@@ -16,8 +17,7 @@ use Rattle.members.specs.Handles.{ItemsAt, place_after, places_of}
 use Rattle.members.specs.Bodies.{struck_in}
 use Rattle.members.specs.declared.handles.Items.{Items}
 use Rattle.members.specs.declared.handles.Body.{Body}
-use Rattle.rules.specs.Verdict.{any}
-use Rattle.rules.specs.Tombstones.{among, rising_numbers}
+use Rattle.rules.specs.Tombstones.{rising_numbers}
 use Rattle.rules.proofs.Tombstones.{struck_off}
 use Rattle.survivors.specs.Items.{place_map}
 use Rattle.survivors.specs.Runs.{item_ordinal, item_map, items_of, ordinals_of, Holds}

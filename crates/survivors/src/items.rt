@@ -1,5 +1,5 @@
-// Fields, variants and bits by their ordinals, at their places in any bytes: "The same holds for ordinals and bits inside one body or
-// variant." Items have no fixed size, so all searches pass from the front.
+// Fields, variants, bits and tombstones by their numbers, at their places in any bytes: "The same holds for ordinals and bits inside one body
+// or variant." Items have no fixed size, so all searches pass from the front.
 ghost use Rattle.std.specs.Prelude.{◌≡◌, ltb};
 ghost use Rattle.std.specs.Option.{option_map, is_some};
 ghost use Rattle.maps.specs.Keyed.{lookup};
@@ -12,7 +12,7 @@ use members::places::Places;
 
 // The place of the item that stands under an ordinal, the last one listed.
 #[tactic(auto, using(crate::proofs::Laws::Passed::founds))]
-pub fn survivor_item(places: Places<'_>, ordinal: u32) -> Option<usize>
+pub(crate) fn survivor_item(places: Places<'_>, ordinal: u32) -> Option<usize>
     ensures { ItemSurvives places.entry ordinal result }
 {
     let mut found = None;
@@ -42,7 +42,10 @@ pub fn has_item(places: Places<'_>, ordinal: u32) -> bool
 fn is_past(after: Option<u32>, ordinal: u32) -> bool
     ensures { result ≡ past ltb after ordinal }
 {
-    after.is_none_or(|bound| bound < ordinal)
+    let Some(bound) = after else {
+        return true;
+    };
+    bound < ordinal
 }
 
 // Whether an item with an ordinal takes the place of the best one so far: the ordinal is past `after`, and the best one's is not before it.
@@ -57,7 +60,7 @@ fn is_nearer(after: Option<u32>, best: Option<(u32, usize)>, ordinal: u32) -> bo
 
 // The least ordinal past `after` under which an item stands, from the start if that is none, with the item's place.
 #[tactic(auto, using(crate::proofs::Laws::Passed::nearings))]
-pub fn next_item(places: Places<'_>, after: Option<u32>) -> Option<(u32, usize)>
+pub(crate) fn next_item(places: Places<'_>, after: Option<u32>) -> Option<(u32, usize)>
     ensures { ItemFollows places.entry after result }
 {
     let mut best = None;

@@ -7,7 +7,7 @@ ghost use Rattle.rules.specs.Verdict.{result_at};
 ghost use Rattle.tally.specs.Tallies.{kind_number, level_of, larger, no_change, result_number, with_change};
 
 // The kinds of change, in the order of compat.rs, each with its place among the counts; after them those of R-6 and R-10.
-#[derive(Clone, Copy, Debug, PartialEq, Eq)]
+#[derive(Clone, Copy)]
 pub enum ChangeKind {
     FieldAdded = 0,
     FieldRemoved = 1,
@@ -46,7 +46,7 @@ impl ChangeKind {
 pub const KINDS: usize = 21;
 
 // The weight of a change, from the least to the largest.
-#[derive(Clone, Copy, Debug, PartialEq, Eq, PartialOrd, Ord)]
+#[derive(Clone, Copy)]
 pub enum Bump {
     Patch = 0,
     Minor = 1,
@@ -72,7 +72,10 @@ impl Bump {
     pub fn larger(self, other: Bump) -> Bump
         ensures { result ≡ larger self other }
     {
-        self.max(other)
+        if self.level() < other.level() {
+            return other;
+        }
+        self
     }
 
     // "the result (Breaking exactly at Major)"
@@ -87,7 +90,7 @@ impl Bump {
 }
 
 // Whether a new schema may be loaded where an old one runs.
-#[derive(Clone, Copy, Debug, PartialEq, Eq)]
+#[derive(Clone, Copy)]
 pub enum CompatResult {
     Compatible = 0,
     Breaking = 1,

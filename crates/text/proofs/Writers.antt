@@ -35,10 +35,7 @@ adds_as e a = record { is = rw (← e) a.is }
 pub left_after : {w v t : Writer} {xs : List ℕ} (ys : List ℕ) → Adds w xs v → after w (xs ++ ys) ≡ t → after v ys ≡ t
 left_after {w} {v} {t} {xs} ys a e = ap (λ (k : Writer). after k ys) a.is ∙ after_after w xs ys ∙ e
 
--- the last part
-pub last_after : {w v u : Writer} {xs zs : List ℕ} → Adds w xs v → after w xs ≡ after u zs → Adds u zs v
-last_after a e = record { is = a.is ∙ e }
-
+-- nothing is left
 pub none_after : {w u : Writer} {zs : List ℕ} → after w [] ≡ after u zs → Adds u zs w
 unfolding after
 none_after e = record { is = e }

@@ -214,6 +214,12 @@ module _ (s : List ℕ) (g : Accepted s) where
       let h = names_again in
       record { here = h.0; are = h.1 ∙ many_places [] (name_at 8) s (segment_count s) (segments_at s) h.0 }
 
+-- the namespace's names, by the counts of the head
+pub segments_run : (s : List ℕ) {n m k : ℕ} → n ≡ entry_count s → m ≡ id_count s → k ≡ segment_count s
+    → record { start = 8 + 4 * n + 4 * m; count = k } ≡ segments_in s
+unfolding segments_in segments_at ids_at
+segments_run s e f g = rw (e, f, g)
+
 -- what the code needs of the head
 pub ruleset heads = (head_there, format_known, format_is, id_count_is, entry_count_is)
 

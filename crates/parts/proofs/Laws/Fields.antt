@@ -3,14 +3,14 @@ use mathlib.Core.Path.{◌≡◌, refl, sym, ap, ap₂, ◌∙◌}
 use mathlib.Core.Bool.{Bool, true, false, ◌&&◌, false≢true}
 use Rattle.std.specs.Prelude.{None, Some}
 use mathlib.Core.List.{List}
-use Prim.Native.Nat.{ℕ, zero, suc, ◌+◌, ◌≤◌, ◌<◌}
+use Prim.Native.Nat.{ℕ, zero, suc, ◌+◌, ◌%◌, ◌≤◌, ◌<◌}
 use native.Mathlib.Omega.{arith}
 use borrow.Author.Tests.{eqb-true, eqb-false, ne_eqb}
 use lib.Dec.{eqb}
 use lib.ListN.{length, get_or, drop}
 use Rattle.image.specs.Schema.{Encoding, Field}
 use Rattle.image.specs.Parse.{ok, bind, pick, little_endian, code_at, number_at}
-use Rattle.image.specs.Fields.{plain, delta, encoding_of, encoding_at, limit_at}
+use Rattle.image.specs.Fields.{marks_of, plain, delta, encoding_of, encoding_at, limit_at}
 use Rattle.image.specs.WellFormed.{Good, value_or, end_of}
 use Rattle.image.proofs.Laws.Sure.{Sure, sure_ok, sure_no, sure_bind, sure_pick, Byte, Coded, code_sure}
 use Rattle.image.proofs.Laws.Good.{sure_good, good_first}
@@ -134,6 +134,10 @@ module _ (s : List ℕ) (at : ℕ) (g : ItemHere shape.Field s at) where
     unfolding marks_place
     marks_there = rw q (field_parts_lem s at g).marks
 
+    pub deprecated_is : eqb (get_or s e 0 % 2) 1 ≡ (field_in s at).marks.deprecated
+    unfolding marks_place marks_of
+    deprecated_is = rw q (sym (ap (λ (f : Field). f.marks.deprecated) (field_parts_lem s at g).value))
+
     module _ {n : ℕ} (d : n ≡ (encoding_in s (e + 1)).deltas) where
       pub base_there : e + 1 + n < length s
       base_there = delta_there s (e + 1) encoding_good n (omega arith)
@@ -220,6 +224,8 @@ module _ (s : List ℕ) (at : ℕ) (g : ItemHere shape.Field s at) where
 
 -- what the code needs
 pub ruleset counting = (delta_there, delta_more, delta_done)
+
+pub ruleset deprecation = (field_parts_lem, marks_there, deprecated_is)
 
 pub ruleset encodings = (field_parts_lem, encoding_good, marks_there, base_there, base_low, limit_at_lem, coded)
 

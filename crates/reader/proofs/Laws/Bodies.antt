@@ -7,8 +7,8 @@ use native.Mathlib.Omega.{arith}
 use borrow.Author.Tests.{eq-eqb, ne_eqb}
 use lib.ListN.{length, get_or}
 use lib.Dec.{eqb}
-use Rattle.image.specs.Schema.{Decl}
-use Rattle.image.specs.Parse.{Parsed, ok, no, pick, byte_at, counted}
+use Rattle.image.specs.Schema.{Decl, struck}
+use Rattle.image.specs.Parse.{Parsed, ok, no, bind, pick, byte_at, counted}
 use Rattle.image.specs.Names.{name_at}
 use Rattle.image.specs.Fields.{marks_at, field_at, bare_at, variant_at}
 use Rattle.image.specs.Types.{type_at}
@@ -109,17 +109,15 @@ module _ (s : List ℕ) (at : ℕ) {x : Read} where
 
 pub ruleset newtypes = (newtype_name, newtype_type)
 
--- what a kind's parser reads, closed by tombstones: refused, or its tombstones' answer
-module _ (format : ℕ) (p : List ℕ → ℕ → Parsed Decl) (s : List ℕ) (at : ℕ) {x : Read} where
-  pub closed_stop : {k : Refusal} → x ≡ Err k → read_of x ≡ skip (p s at) → read_of x ≡ skip (closed format p s at)
-  unfolding closed
-  closed_stop h e = stop _ _ h e
-
-  pub closed_tombstones : {n : ℕ} {r : Parsed ⊤} → x ≡ Ok n → read_of x ≡ skip (p s at) → r ≡ skip (tombstones_at format s n) → r ≡ skip (closed format p s at)
-  unfolding closed
-  closed_tombstones {n = n} h e q = next _ (got h e) (λ d. q ∙ sym (skip_ok (tombstones_at format s n) _))
-
-pub ruleset closing = (closed_stop, closed_tombstones)
+-- what a kind's parser reads, and the tombstones after it
+pub closed_read : (format : ℕ) (p : List ℕ → ℕ → Parsed Decl) (s : List ℕ) (at : ℕ) (x : Read) {r : Parsed ⊤} → read_of x ≡ skip (p s at)
+    → r ≡ bind (read_of x) (λ _ n. skip (tombstones_at format s n)) → r ≡ skip (closed format p s at)
+unfolding closed skip bind
+closed_read format p s at x e q = q ∙ rw e (go (p s at))
+  where
+    go : (x : Parsed Decl) → bind (skip x) (λ _ n. skip (tombstones_at format s n)) ≡ skip (bind x (λ d n. bind (tombstones_at format s n) (λ ts m. ok (struck d ts) m)))
+    go (ok d n) = sym (skip_ok (tombstones_at format s n) _)
+    go (no k) = refl
 
 -- configs, generic aliases and traits have only a name
 pub decl_named : (f : ℕ) (s : List ℕ) (at : ℕ) {k : Kind} → (k ≡ kind.Config) ⊎ ((k ≡ kind.Alias) ⊎ (k ≡ kind.Trait))

@@ -9,12 +9,12 @@ use native.Mathlib.Omega.{arith}
 use lib.ListN.{length, get_or, take, drop, drop_of_length-le}
 use lib.Seq.{drop-cons}
 use Rattle.maps.specs.Lists.{every}
-use Rattle.maps.specs.Orders.{same, before, order_of}
+use Rattle.maps.specs.Orders.{same, before}
 use Rattle.maps.specs.Keyed.{lookup}
 use Rattle.std.specs.Option.{option_map, is_some}
 use Rattle.std.specs.Borrow.{Bor}
 use Rattle.maps.specs.Walk.{latest, following, better, least, covers}
-use Rattle.maps.proofs.Names.{by_name, same_told, ends_same, finds_other, other_length, goes_on}
+use Rattle.maps.proofs.Names.{by_name}
 use Rattle.maps.proofs.Searches.{latest_start, latest_nothing, latest_skips, latest_other, latest_found, lookup_latest, least_cons, least_nil}
 use Rattle.maps.proofs.Walking.{following_least}
 use Rattle.image.specs.Schema.{Name, Decl as Declaration}
@@ -94,40 +94,21 @@ module _ {ds : Declarations} {name : Name} where
           unfolding shown resolved
           one = rw (← v.value, u)
 
-          pub left_other : same before name own ≡ false → Left ds name (i - 1)
-          unfolding back
-          left_other n = record {
-            most = less;
-            found = sym (latest_other name_of before name shown (candidates ds) None i h k.most (decl_of d) one (rw w at n)) ∙ k.found;
-          }
+          -- t: it has the name
+          module _ {t : Bool} (q : t ≡ same before name own) where
+            pub left_other : t ≡ false → Left ds name (i - 1)
+            unfolding back
+            left_other n = record {
+              most = less;
+              found = sym (latest_other name_of before name shown (candidates ds) None i h k.most (decl_of d) one (rw w at (sym q ∙ n))) ∙ k.found;
+            }
 
-          pub left_found : same before name own ≡ true → Survives (standing_of ds) ds.image name (Some d)
-          unfolding back
-          left_found n = record {
-            value = sym (latest_found name_of before name shown (candidates ds) None i h k.most (decl_of d) one (rw w at n)) ∙ k.found;
-            image = rw u at v.image;
-          }
-
--- ---- two names, which agree as far as j
-
-pub record Agree (a b : Name) (j : ℕ) : Type 0 where
-  pub most : j ≤ length a
-  pub order : order_of a b ≡ order_of (drop j a) (drop j b)
-
-module _ {a b : Name} where
-  pub agree_start : Agree a b 0
-  agree_start = record { most = omega arith; order = refl }
-
-  module _ {j : ℕ} (k : Agree a b j) where
-    pub agree_end : j ≡ length a → length a ≡ length b → same before a b ≡ true
-    agree_end e f = same_told _ _ (sym (ends_same a b j k.order (omega arith) (omega arith)))
-
-    module _ (l : j < length a) (m : j < length b) where
-      pub agree_more : get_or a j 0 ≡ get_or b j 0 → Agree a b (j + 1)
-      agree_more e = record { most = omega arith; order = goes_on a b j k.order l m e }
-
-      pub agree_not : (get_or a j 0 ≡ get_or b j 0 → ⊥) → same before a b ≡ false
-      agree_not n = finds_other a b j k.order l m n
+            pub left_found : t ≡ true → Survives (standing_of ds) ds.image name (Some d)
+            unfolding back
+            left_found n = record {
+              value = sym (latest_found name_of before name shown (candidates ds) None i h k.most (decl_of d) one (rw w at (sym q ∙ n))) ∙ k.found;
+              image = rw u at v.image;
+            }
 
 -- ---- from the front
 
@@ -259,8 +240,6 @@ module _ (n : List Declaration) {r : Option Decl} where
 
 -- what the code needs
 pub ruleset backward = (left_start, left_end, left_skips, left_other, left_found)
-
-pub ruleset agreeing = (agree_start, agree_end, agree_more, agree_not, other_length)
 
 pub ruleset forward = (met_start, met_none, met_some, met_skipped, met_taken, met_left)
 

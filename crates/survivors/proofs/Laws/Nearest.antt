@@ -1,13 +1,17 @@
--- Whether a declaration more takes the place of the best so far, by the tests of the code. Assumes nothing.
+-- Names of declarations, by the tests of the code: whether two are the same; whether a declaration more takes the place of the best so far.
+-- Assumes nothing.
 use mathlib.Core.Path.{◌≡◌, refl, sym, ap}
+use Prim.Native.Nat.{ℕ, ◌+◌, ◌≤◌, ◌<◌}
+use native.Mathlib.Omega.{arith}
+use lib.ListN.{length, get_or, drop}
 use mathlib.Core.Bool.{Bool, true, false}
 use Rattle.std.specs.Prelude.{Option, None, Some, IfSome}
 use Rattle.std.specs.Borrow.{Bor}
 use Rattle.std.specs.Option.{option_map}
 use Rattle.std.specs.Ordering.{is_lt, is_some_and, nat_cmp}
 use Rattle.std.specs.Cmp.Lexicographic.{slice_partial_cmp}
-use Rattle.maps.specs.Orders.{before}
-use Rattle.maps.proofs.Names.{slice_before}
+use Rattle.maps.specs.Orders.{same, before, order_of}
+use Rattle.maps.proofs.Names.{slice_before, same_told, ends_same, finds_other, other_length, goes_on}
 use Rattle.maps.specs.Walk.{past, nearer}
 use Rattle.image.specs.Schema.{Name}
 use Rattle.parts.specs.Handles.{decl_of}
@@ -28,6 +32,31 @@ module _ {r : Option Decl} where
 
     pub named_body : named r ≡ Some (decl_of d).name
     named_body = rw e
+
+-- two names, which agree as far as j
+pub record Agree (a b : Name) (j : ℕ) : Type 0 where
+  pub most : j ≤ length a
+  pub order : order_of a b ≡ order_of (drop j a) (drop j b)
+
+module _ {a b : Name} where
+  pub agree_start : Agree a b 0
+  agree_start = record { most = omega arith; order = refl }
+
+  module _ {j : ℕ} (k : Agree a b j) where
+    pub agree_end : j ≡ length a → length a ≡ length b → true ≡ same before a b
+    agree_end e f = sym (same_told _ _ (sym (ends_same a b j k.order (omega arith) (omega arith))))
+
+    module _ (l : j < length a) (m : j < length b) where
+      pub agree_more : get_or a j 0 ≡ get_or b j 0 → Agree a b (j + 1)
+      agree_more e = record { most = omega arith; order = goes_on a b j k.order l m e }
+
+      pub agree_not : (get_or a j 0 ≡ get_or b j 0 → ⊥) → false ≡ same before a b
+      agree_not n = sym (finds_other a b j k.order l m n)
+
+pub agree_short : (a b : Name) → (length a ≡ length b → ⊥) → false ≡ same before a b
+agree_short a b n = sym (other_length a b n)
+
+pub ruleset agreeing = (agree_start, agree_short, agree_end, agree_more, agree_not)
 
 -- the order of two names, as `<` tells it
 pub names_before : {a b x y : Name} → x ≡ a → y ≡ b → {t : Bool} → t ≡ is_some_and is_lt (slice_partial_cmp (λ i j. Some (nat_cmp i j)) x y) → t ≡ before a b

@@ -6,18 +6,18 @@ use Rattle.image.proofs.Laws.Repeats.{counted_stop, counted_as, rest_start, rest
 use Rattle.image.proofs.counted.read_counted.Goals as goal
 
 pub returns-in_default : goal.returns-in_default
-returns-in_default g c = λ p q. rw (← c.place-here.ensures) (counted_stop p _ _ c.in_default.is c.read_number-count.ensures)
+returns-in_default g c = λ p q. rw (← c.place.ensures) (counted_stop p _ _ c.in_default.is c.read_number-count.ensures)
 
 pub hold-next-requires : goal.hold-next-requires
 hold-next-requires g c = c.requires.carried _ (sure_got (number_in 2 _ _) (got c.in-Ok.is c.read_number-count.ensures))
 
 pub u16_at-end-requires : goal.u16_at-end-requires
-u16_at-end-requires g c = number_within 2 _ _ c.in-Ok.is c.read_number-count.ensures
+u16_at-end-requires g c = rw (c.place-2.ensures, ← c.place.ensures) (number_within 2 _ _ c.in-Ok.is c.read_number-count.ensures)
 
 pub loop-init : goal.loop-init
 loop-init g c = λ p q.
-    rw (c.hold-next.ensures, ← c.place-here.ensures)
-    (rest_start p _ _ _ (counted_as p _ _ c.in-Ok.is c.read_number-count.ensures c.u16_at-end.ensures.0))
+    rw (c.hold-next.ensures, ← c.place.ensures)
+    (rest_start p _ _ _ (counted_as p _ _ c.in-Ok.is c.read_number-count.ensures (rw (c.place-2.ensures, ← c.place.ensures) at c.u16_at-end.ensures.0)))
 
 pub read-step-requires : goal.read-step-requires
 read-step-requires g c = c.requires.callable _ _ c.requires.carried
@@ -36,4 +36,4 @@ loop-preserved g c = λ p q.
     (rest_more (c.loop.invariant p q) c.loop-test.true c.in-Ok-step.is (read_skip (q _ _ _ c.read-step.ensures)))
 
 pub returns : goal.returns
-returns g c = λ p q. rw c.place.ensures (rest_none (c.loop.invariant p q) c.loop-test.false)
+returns g c = λ p q. rw c.place-3.ensures (rest_none (c.loop.invariant p q) c.loop-test.false)

@@ -13,4 +13,4 @@ read_items-requires-clause-wide_inside c = λ s at r e. read_inside _ _ r (field
 
 pub returns : goal.returns
 returns c =
-    c.read_items.ensures (λ s at. skip (field_at s at)) (λ s at r e. e) (λ s at r e. e) ∙ skip_counted field_at _ _
+    c.read_items.ensures (λ s at. skip (field_at s at)) ((λ s at r e. e), λ s at r e. e) ∙ skip_counted field_at _ _

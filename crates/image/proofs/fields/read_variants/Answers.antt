@@ -13,4 +13,4 @@ read_items-requires-clause-wide_inside c = λ s at r e. read_inside _ _ r (varia
 
 pub returns : goal.returns
 returns c =
-    c.read_items.ensures (λ s at. skip (variant_at _ s at)) (λ s at r e. e) (λ s at r e. e) ∙ skip_counted (variant_at _) _ _
+    c.read_items.ensures (λ s at. skip (variant_at _ s at)) ((λ s at r e. e), λ s at r e. e) ∙ skip_counted (variant_at _) _ _

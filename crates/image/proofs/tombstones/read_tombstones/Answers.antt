@@ -15,4 +15,6 @@ pub read_items-requires-clause-wide_inside : goal.read_items-requires-clause-wid
 read_items-requires-clause-wide_inside c = λ s at r e. read_inside _ _ r (number_in 4 _ _) e
 
 pub returns : goal.returns
-returns c = tombstones_read _ _ _ (sym c.if-not-has_tombstones.false ∙ c.has_tombstones.ensures) (c.read_items.ensures (λ s at. skip (number_at 4 s at)) (λ s at r e. e) (λ s at r e. e))
+returns c =
+    tombstones_read _ _ _ (sym c.if-not-has_tombstones.false ∙ c.has_tombstones.ensures)
+    (c.read_items.ensures (λ s at. skip (number_at 4 s at)) ((λ s at r e. e), λ s at r e. e))
