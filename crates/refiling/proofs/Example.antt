@@ -7,7 +7,7 @@ use Prim.Native.Nat.{ℕ}
 use native.Mathlib.Omega.{arith}
 use lib.ListN.{get_or}
 use Rattle.maps.specs.Lists.{All}
-use Rattle.maps.specs.Reordered.{here, later, nothing, each, EachTwo, Once}
+use Rattle.maps.specs.Reordered.{Reordered, here, later, nothing, each, EachTwo, Once}
 use Rattle.maps.proofs.Tests.{no_both}
 use Rattle.image.specs.Schema.{Name, unmarked, label, Ty, leaf, two, no_type, Field, Variant, Decl, decl, struck, Schema}
 use Rattle.image.specs.Parse.{ok}
@@ -19,7 +19,7 @@ use Rattle.rules.specs.Edges.{named as named_type, around, u8, impl}
 use Rattle.rules.specs.Pinned.{told}
 use Rattle.rules.proofs.Equal.{names}
 use Rattle.rules.proofs.Computed.{reads, reports}
-use Rattle.refiling.specs.Refiling.{entries, Impls, NamesOnce, NumbersOnce, NoRepeats, Unresolvable, RefiledId, unresolvable, a_leaf, a_one, a_two, RefiledDecl, Renumbered, Refiled, RefiledImage}
+use Rattle.refiling.specs.Refiling.{entries, Impls, NamesOnce, NumbersOnce, NoRepeats, Unresolvable, RefiledId, unresolvable, RefiledType, a_leaf, a_one, a_two, RefiledField, RefiledVariant, RefiledDecl, Renumbered, Refiled, RefiledImage}
 use Rattle.refiling.specs.Example.{first, first_anew, first_widened, first_struck, second, second_anew, second_widened, second_struck, Example}
 use Rattle.refiling.proofs.Tables.{Rows, renumbered_by, moved_id, plain_field, item, stays, primitive_anew, named_anew, field_anew, item_anew, decl_anew}
 use Rattle.refiling.proofs.FilingOrder.{refiled_image, filing_order}
@@ -198,6 +198,23 @@ second_once = record {
   );
 }
 
+-- ---- pieces of both releases, filed anew the other way round
+
+module _ {R S : Registry} {to : ℕ → ℕ} where
+  -- two bare items
+  turned : (m n : Name) → Reordered (RefiledVariant R S to) (item 0 m [] [] ∷ item 1 n [] [] ∷ []) (item 1 n [] [] ∷ item 0 m [] [] ∷ [])
+  turned m n = each (item_anew 0 m nothing) (each (item_anew 1 n nothing) nothing here) (later here)
+
+  -- two fields, the second of a named type
+  fields_anew : (m n : Name) {t u : Ty} {i j : ℕ} → RefiledType R S to t u → RefiledId R S to i j
+      → Reordered (RefiledField R S to) (plain_field 0 m t ∷ plain_field 1 n (named_type i) ∷ []) (plain_field 1 n (named_type j) ∷ plain_field 0 m u ∷ [])
+  fields_anew m n q r = each (field_anew 0 m q) (each (field_anew 1 n (named_anew r)) nothing here) (later here)
+
+-- a whole release, by its entries and its ids
+filed : {R S : Registry} {to from : ℕ → ℕ} {ids ids' : List ℕ} (format : ℕ) → Renumbered R S to from → Reordered (RefiledId R S to) ids ids'
+    → Refiled (ride_of 1 R ids) (ride_of format S ids')
+filed {to = to} {from = from} format r w = record { to = to; from = from; registry = r; ids = w; namespace = refl }
+
 -- ---- the first filed anew
 
 abbrev to : ℕ → ℕ
@@ -216,24 +233,17 @@ module _ (format : ℕ) (w : Option ℕ) (tf ty tu tm : List ℕ) where
       (struck (message (b 0 ∷ a (around 5 (named_type 3)) ∷ [])) tm)
   unfolding stands_for
   message_anew =
-      decl_anew 0 _
-      (each (field_anew 0 _ (a_one (stays 5 0 [] (λ e. omega arith)) (named_anew (moved_id 1 refl))))
-      (each (field_anew 1 _ (named_anew lost)) nothing here) (later here))
-      nothing (primitive_anew 0)
+      decl_anew 0 _ (fields_anew _ _ (a_one (stays 5 0 [] (λ e. omega arith)) (named_anew (moved_id 1 refl))) lost) nothing (primitive_anew 0)
 
   union_anew : RefiledDecl R (R' w tf ty tu tm) to (union (x ∷ y (f ∷ g 0 ∷ []) [] ∷ [])) (struck (union (y (g 5 ∷ f ∷ []) ty ∷ x ∷ [])) tu)
   unfolding stands_for
   union_anew =
       decl_anew 3 _ nothing
-      (each (item_anew 0 _ nothing)
-      (each
-      (item_anew 1 _
-      (each (field_anew 0 _ (primitive_anew 1)) (each (field_anew 1 _ (named_anew (moved_id 0 refl))) nothing here) (later here)))
-      nothing here) (later here))
+      (each (item_anew 0 _ nothing) (each (item_anew 1 _ (fields_anew _ _ (primitive_anew 1) (moved_id 0 refl))) nothing here) (later here))
       (primitive_anew 0)
 
   flags_anew : RefiledDecl R (R' w tf ty tu tm) to (flags None (p ∷ q ∷ [])) (struck (flags w (q ∷ p ∷ [])) tf)
-  flags_anew = decl_anew 2 _ nothing (each (item_anew 0 _ nothing) (each (item_anew 1 _ nothing) nothing here) (later here)) (primitive_anew 0)
+  flags_anew = decl_anew 2 _ nothing (turned _ _) (primitive_anew 0)
 
   impl_anew : RefiledDecl R (R' w tf ty tu tm) to impl impl
   impl_anew = decl_anew 8 _ nothing nothing (primitive_anew 0)
@@ -249,18 +259,13 @@ module _ (format : ℕ) (w : Option ℕ) (tf ty tu tm : List ℕ) where
 
   first_anew_lem : Refiled (ride_of 1 R (0 ∷ 1 ∷ 2 ∷ 3 ∷ 9 ∷ 4 ∷ [])) (ride_of format (R' w tf ty tu tm) (4 ∷ 5 ∷ 0 ∷ 3 ∷ 1 ∷ 2 ∷ []))
   unfolding stands_for
-  first_anew_lem = record {
-    to = to;
-    from = from;
-    registry = first_renumbered;
-    ids =
-        each (moved_id 0 refl)
-        (each (moved_id 1 refl)
-        (each (moved_id 2 refl)
-        (each (moved_id 3 refl)
-        (each lost (each (moved_id 4 refl) nothing here) here) here) (later (later here))) (later (later here))) (later here);
-    namespace = refl;
-  }
+  first_anew_lem =
+      filed format first_renumbered
+      (each (moved_id 0 refl)
+      (each (moved_id 1 refl)
+      (each (moved_id 2 refl)
+      (each (moved_id 3 refl)
+      (each lost (each (moved_id 4 refl) nothing here) here) here) (later (later here))) (later (later here))) (later here))
 
 -- ---- the second filed anew
 
@@ -273,25 +278,17 @@ off j = get_or (4 ∷ 5 ∷ 3 ∷ 2 ∷ 1 ∷ 0 ∷ []) j 9
 module _ (format : ℕ) (v w : Option ℕ) (te ty tu : List ℕ) where
   later_message : RefiledDecl S (S' v w te ty tu) on (message (a u8 ∷ b 5 ∷ [])) (message (b 1 ∷ a u8 ∷ []))
   unfolding stands_for
-  later_message =
-      decl_anew 0 _ (each (field_anew 0 _ (primitive_anew 1)) (each (field_anew 1 _ (named_anew (moved_id 5 refl))) nothing here) (later here))
-      nothing (primitive_anew 0)
+  later_message = decl_anew 0 _ (fields_anew _ _ (primitive_anew 1) (moved_id 5 refl)) nothing (primitive_anew 0)
 
   later_union : RefiledDecl S (S' v w te ty tu) on (union (y (f ∷ h 1 ∷ []) [] ∷ [])) (struck (union (y (h 4 ∷ f ∷ []) ty ∷ [])) tu)
   unfolding stands_for
-  later_union =
-      decl_anew 3 _ nothing
-      (each
-      (item_anew 1 _
-      (each (field_anew 0 _ (primitive_anew 1)) (each (field_anew 1 _ (named_anew (moved_id 1 refl))) nothing here) (later here)))
-      nothing here)
-      (primitive_anew 0)
+  later_union = decl_anew 3 _ nothing (each (item_anew 1 _ (fields_anew _ _ (primitive_anew 1) (moved_id 1 refl))) nothing here) (primitive_anew 0)
 
   later_flags : RefiledDecl S (S' v w te ty tu) on (flags None (p ∷ [])) (flags w (p ∷ []))
   later_flags = decl_anew 2 _ nothing (each (item_anew 0 _ nothing) nothing here) (primitive_anew 0)
 
   enum_anew : RefiledDecl S (S' v w te ty tu) on (enum None (r ∷ s ∷ [])) (struck (enum v (s ∷ r ∷ [])) te)
-  enum_anew = decl_anew 1 _ nothing (each (item_anew 0 _ nothing) (each (item_anew 1 _ nothing) nothing here) (later here)) (primitive_anew 0)
+  enum_anew = decl_anew 1 _ nothing (turned _ _) (primitive_anew 0)
 
   newtype_anew : RefiledDecl S (S' v w te ty tu) on (newtype (map_of 3)) (newtype (map_of 2))
   unfolding stands_for
@@ -319,18 +316,13 @@ module _ (format : ℕ) (v w : Option ℕ) (te ty tu : List ℕ) where
 
   second_anew_lem : Refiled (ride_of 1 S (0 ∷ 1 ∷ 2 ∷ 3 ∷ 4 ∷ [])) (ride_of format (S' v w te ty tu) (0 ∷ 3 ∷ 5 ∷ 2 ∷ 4 ∷ []))
   unfolding stands_for
-  second_anew_lem = record {
-    to = on;
-    from = off;
-    registry = second_renumbered;
-    ids =
-        each (moved_id 0 refl)
-        (each (moved_id 1 refl)
-        (each (moved_id 2 refl)
-        (each (moved_id 3 refl) (each (moved_id 4 refl) nothing here) (later here)) (later here)) (later (later (later here))))
-        (later (later here));
-    namespace = refl;
-  }
+  second_anew_lem =
+      filed format second_renumbered
+      (each (moved_id 0 refl)
+      (each (moved_id 1 refl)
+      (each (moved_id 2 refl)
+      (each (moved_id 3 refl) (each (moved_id 4 refl) nothing here) (later here)) (later here)) (later (later (later here))))
+      (later (later here)))
 
 -- ---- the reports
 

@@ -46,16 +46,8 @@ module _ (old new old' new' : List ℕ) where
 -- two accepted images, by what they hold
 pub refiled_image : {P : Schema → Type 0} {a b : List ℕ} {s t : Schema} {m n : ℕ} → read_image a ≡ ok s m → read_image b ≡ ok t n → P s → Refiled s t
     → RefiledImage P a b
-refiled_image {s = s} {t = t} {m = m} {n = n} p q h r = record {
-  before = s;
-  after = t;
-  before_end = m;
-  after_end = n;
-  before_read = p;
-  after_read = q;
-  holds = h;
-  refiled = r;
-}
+refiled_image {s = s} {t = t} {m = m} {n = n} p q h r =
+    record { before = s; after = t; before_end = m; after_end = n; before_read = p; after_read = q; holds = h; refiled = r }
 
 -- a premise that says less
 less : {P Q : Schema → Type 0} {a b : List ℕ} → ((s : Schema) → P s → Q s) → RefiledImage P a b → RefiledImage Q a b

@@ -11,11 +11,12 @@ use Rattle.maps.specs.Reordered.{Put, here, later, Reordered, nothing, each, Eac
 use Rattle.maps.proofs.Names.{by_name}
 use Rattle.maps.proofs.Reorderings.{In, each_two, reordered_map, reordered_all}
 use Rattle.maps.proofs.Alike.{Both, neither, these, survivors_alike, lookup_alike}
+use Rattle.maps.specs.Lists.{any}
 use Rattle.image.specs.Schema.{Ty, Decl, Schema}
 use Rattle.rules.specs.Survivors.{Registry, stands_for, resolved, listed, name_of, declarations, view_of}
 use Rattle.rules.specs.Types.{same_type}
 use Rattle.rules.specs.Clauses.{clauses_by, changes}
-use Rattle.rules.specs.Verdict.{alias, is_alias, any, alias_pair}
+use Rattle.rules.specs.Verdict.{alias, is_alias, alias_pair}
 use Rattle.rules.specs.Answer.{first_fault, compare_pair, alias_check, plain}
 use Rattle.refiling.specs.Refiling.{Impls, NumbersOnce, ListedOnce, Unresolvable, RefiledId, renumbered, unresolvable, RefiledDecl, Renumbered, Refiled}
 use Rattle.refiling.proofs.Clauses.{moved, impls_turn, LikeDecl, refiled, impls, like_name, like_kind, all_same}

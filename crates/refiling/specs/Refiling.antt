@@ -66,7 +66,8 @@ module _ (R S : Registry) (to : ℕ → ℕ) where
 
   -- in a type every id follows, and nothing else changes: the names of inline `bits` keep their order
   pub data RefiledLabel : Label → Label → Type 0 where
-    named : {i j second : ℕ} {names : List Name} → RefiledId i j → RefiledLabel (label (number named_tag) i second names) (label (number named_tag) j second names)
+    named : {i j second : ℕ} {names : List Name} → RefiledId i j
+        → RefiledLabel (label (number named_tag) i second names) (label (number named_tag) j second names)
     other : {tag first second : ℕ} {m n : List Name} → (tag ≡ number named_tag → ⊥) → m ≡ n → RefiledLabel (label tag first second m) (label tag first second n)
 
   pub data RefiledType : Ty → Ty → Type 0 where

@@ -11,6 +11,7 @@ use Rattle.maps.specs.Lists.{All}
 use Rattle.maps.specs.Orders.{before}
 use Rattle.maps.specs.Walk.{Rising}
 use Rattle.maps.proofs.Lists.{all_map}
+use Rattle.maps.proofs.Any.{any_same}
 use Rattle.image.specs.Schema.{Schema}
 use Rattle.image.specs.Parse.{Parsed, ok}
 use Rattle.image.specs.Image.{read_image}
@@ -26,7 +27,6 @@ use Rattle.rules.specs.Refusals.{Numbered}
 use Rattle.rules.specs.Distance.{Image, vector_compared, last, other_kinds, Verdict, distance, count_between, Steps, largest_step, Swapped, DistanceRule, holds_vectors}
 use Rattle.rules.proofs.Types.{types, holds_resolved}
 use Rattle.rules.proofs.Chain.{changes_chained}
-use Rattle.rules.proofs.Any.{any_same}
 use Rattle.rules.proofs.Self.{odd_view, odd_view_types, changes_self}
 use Rattle.rules.proofs.Mirror.{mirror, one_way}
 use Rattle.rules.proofs.Readings.{Odd, odd_types, Lawful, clauses_lawful}
@@ -48,7 +48,7 @@ module _ (p : Policy) (numbered : Numbered p) (rise : (s : Schema) → Rising na
   abbrev odd_in : Image → Bool
   odd_in a = odd_view odd (view_in a)
 
-  distance_is : (a b : Image) → Verdict (verdict_by p) a b → distance (verdict_by p) a b ≡ bump_of (changes_of p a b)
+  pub distance_is : (a b : Image) → Verdict (verdict_by p) a b → distance (verdict_by p) a b ≡ bump_of (changes_of p a b)
   unfolding Verdict distance verdict_by select selected
   distance_is a b v = ap (λ o. select o 2) (compared_of p numbered a b v)
 
@@ -58,7 +58,7 @@ module _ (p : Policy) (numbered : Numbered p) (rise : (s : Schema) → Rising na
   unfolding changes_of bump_of
   triangle a b c = omega (arith, (changes_chained lawful (view_in a) (view_in b) (view_in c) (rise _) (rise _)).bound)
 
-  reach : (a b : Image) (rest : List Image) → Steps (verdict_by p) a (b ∷ rest)
+  pub reach : (a b : Image) (rest : List Image) → Steps (verdict_by p) a (b ∷ rest)
       → bump_of (changes_of p a (last b rest)) ≤ largest_step (verdict_by p) a (b ∷ rest)
   unfolding Steps last largest_step
   reach a b [] s = omega (arith, distance_is a b s.0)

@@ -11,12 +11,12 @@ use Rattle.maps.specs.Orders.{before}
 use Rattle.maps.specs.Keyed.{survivors, lookup}
 use Rattle.std.specs.Option.{is_some}
 use Rattle.maps.proofs.Mapped.{pass_same, survivors_map, lookup_map}
+use Rattle.maps.proofs.Any.{any_same, any_map}
 use Rattle.image.specs.Schema.{Label, Ty, leaf, one, two, Decl}
 use Rattle.rules.specs.Survivors.{Registry, stands_for, resolved, listed, name_of, View}
 use Rattle.rules.specs.Types.{name_or_none, resolve_label, resolve}
 use Rattle.rules.specs.Verdict.{alias, is_alias, alias_pair}
 use Rattle.rules.specs.Reached.{named_of, named_from, resolvable, IdSet, mark, mark_all, named_by, follow, up_from, round, rounds}
-use Rattle.rules.proofs.Any.{any_same, any_map}
 use Rattle.rules.proofs.Reached.{named_from_lem}
 
 -- what stays of a declaration

@@ -6,20 +6,20 @@ use Rattle.std.specs.Prelude.{Some}
 use mathlib.Core.List.{[], ◌∷◌, flat_map}
 use Prim.Native.Nat.{ℕ, zero, suc, ◌+◌, ◌≤◌, ◌<◌}
 use native.Mathlib.Omega.{arith}
-use Rattle.maps.specs.Lists.{pass}
+use Rattle.maps.specs.Lists.{pass, among}
 use Rattle.maps.specs.Keyed.{insert, survivors}
 use Rattle.std.specs.Option.{is_some}
 use Rattle.maps.proofs.Tests.{no_both}
+use Rattle.maps.proofs.Any.{among_here}
 use Rattle.image.specs.Schema.{Schema}
 use Rattle.image.specs.Kinds.{kind_of}
 use Rattle.rules.specs.Survivors.{stands_for, resolved, listed, declarations, view_of}
 use Rattle.rules.specs.Clauses.{types_of, compared_types}
-use Rattle.rules.specs.Reached.{named_label, named_in, named_of, named_from, member, resolvable, Reached, by_survivor, by_reached, has, reached_set}
+use Rattle.rules.specs.Reached.{named_label, named_in, named_of, named_from, resolvable, Reached, by_survivor, by_reached, has, reached_set}
 use Rattle.rules.specs.Imports.{OnlyListed}
 use Rattle.rules.specs.Edges.{u8}
 use Rattle.rules.specs.ImportEdges.{told, entry, naming, listing, under, link, links, chain, ImportEdges}
 use Rattle.rules.proofs.Reached.{reached_is}
-use Rattle.rules.proofs.ReachedSets.{member_here}
 use Rattle.rules.proofs.Computed.{reports}
 
 -- ---- a chain of imports
@@ -41,13 +41,13 @@ module _ (n : ℕ) where
   there id l = ap is_some (entry_at id l)
 
   -- each names the next
-  names_next : (id : ℕ) → member (suc id) (named_of (link id)) ≡ true
+  names_next : (id : ℕ) → among (suc id) (named_of (link id)) ≡ true
   unfolding named_of types_of kind_of flat_map named_in named_label
-  names_next id = member_here (suc id) []
+  names_next id = among_here (suc id) []
 
   chain_reached : (id : ℕ) → suc id ≤ n → Reached (chain n) (suc id)
   unfolding chain links named_from compared_types view_of declarations listed stands_for resolved survivors pass insert types_of kind_of flat_map named_in named_label
-  chain_reached zero l = by_survivor (member_here 1 []) (there 1 l)
+  chain_reached zero l = by_survivor (among_here 1 []) (there 1 l)
   chain_reached (suc id) l = by_reached (chain_reached id (omega arith)) (entry_at (suc id) (omega arith)) (names_next (suc id)) (there (suc (suc id)) l)
 
 steps : (n id : ℕ) → 1 ≤ id → id ≤ n → Reached (chain n) id
@@ -67,7 +67,7 @@ only_listed_lem : OnlyListed listed_too
 unfolding reports
 only_listed_lem id q = go id (((reached_is listed_too).exactly id).1 q)
   where
-    go : (id : ℕ) → has (reached_set listed_too) id ≡ true → member id listed_too.ids ≡ true
+    go : (id : ℕ) → has (reached_set listed_too) id ≡ true → among id listed_too.ids ≡ true
     go zero e = no_both e refl
     go (suc zero) e = refl
     go (suc (suc id)) e = no_both e refl
@@ -76,44 +76,4 @@ only_listed_lem id q = go id (((reached_is listed_too).exactly id).1 q)
 
 pub import_edges : ImportEdges
 unfolding told under reports
-import_edges = record {
-  inside = refl;
-  inside_plain = refl;
-  itself = refl;
-  itself_inside = refl;
-  each_other = refl;
-  kept_field = refl;
-  lost_field = refl;
-  kept_variant = refl;
-  lost_variant = refl;
-  higher = refl;
-  lower = refl;
-  lower_followed = refl;
-  listed = refl;
-  not_listed = refl;
-  not_listed_followed = refl;
-  not_followed = refl;
-  reached_aliases = refl;
-  reached_aliases_plain = refl;
-  alias_reached = refl;
-  alias_listed = refl;
-  alias_hidden = refl;
-  unresolvable = refl;
-  resolvable = refl;
-  in_key = refl;
-  in_value = refl;
-  in_result = refl;
-  in_error = refl;
-  in_vector = refl;
-  deep = refl;
-  gone = refl;
-  came = refl;
-  reached_impl = refl;
-  moved = refl;
-  moved_plain = refl;
-  reached_listed = reached_listed_lem;
-  only_listed = only_listed_lem;
-  falling = refl;
-  steps = steps;
-  five_hundred = steps 500 500 (omega arith) (omega arith);
-}
+import_edges = assumption (reached_listed_lem, only_listed_lem, steps, steps 500 500 (omega arith) (omega arith))

@@ -10,7 +10,7 @@ use mathlib.Core.List.Memᴰ
 use mathlib.Core.List.{List, [], ◌∷◌}
 use Prim.Native.Nat.{ℕ, ◌+◌}
 use native.Mathlib.Omega.{arith}
-use Rattle.maps.specs.Lists.{total, count, All}
+use Rattle.maps.specs.Lists.{total, count, All, among}
 use Rattle.maps.specs.Keyed.{lookup}
 use Rattle.maps.specs.Orders.{same, before}
 use Rattle.maps.specs.Walk.{Rising}
@@ -20,6 +20,7 @@ use Rattle.maps.proofs.Orders.{same_eq, same_ne, before_other}
 use Rattle.maps.proofs.Reorderings.{In}
 use Rattle.maps.proofs.Survivors.{After}
 use Rattle.maps.proofs.Tests.{no_both}
+use Rattle.maps.proofs.Any.{among_cons, among_none}
 use Rattle.image.specs.Schema.{Name, Decl, Schema}
 use Rattle.image.specs.Parse.{Parsed, ok, no}
 use Rattle.image.specs.Image.{read_image}
@@ -29,7 +30,7 @@ use Rattle.rules.specs.Types.{same_type}
 use Rattle.rules.specs.Answer.{plain_reading, plain, first_fault, alias_check, compare_pair, accept_new, accept_old, outcome, verdict_by, checked}
 use Rattle.rules.specs.Refusals.{Numbered, VerdictRefusals}
 use Rattle.rules.specs.Distance.{holds_vectors, DistanceRule}
-use Rattle.rules.specs.Reached.{member, Reached, reached_set}
+use Rattle.rules.specs.Reached.{Reached, reached_set}
 use Rattle.rules.specs.Imports.{marked_ids, view_with, imports_view, imports, Stands, survivor, imported, absent, OnlyListed, Imported}
 use Rattle.rules.proofs.Equal.{names}
 use Rattle.rules.proofs.Types.{types}
@@ -39,7 +40,6 @@ use Rattle.rules.proofs.Weights.{clauses_light}
 use Rattle.rules.proofs.Bound.{Bounded, usual_bounded, with_sized}
 use Rattle.rules.proofs.Refusals.{verdict_refusals}
 use Rattle.rules.proofs.Distance.{vector_distance_rule}
-use Rattle.rules.proofs.ReachedSets.{member_cons, member_none}
 use Rattle.rules.proofs.Reached.{reached_is}
 use Rattle.rules.proofs.Standing.{with_rises, view_rises, set_entries, lookup_with, ids_has, ids_rise, Highest, highest, nowhere, highest_found}
 
@@ -47,10 +47,10 @@ use Rattle.rules.proofs.Standing.{with_rises, view_rises, set_entries, lookup_wi
 
 module _ (s : Schema) where
   -- the ids of the set are those that are reached
-  ids_reached : (id : ℕ) → member id (marked_ids 0 (reached_set s)) ≡ true → Reached s id
+  ids_reached : (id : ℕ) → among id (marked_ids 0 (reached_set s)) ≡ true → Reached s id
   ids_reached id e = ((reached_is s).exactly id).0 (sym (ids_has id (reached_set s)) ∙ e)
 
-  reached_ids : (id : ℕ) → Reached s id → member id (marked_ids 0 (reached_set s)) ≡ true
+  reached_ids : (id : ℕ) → Reached s id → among id (marked_ids 0 (reached_set s)) ≡ true
   reached_ids id r = ids_has id (reached_set s) ∙ ((reached_is s).exactly id).1 r
 
   -- by what survives, and by the highest of the set
@@ -73,7 +73,7 @@ imports_rise s = with_rises (reached_set s) s
 
 -- ---- each name once
 
-name_test : (a b : Name) → same_name a b ≡ same before a b
+pub name_test : (a b : Name) → same_name a b ≡ same before a b
 name_test a b = go (same_name a b) (same before a b) refl refl
   where
     go : (u v : Bool) → same_name a b ≡ u → same before a b ≡ v → u ≡ v
@@ -112,11 +112,11 @@ once s id d r g = go (lookup name_of before d.name (imports_view s).standing) re
 
 -- ---- where nothing that is not listed is reached
 
-listed_in : (R : Registry) (ids : List ℕ) (id : ℕ) (d : Decl) → member id ids ≡ true → stands_for R id ≡ Some d → In d (listed R ids)
+listed_in : (R : Registry) (ids : List ℕ) (id : ℕ) (d : Decl) → among id ids ≡ true → stands_for R id ≡ Some d → In d (listed R ids)
 unfolding listed resolved
-listed_in R [] id d i g = member_none id i
+listed_in R [] id d i g = among_none id i
 listed_in R (a ∷ ids) id d i g =
-    ⊎_elim (λ q. rw (subst (λ x. stands_for R x ≡ Some d) q g) (Memᴰ.head refl)) (λ q. go (stands_for R a) (listed_in R ids id d q g)) (member_cons id a ids i)
+    ⊎_elim (λ q. rw (subst (λ x. stands_for R x ≡ Some d) q g) (Memᴰ.head refl)) (λ q. go (stands_for R a) (listed_in R ids id d q g)) (among_cons id a ids i)
   where
     go : (o : Option Decl) → In d (listed R ids) → In d (resolved o (listed R ids))
     go None j = j

@@ -10,9 +10,9 @@ use Prim.Native.Nat.{◌+◌}
 use native.Mathlib.Omega.{arith}
 use borrow.Author.Tests.{ltb-true}
 use lib.Dec.{ltb}
-use Rattle.maps.specs.Lists.{All}
-use Rattle.image.specs.Schema.{Ty, Decl, Schema}
-use Rattle.image.specs.Kinds.{Kind, kind_of, message, enum, flags, union, newtype, config, alias, trait, impl, other}
+use Rattle.maps.specs.Lists.{All, any, among}
+use Rattle.maps.proofs.Any.{any_never, none_in}
+use Rattle.image.specs.Schema.{Ty, Schema}
 use Rattle.image.specs.Codes.{number, mixed_refusal, both_sides}
 use Rattle.image.specs.Parse.{Parsed, ok, no}
 use Rattle.image.specs.Image.{read_image}
@@ -24,20 +24,18 @@ use Rattle.rules.specs.Survivors.{declarations, View, view_of}
 use Rattle.rules.specs.Types.{resolve, same_label, same_type, holds_vector}
 use Rattle.rules.specs.Changes.{Change, kind_count, ordinal_kinds}
 use Rattle.rules.specs.Clauses.{clauses_by, changes, compared_types}
-use Rattle.rules.specs.Verdict.{count_of, any}
-use Rattle.rules.specs.Tombstones.{among, used_by_fields, used, compare_last, compare_last_in, uses, variant_uses, decl_uses, schema_uses, struck_used, uses_struck}
+use Rattle.rules.specs.Verdict.{count_of}
+use Rattle.rules.specs.Tombstones.{used_by_fields, used, compare_last, compare_last_in, uses, variant_uses, decl_uses, schema_uses, struck_used, uses_struck}
 use Rattle.rules.specs.Outcome.{Outcome, selected, select}
 use Rattle.rules.specs.Answer.{Fault, fault, plain_reading, plain, compared, first_fault, judged, on_side, alias_check, compare_pair, accept_new, accept_old, outcome, verdict_by}
 use Rattle.rules.specs.Distance.{vector_compared, holds_vectors, DistanceRule}
-use Rattle.rules.specs.Widths.{mixed}
-use Rattle.rules.specs.Mended.{equal, alike, different, equal_trees, likeness_by, likeness, read_as, ThreeAnswers, mended_type, mended_reading, mended, mended_kinds, Otherwise}
+use Rattle.rules.specs.Mended.{equal, alike, different, equal_trees, likeness_by, likeness, read_as, ThreeAnswers, mended_type, mended_reading, mixed, mended, mended_kinds, Otherwise}
 use Rattle.rules.proofs.Types.{labels, tree_equal, tree_self, types, holds_resolved}
 use Rattle.rules.proofs.Agreed.{changes_agree}
 use Rattle.rules.proofs.Answer.{count_selected}
 use Rattle.rules.proofs.Standing.{view_rises}
 use Rattle.rules.proofs.MendedRefusals.{mixed_fault, unmixed_checks, mended_numbers, mended_numbered}
 use Rattle.rules.proofs.Bound.{Bounded, survivors_sized}
-use Rattle.rules.proofs.Any.{any_same, any_never, none_in}
 use Rattle.rules.proofs.Distance.{read_distance_rule}
 use Rattle.rules.proofs.Readings.{Odd, Lawful}
 use Rattle.rules.proofs.Self.{odd_variants, odd_decl, odd_view}
@@ -48,7 +46,7 @@ use Rattle.rules.proofs.Unreported.{Adds, Ordinary, adds_ordinary}
 use Rattle.rules.proofs.Widths.{widths_besides, widths_of, widths_weight}
 use Rattle.rules.proofs.Tombstones.{struck_of, last_besides, last_in_besides}
 use Rattle.rules.proofs.TombstoneLines.{last_weight, last_in_weight}
-use Rattle.rules.proofs.Otherwise.{both_all, uncounted, without_besides}
+use Rattle.rules.proofs.Otherwise.{both_all, uncounted, Unclaused, without_besides}
 
 -- ---- the answers
 
@@ -151,7 +149,7 @@ views_agree x y e =
 
 -- ---- what is reported besides: widths, then the clauses, then tombstones
 
-mended_adds : Adds mended_kinds mended_reading
+pub mended_adds : Adds mended_kinds mended_reading
 unfolding among any compare_last compare_last_in
 mended_adds = record {
   first = widths_of mended_kinds refl;
@@ -159,11 +157,16 @@ mended_adds = record {
   last_in = λ d v w. struck_of mended_kinds refl refl d v.tombstones (used_by_fields w.fields) w.tombstones;
 }
 
+-- no clause reports these kinds
+pub mended_unclaused : Unclaused mended_kinds
+unfolding among any All
+mended_unclaused = (refl, (refl, (refl, tt)))
+
 -- where none of these kinds is counted, all that is reported is the same
 changes_otherwise : (x y : View) → (any holds_vector (compared_types x) && any holds_vector (compared_types y)) ≡ false
     → All (λ j. count_of j (changes mended_reading x y) ≡ 0) mended_kinds → changes mended_reading x y ≡ changes plain_reading x y
 changes_otherwise x y e z =
-    without_besides mended_kinds mended_reading mended_adds x y (uncounted mended_kinds _ z) ∙ views_agree x y e
+    without_besides mended_kinds mended_unclaused mended_reading mended_adds x y (uncounted mended_kinds _ z) ∙ views_agree x y e
 
 -- as the verdict call tells them
 abbrev Uncounted : Outcome → Type 0
@@ -226,7 +229,7 @@ unfolding All among any
 mended_ordinary = (adds_ordinary mended_adds _ refl, (adds_ordinary mended_adds _ refl, (adds_ordinary mended_adds _ refl, tt)))
 
 -- no type is odd, and a body is if it uses what it strikes off
-abbrev mended_odd : Odd
+abbrev pub mended_odd : Odd
 mended_odd = record {
   types = never;
   first = never;
@@ -234,26 +237,13 @@ mended_odd = record {
   last_in = λ v. uses v.tombstones (used_by_fields v.fields);
 }
 
-mended_lawful : Lawful mended_reading mended_odd
+pub mended_lawful : Lawful mended_reading mended_odd
 mended_lawful = record { types = mended_types; first = widths_besides; last = last_besides; last_in = last_in_besides }
 
 odd_used : (s : Schema) → odd_view mended_odd (view_of s) ≡ schema_uses s
 unfolding odd_view odd_decl odd_variants decl_uses variant_uses schema_uses view_of
 odd_used s =
     ap (λ b. b || any (odd_decl mended_odd) (declarations s)) (any_never (compared_types (view_of s)))
-    ∙ any_same (odd_decl mended_odd) decl_uses (λ d. ap (λ b. uses d.tombstones (used d) || b) (go (kind_of d.kind) d)) (declarations s)
-  where
-    go : (k : Kind) (d : Decl) → odd_variants mended_odd k d ≡ variant_uses k d
-    go message d = refl
-    go enum d = refl
-    go flags d = refl
-    go union d = refl
-    go newtype d = refl
-    go config d = refl
-    go alias d = refl
-    go trait d = refl
-    go impl d = refl
-    go other d = refl
 
 -- R-5: "there every image that gets a verdict against itself is at distance 0 from itself. The chain rule covers the mended verdict as well.";
 -- R-10: "one that strikes off a number and uses it .. is now at distance 2 from itself; every other one stays at 0"

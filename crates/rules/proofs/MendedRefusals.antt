@@ -17,9 +17,8 @@ use Rattle.rules.specs.Survivors.{view_of}
 use Rattle.rules.specs.Clauses.{changes}
 use Rattle.rules.specs.Verdict.{alias_pair}
 use Rattle.rules.specs.Answer.{Fault, fault, compared, first_fault, outcome, verdict_by, alias_check}
-use Rattle.rules.specs.Widths.{mixed, mixed_check}
 use Rattle.rules.specs.Refusals.{Numbered, AcceptedPair, AliasPair}
-use Rattle.rules.specs.Mended.{mended_reading, mended}
+use Rattle.rules.specs.Mended.{mended_reading, mixed, mixed_check, mended}
 use Rattle.rules.specs.MendedRefusals.{Mixed, Given, MendedRefusals}
 use Rattle.rules.proofs.Answer.{here_or_later, here_found, here_passed, tested, untested, usual_fault, alias_fault_lem}
 use Rattle.rules.proofs.Standing.{view_rises}

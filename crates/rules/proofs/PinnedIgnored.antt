@@ -10,6 +10,7 @@ use Rattle.rules.specs.PinnedImports.{imports_told}
 use Rattle.rules.specs.PinnedMended.{mended_told}
 use Rattle.rules.specs.Ignored.{stripped_variant, stripped, stripped_schema, SameStripped}
 use Rattle.rules.specs.PinnedIgnored.{plain_image, narrow_image, wide_image, unstruck_image, struck_image, PinnedIgnored}
+use Rattle.rules.proofs.Refusals.{read_pair}
 use Rattle.rules.proofs.Computed.{reads, reports}
 
 -- what the images hold, of a format, widths and the tombstones of E, F, U and v; the bytes of the names are their numbers: E 69, F 70, U 85,
@@ -55,66 +56,20 @@ struck_read = refl
 
 formats_same : SameStripped plain_image narrow_image
 unfolding stripped_schema stripped stripped_variant
-formats_same = record {
-  old_schema = unstruck 1 None None;
-  new_schema = unstruck 2 (Some 8) (Some 1);
-  old_end = 68;
-  new_end = 70;
-  old_read = plain_read;
-  new_read = narrow_read;
-  holds = refl;
-}
+formats_same = read_pair plain_read narrow_read refl
 
 widths_same : SameStripped narrow_image wide_image
 unfolding stripped_schema stripped stripped_variant
-widths_same = record {
-  old_schema = unstruck 2 (Some 8) (Some 1);
-  new_schema = unstruck 2 (Some 16) (Some 2);
-  old_end = 70;
-  new_end = 70;
-  old_read = narrow_read;
-  new_read = wide_read;
-  holds = refl;
-}
+widths_same = read_pair narrow_read wide_read refl
 
 tombstones_same : SameStripped unstruck_image struck_image
 unfolding stripped_schema stripped stripped_variant
-tombstones_same = record {
-  old_schema = unstruck 3 (Some 8) (Some 1);
-  new_schema = struck_off;
-  old_end = 78;
-  new_end = 98;
-  old_read = unstruck_read;
-  new_read = struck_read;
-  holds = refl;
-}
+tombstones_same = read_pair unstruck_read struck_read refl
 
 all_same : SameStripped plain_image struck_image
 unfolding stripped_schema stripped stripped_variant
-all_same = record {
-  old_schema = unstruck 1 None None;
-  new_schema = struck_off;
-  old_end = 68;
-  new_end = 98;
-  old_read = plain_read;
-  new_read = struck_read;
-  holds = refl;
-}
+all_same = read_pair plain_read struck_read refl
 
 pub pinned_ignored : PinnedIgnored
 unfolding reports imports_told mended_told
-pinned_ignored = record {
-  formats = formats_same;
-  widths = widths_same;
-  tombstones = tombstones_same;
-  all = all_same;
-  plain = refl;
-  plain_back = refl;
-  plain_struck = refl;
-  with_imports = refl;
-  with_imports_struck = refl;
-  apart = refl;
-  apart_struck = refl;
-  mixed = refl;
-  mixed_struck = refl;
-}
+pinned_ignored = assumption (formats_same, widths_same, tombstones_same, all_same)

@@ -10,18 +10,21 @@ use native.Mathlib.Omega.{arith}
 use borrow.Author.Tests.{ltb-true, ltb-false}
 use lib.Dec.{ltb}
 use lib.ListN.{length, replicate, length-replicate, get_or-eq_default}
+use Rattle.maps.specs.Lists.{among}
 use Rattle.maps.specs.Keyed.{lookup}
 use Rattle.maps.specs.Orders.{before}
 use Rattle.std.specs.Option.{is_some}
 use Rattle.maps.proofs.Lists.{all, pass_keeps, flat_map_flat_map}
 use Rattle.maps.proofs.Survivors.{all_lookup}
+use Rattle.maps.proofs.Reorderings.{In, all_listed}
+use Rattle.maps.proofs.Any.{among_none, among_flat_map}
 use Rattle.maps.proofs.Tests.{no_both}
 use Rattle.image.specs.Schema.{Name, Decl, Schema}
 use Rattle.image.specs.Kinds.{kind_of}
 use Rattle.rules.specs.Survivors.{Registry, stands_for, name_of, declarations, View, view_of}
 use Rattle.rules.specs.Clauses.{types_of, compared_types}
-use Rattle.rules.specs.Reached.{named_in, named_of, named_from, member, resolvable, Reached, by_survivor, by_reached, IdSet, has, mark_all, named_by, follow, up_from, round, rounds, first_set, reached_set, ReachedIs}
-use Rattle.rules.proofs.ReachedSets.{member_none, member_flat_map, member_up, Below, below_refl, below_trans, below_has, below_length, below_in, size, below_same, size_full, no_marks_lem, pass_below, pass_has, mark_all_below, mark_all_has, mark_all_only}
+use Rattle.rules.specs.Reached.{named_in, named_of, named_from, resolvable, Reached, by_survivor, by_reached, IdSet, has, mark_all, named_by, follow, up_from, round, rounds, first_set, reached_set, ReachedIs}
+use Rattle.rules.proofs.ReachedSets.{among_up, Below, below_refl, below_trans, below_has, below_length, below_in, size, below_same, size_full, no_marks_lem, pass_below, pass_has, mark_all_below, mark_all_has, mark_all_only}
 
 -- what is named, declaration by declaration
 pub named_from_lem : (v : View) → named_from v ≡ flat_map named_of v.standing
@@ -39,12 +42,12 @@ module _ (R : Registry) where
       go false p = no_both e (ap is_some (get_or-eq_default R None (ltb-false id (length R) p)))
 
   -- an id whose entry names something is resolvable
-  names_in : (via id : ℕ) → member id (named_by (stands_for R via)) ≡ true → resolvable R via ≡ true
+  names_in : (via id : ℕ) → among id (named_by (stands_for R via)) ≡ true → resolvable R via ≡ true
   unfolding resolvable named_by
   names_in via id = go (stands_for R via)
     where
-      go : (o : Option Decl) → member id (named_by o) ≡ true → is_some o ≡ true
-      go None e = member_none id e
+      go : (o : Option Decl) → among id (named_by o) ≡ true → is_some o ≡ true
+      go None e = among_none id e
       go (Some d) e = refl
 
   -- ---- rounds
@@ -67,17 +70,17 @@ module _ (R : Registry) where
   rounds_below (suc n) m = below_trans (round_below m) (rounds_below n (round R m))
 
   -- what a followed id names is marked
-  round_has : (m : IdSet) (via id : ℕ) → has m via ≡ true → member id (named_by (stands_for R via)) ≡ true → resolvable R id ≡ true → id < length m
+  round_has : (m : IdSet) (via id : ℕ) → has m via ≡ true → among id (named_by (stands_for R via)) ≡ true → resolvable R id ≡ true → id < length m
       → has (round R m) id ≡ true
   unfolding round follow
   round_has m via id h e r l =
       pass_has (follow R) follow_below (λ n. (has n via ≡ true) × (id < length n)) (λ n k p q. (below_has p via q.0, below_in p q.1)) via id
       (λ n q. rw q.0 (mark_all_has R n (named_by (stands_for R via)) id e r q.1)) m (up_from 0 (length R))
-      (member_up (length R) 0 via (omega arith) (omega (arith, resolvable_in via (names_in via id e)))) (h, l)
+      (among_up (length R) 0 via (omega arith) (omega (arith, resolvable_in via (names_in via id e)))) (h, l)
 
   -- what each id of the set names is in it
   abbrev pub Closed : IdSet → Type 0
-  Closed m = (via id : ℕ) → has m via ≡ true → member id (named_by (stands_for R via)) ≡ true → resolvable R id ≡ true → has m id ≡ true
+  Closed m = (via id : ℕ) → has m via ≡ true → among id (named_by (stands_for R via)) ≡ true → resolvable R id ≡ true → has m id ≡ true
 
   closed_still : (m : IdSet) → length m ≡ length R → round R m ≡ m → Closed m
   closed_still m l e via id h n r = subst (λ x. has x id ≡ true) e (round_has m via id h n r (omega (arith, resolvable_in id r)))
@@ -120,13 +123,13 @@ module _ (s : Schema) where
   Within m = (id : ℕ) → has m id ≡ true → Reached s id
 
   -- what the entry of a reached id names is reached
-  reached_on : (via id : ℕ) → Reached s via → member id (named_by (stands_for s.registry via)) ≡ true → resolvable s.registry id ≡ true
+  reached_on : (via id : ℕ) → Reached s via → among id (named_by (stands_for s.registry via)) ≡ true → resolvable s.registry id ≡ true
       → Reached s id
   unfolding named_by
   reached_on via id q = go (stands_for s.registry via) refl
     where
-      go : (o : Option Decl) → stands_for s.registry via ≡ o → member id (named_by o) ≡ true → resolvable s.registry id ≡ true → Reached s id
-      go None p e r = member_none id e
+      go : (o : Option Decl) → stands_for s.registry via ≡ o → among id (named_by o) ≡ true → resolvable s.registry id ≡ true → Reached s id
+      go None p e r = among_none id e
       go (Some d) p e r = by_reached q p e r
 
   pub within_marks : (m : IdSet) (via : ℕ) → Within m → Reached s via → Within (mark_all s.registry m (named_by (stands_for s.registry via)))
@@ -158,15 +161,15 @@ module _ (s : Schema) where
 
   -- what the survivors name is in the set
   abbrev pub First : IdSet → Type 0
-  First m = (id : ℕ) → member id (named_from (view_of s)) ≡ true → resolvable s.registry id ≡ true → has m id ≡ true
+  First m = (id : ℕ) → among id (named_from (view_of s)) ≡ true → resolvable s.registry id ≡ true → has m id ≡ true
 
   -- what a survivor names
-  pub survivor_named : (name : Name) (d : Decl) → lookup name_of before name (declarations s) ≡ Some d → (id : ℕ) → member id (named_of d) ≡ true
-      → member id (named_from (view_of s)) ≡ true
+  pub survivor_named : (name : Name) (d : Decl) → lookup name_of before name (declarations s) ≡ Some d → (id : ℕ) → among id (named_of d) ≡ true
+      → among id (named_from (view_of s)) ≡ true
   unfolding view_of
-  survivor_named name d e id =
-      all_lookup name_of before (λ b. member id (named_of b) ≡ true → member id (named_from (view_of s)) ≡ true) name (declarations s) d
-      (rw (named_from_lem (view_of s)) (member_flat_map named_of id (declarations s))) e
+  survivor_named name d e id h =
+      rw (named_from_lem (view_of s))
+      (among_flat_map named_of id (all_lookup name_of before (λ b. In b (declarations s)) name (declarations s) d (all_listed (declarations s)) e) h)
 
   -- A set is the least one: what is in it is reached, what the survivors name is in it, and what is named by what is in it.
   pub record Least (m : IdSet) : Type 0 where
@@ -178,7 +181,7 @@ module _ (s : Schema) where
   unfolding named_by
   least_has m l (by_survivor e r) = l.first _ e r
   least_has m l (by_reached {via = via} {id = id} {d = d} q p e r) =
-      l.closed via id (least_has m l q) (subst (λ o. member id (named_by o) ≡ true) (sym p) e) r
+      l.closed via id (least_has m l q) (subst (λ o. among id (named_by o) ≡ true) (sym p) e) r
 
   -- what is marked of the survivors' names, in any set with a mark for each entry
   pub first_marks : (m : IdSet) → length s.registry ≤ length m → First (mark_all s.registry m (named_from (view_of s)))

@@ -1,70 +1,34 @@
--- Laws of lists and sets of ids (specs/Reached): members of a list, sets that grow, how many ids a set has, passes that mark.
+-- Laws of sets of ids (specs/Reached): sets that grow, how many ids a set has, passes that mark.
 -- Assumes nothing.
 use mathlib.Core.Path.{◌≡◌, refl, sym, ap, ◌∙◌, subst}
-use mathlib.Core.Bool.{Bool, true, false, cond, ◌||◌, or-true}
+use mathlib.Core.Bool.{Bool, true, false, cond}
 use mathlib.Core.Logic.{◌⊎◌, inl, inr, ⊎_elim}
-use mathlib.Core.List.{List, [], ◌∷◌, ◌++◌, flat_map}
+use mathlib.Core.List.{List, [], ◌∷◌}
 use Prim.Native.Nat.{ℕ, zero, suc, ◌+◌, ◌≤◌, ◌<◌}
 use native.Mathlib.Omega.{arith}
-use borrow.Author.Tests.{eqb-true, eq-eqb, eqb-false}
+use borrow.Author.Tests.{eqb-true, eqb-false}
 use lib.Dec.{eqb}
 use lib.ListN.{length, get_or, set, replicate}
 use lib.Seq.{get_or-set_same, get_or-set_other, set-get_or}
-use Rattle.maps.specs.Lists.{pass, total, count, All}
-use Rattle.maps.proofs.Lists.{all_map}
+use Rattle.maps.specs.Lists.{pass, total, count, among}
+use Rattle.maps.proofs.Any.{among_cons, among_here, among_more, among_none}
 use Rattle.maps.proofs.Tests.{no_both}
 use Rattle.rules.specs.Survivors.{Registry}
-use Rattle.rules.specs.Verdict.{any}
-use Rattle.rules.specs.Reached.{member, resolvable, IdSet, has, mark, mark_all, up_from}
+use Rattle.rules.specs.Reached.{resolvable, IdSet, has, mark, mark_all, up_from}
 
--- ---- members of a list
+-- ---- ids that rise
 
-pub member_cons : (id a : ℕ) (ids : List ℕ) → member id (a ∷ ids) ≡ true → (id ≡ a) ⊎ (member id ids ≡ true)
-unfolding member any
-member_cons id a ids = go (eqb id a) refl
-  where
-    go : (b : Bool) → eqb id a ≡ b → (b || any (eqb id) ids) ≡ true → (id ≡ a) ⊎ (any (eqb id) ids ≡ true)
-    go true p e = inl (eqb-true id a p)
-    go false p e = inr e
-
-pub member_here : (id : ℕ) (ids : List ℕ) → member id (id ∷ ids) ≡ true
-unfolding member any
-member_here id ids = rw (eq-eqb id id refl)
-
-pub member_more : (id a : ℕ) (ids : List ℕ) → member id ids ≡ true → member id (a ∷ ids) ≡ true
-unfolding member any
-member_more id a ids e = rw e (or-true (eqb id a))
-
-pub member_none : {A : Type 0} (id : ℕ) → member id [] ≡ true → A
-unfolding member any
-member_none id e = no_both e refl
-
-pub member_left : (id : ℕ) (xs ys : List ℕ) → member id xs ≡ true → member id (xs ++ ys) ≡ true
-member_left id [] ys e = member_none id e
-member_left id (a ∷ xs) ys e =
-    ⊎_elim (λ p. rw p (member_here a (xs ++ ys))) (λ p. member_more id a (xs ++ ys) (member_left id xs ys p)) (member_cons id a xs e)
-
-pub member_right : (id : ℕ) (xs ys : List ℕ) → member id ys ≡ true → member id (xs ++ ys) ≡ true
-member_right id [] ys e = e
-member_right id (a ∷ xs) ys e = member_more id a (xs ++ ys) (member_right id xs ys e)
-
-pub member_flat_map : {A : Type 0} (f : A → List ℕ) (id : ℕ) (l : List A) → All (λ a. member id (f a) ≡ true → member id (flat_map f l) ≡ true) l
-unfolding All flat_map
-member_flat_map f id [] = tt
-member_flat_map f id (a ∷ l) =
-    (λ e. member_left id (f a) (flat_map f l) e, all_map (λ b h e. member_right id (f a) (flat_map f l) (h e)) l (member_flat_map f id l))
-
-pub member_up : (n from id : ℕ) → from ≤ id → id < from + n → member id (up_from from n) ≡ true
+pub among_up : (n from id : ℕ) → from ≤ id → id < from + n → among id (up_from from n) ≡ true
 unfolding up_from
-member_up zero from id l h = absurd (omega arith)
-member_up (suc n) from id l h = go (eqb id from) refl (member_up n (suc from) id)
+among_up zero from id l h = absurd (omega arith)
+among_up (suc n) from id l h = go (eqb id from) refl (among_up n (suc from) id)
   where
-    go : (b : Bool) → eqb id from ≡ b → (suc from ≤ id → id < suc from + n → member id (up_from (suc from) n) ≡ true)
-        → member id (from ∷ up_from (suc from) n) ≡ true
-    go true e ih = rw (eqb-true id from e) (member_here from (up_from (suc from) n))
+    go : (b : Bool) → eqb id from ≡ b → (suc from ≤ id → id < suc from + n → among id (up_from (suc from) n) ≡ true)
+        → among id (from ∷ up_from (suc from) n) ≡ true
+    go true e ih = rw (eqb-true id from e) (among_here from (up_from (suc from) n))
     go false e ih =
         let d : id ≡ from → ⊥ = eqb-false id from e in
-        member_more id from (up_from (suc from) n) (ih (omega arith) (omega arith))
+        among_more id from (up_from (suc from) n) (ih (omega arith) (omega arith))
 
 -- ---- sets that grow
 
@@ -157,16 +121,16 @@ module _ (step : IdSet → ℕ → IdSet) (adds : (m : IdSet) (a : ℕ) → Belo
   pass_below m [] = below_refl m
   pass_below m (a ∷ ids) = below_trans (adds m a) (pass_below (step m a) ids)
 
-  -- what the step of one member adds, where P holds, is there in the end
+  -- what the step of one among adds, where P holds, is there in the end
   pub pass_has : (P : IdSet → Type 0) → ((m n : IdSet) → Below m n → P m → P n) → (a id : ℕ) → ((m : IdSet) → P m → has (step m a) id ≡ true)
-      → (m : IdSet) (ids : List ℕ) → member a ids ≡ true → P m → has (pass step m ids) id ≡ true
+      → (m : IdSet) (ids : List ℕ) → among a ids ≡ true → P m → has (pass step m ids) id ≡ true
   unfolding pass
-  pass_has P keeps a id puts m [] e h = member_none a e
+  pass_has P keeps a id puts m [] e h = among_none a e
   pass_has P keeps a id puts m (b ∷ ids) e h =
       ⊎_elim
       (λ p. below_has (pass_below (step m b) ids) id (subst (λ x. has (step m x) id ≡ true) p (puts m h)))
       (λ p. pass_has P keeps a id puts (step m b) ids p (keeps m (step m b) (adds m b) h))
-      (member_cons a b ids e)
+      (among_cons a b ids e)
 
 -- ---- marks
 
@@ -197,28 +161,28 @@ module _ (R : Registry) where
   unfolding mark_all
   mark_all_below = pass_below (mark R) mark_below
 
-  pub mark_all_has : (m : IdSet) (ids : List ℕ) (id : ℕ) → member id ids ≡ true → resolvable R id ≡ true → id < length m
+  pub mark_all_has : (m : IdSet) (ids : List ℕ) (id : ℕ) → among id ids ≡ true → resolvable R id ≡ true → id < length m
       → has (mark_all R m ids) id ≡ true
   unfolding mark_all
   mark_all_has m ids id e r l = pass_has (mark R) mark_below (λ n. id < length n) (λ n k p. below_in p) id id (mark_has id r) m ids e l
 
   -- ids that are in the set
-  pub mark_all_kept : (m : IdSet) (ids : List ℕ) → ((id : ℕ) → member id ids ≡ true → resolvable R id ≡ true → has m id ≡ true) → mark_all R m ids ≡ m
+  pub mark_all_kept : (m : IdSet) (ids : List ℕ) → ((id : ℕ) → among id ids ≡ true → resolvable R id ≡ true → has m id ≡ true) → mark_all R m ids ≡ m
   unfolding mark_all pass mark has
   mark_all_kept m [] h = refl
   mark_all_kept m (a ∷ ids) h =
-      ap (λ x. pass (mark R) x ids) (go (resolvable R a) refl) ∙ mark_all_kept m ids (λ id e. h id (member_more id a ids e))
+      ap (λ x. pass (mark R) x ids) (go (resolvable R a) refl) ∙ mark_all_kept m ids (λ id e. h id (among_more id a ids e))
     where
       go : (b : Bool) → resolvable R a ≡ b → cond b (set m a true) m ≡ m
-      go true r = ap (set m a) (sym (h a (member_here a ids) r)) ∙ set-get_or m a false
+      go true r = ap (set m a) (sym (h a (among_here a ids) r)) ∙ set-get_or m a false
       go false r = refl
 
   pub mark_all_only : (m : IdSet) (ids : List ℕ) (j : ℕ) → has (mark_all R m ids) j ≡ true
-      → (has m j ≡ true) ⊎ ((member j ids ≡ true) × (resolvable R j ≡ true))
+      → (has m j ≡ true) ⊎ ((among j ids ≡ true) × (resolvable R j ≡ true))
   unfolding mark_all pass
   mark_all_only m [] j h = inl h
   mark_all_only m (a ∷ ids) j h =
       ⊎_elim
-      (λ p. ⊎_elim (λ q. inl q) (λ q. inr (rw q.0 (member_here a ids), rw q.0 q.1)) (mark_only m a j p))
-      (λ p. inr (member_more j a ids p.0, p.1))
+      (λ p. ⊎_elim (λ q. inl q) (λ q. inr (rw q.0 (among_here a ids), rw q.0 q.1)) (mark_only m a j p))
+      (λ p. inr (among_more j a ids p.0, p.1))
       (mark_all_only (mark R m a) ids j h)

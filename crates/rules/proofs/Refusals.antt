@@ -1,20 +1,21 @@
 -- When two images get a verdict and when each refusal, exactly as specs/Refusals says. Assumes nothing.
 use mathlib.Core.Path.{◌≡◌, refl, sym, ap, ◌∙◌}
-use mathlib.Core.Bool.{Bool, true, false, ◌&&◌, ◌||◌}
+use mathlib.Core.Bool.{Bool, true, false, ◌&&◌}
 use Rattle.std.specs.Prelude.{Option, None, Some}
 use Rattle.std.proofs.lemmas.Option.{none-some}
-use mathlib.Core.List.{List, [], ◌∷◌}
+use mathlib.Core.List.{List}
 use mathlib.Core.Logic.{◌↔◌}
 use Prim.Native.Nat.{ℕ, ◌≤◌, ◌<◌}
 use native.Mathlib.Omega.{arith}
 use lib.Dec.{eqb}
 use borrow.Author.Tests.{eqb-true, eqb-false, eq-eqb}
-use Rattle.maps.specs.Lists.{All}
 use Rattle.maps.specs.Keyed.{lookup}
 use Rattle.maps.specs.Orders.{before}
 use Rattle.maps.specs.Walk.{Rising}
 use Rattle.maps.proofs.Names.{by_name}
 use Rattle.maps.proofs.Survivors.{all_lookup, lookup_key, lookup_own}
+use Rattle.maps.proofs.Reorderings.{In, all_in, all_listed}
+use Rattle.maps.proofs.Any.{any_in, any_found}
 use Rattle.image.specs.Schema.{Name, Decl, Schema}
 use Rattle.image.specs.Parse.{ok, no}
 use Rattle.image.specs.Image.{read_image}
@@ -22,7 +23,7 @@ use Rattle.refusals.proofs.Refusals.{only_ten}
 use Rattle.maps.proofs.Tests.{no_both, both}
 use Rattle.rules.specs.Survivors.{name_of, View}
 use Rattle.rules.specs.Clauses.{Reading, changes}
-use Rattle.rules.specs.Verdict.{alias, is_alias, any, alias_pair}
+use Rattle.rules.specs.Verdict.{alias, is_alias, alias_pair}
 use Rattle.rules.specs.Outcome.{Outcome, selected, select}
 use Rattle.image.specs.Codes.{number, both_sides}
 use Rattle.rules.specs.Answer.{Fault, fault, Policy, compared, first_fault, outcome, verdict_by, report_by, usual}
@@ -31,26 +32,6 @@ use Rattle.rules.proofs.Outcomes.{not_answered, nothing_told, nothing_written, f
 use Rattle.rules.proofs.Answer.{decided, decides, exactly, usual_fault, alias_fault_lem, usual_numbered}
 
 -- ---- the test of a pair of aliases
-
--- one that passes a test, with what all have
-any_true : {A : Type 0} (p : A → Bool) (P : A → Type 0) (l : List A) → All P l → any p l ≡ true → (a : A) × P a × (p a ≡ true)
-unfolding any All
-any_true p P [] h e = no_both refl (sym e)
-any_true {A = A} p P (a ∷ l) h e = go (p a) refl e (any_true p P l h.1)
-  where
-    go : (u : Bool) → p a ≡ u → (u || any p l) ≡ true → (any p l ≡ true → (a : A) × P a × (p a ≡ true)) → (a : A) × P a × (p a ≡ true)
-    go true q e ih = (a, h.0, q)
-    go false q e ih = ih e
-
-any_false : {A : Type 0} (p : A → Bool) (l : List A) → any p l ≡ false → All (λ a. p a ≡ false) l
-unfolding any All
-any_false p [] e = tt
-any_false p (a ∷ l) e = go (p a) refl e (any_false p l)
-  where
-    go : (u : Bool) → p a ≡ u → (u || any p l) ≡ false → (any p l ≡ false → All (λ a. p a ≡ false) l)
-        → (p a ≡ false) × All (λ a. p a ≡ false) l
-    go true q e ih = no_both refl e
-    go false q e ih = (q, ih e)
 
 -- what is found is an alias
 found_alias : (n : Name) (l : List Decl) → is_alias (lookup name_of before n l) ≡ true
@@ -68,18 +49,19 @@ module _ (view : Schema → View) (rise : (s : Schema) → Rising name_of before
   unfolding alias_pair alias
   pair_found e =
       let own = lookup_own name_of by_name (view x).standing (rise x) in
-      let t = any_true (λ d. alias d && is_alias (lookup name_of before d.name (view y).standing)) _ (view x).standing own e in
+      let t = any_found (λ d. alias d && is_alias (lookup name_of before d.name (view y).standing)) (view x).standing e in
       let b = both (alias t.0) (is_alias (lookup name_of before t.0.name (view y).standing)) t.2 in
       let f = found_alias t.0.name (view y).standing b.1 in
       record {
         name = t.0.name;
-        in_old = record { decl = t.0; stands = t.1; generic = eqb-true t.0.kind 6 b.0 };
+        in_old = record { decl = t.0; stands = all_in _ own t.1; generic = eqb-true t.0.kind 6 b.0 };
         in_new = record { decl = f.0; stands = f.1; generic = f.2 };
       }
 
   pub pair_given : AliasPair view x y → alias_pair (view x) (view y) ≡ true
   unfolding alias_pair alias is_alias
-  pair_given a = go (alias_pair (view x) (view y)) refl
+  pair_given a =
+      any_in test (all_lookup name_of before (λ d. In d (view x).standing) a.name (view x).standing old.decl (all_listed (view x).standing) old.stands) passes
     where
       old : Alias view a.name x
       old = a.in_old
@@ -96,12 +78,6 @@ module _ (view : Schema → View) (rise : (s : Schema) → Rising name_of before
             a.in_new.stands,
           )
           (eq-eqb a.in_new.decl.kind 6 a.in_new.generic)
-
-      go : (u : Bool) → alias_pair (view x) (view y) ≡ u → u ≡ true
-      go true e = refl
-      go false e =
-          no_both passes (all_lookup name_of before (λ d. test d ≡ false) a.name (view x).standing old.decl
-          (any_false test (view x).standing e) old.stands)
 
 -- ---- of any verdict
 
@@ -149,17 +125,14 @@ module _ (p : Policy) (numbered : Numbered p) (old new : List ℕ) where
 
 -- ---- of a verdict that refuses no image alone, and two accepted images by numbers that are beyond those of one image
 
--- both images are accepted, whatever holds of what they hold
+-- both images are accepted, by what they hold, and whatever holds of that
+pub read_pair : {old new : List ℕ} {P : Schema → Schema → Type 0} {x y : Schema} {m n : ℕ} → read_image old ≡ ok x m → read_image new ≡ ok y n → P x y
+    → AcceptedPair old new P
+read_pair {x = x} {y = y} {m = m} {n = n} p q h =
+    record { old_schema = x; new_schema = y; old_end = m; new_end = n; old_read = p; new_read = q; holds = h }
+
 accepted_so : {old new : List ℕ} {P Q : Schema → Schema → Type 0} → ((x y : Schema) → P x y → Q x y) → AcceptedPair old new P → AcceptedPair old new Q
-accepted_so f a = record {
-  old_schema = a.old_schema;
-  new_schema = a.new_schema;
-  old_end = a.old_end;
-  new_end = a.new_end;
-  old_read = a.old_read;
-  new_read = a.new_read;
-  holds = f a.old_schema a.new_schema a.holds;
-}
+accepted_so f a = read_pair a.old_read a.new_read (f a.old_schema a.new_schema a.holds)
 
 pub accepted_exactly : {A : Type 0} {old new : List ℕ} {P Q : Schema → Schema → Type 0} → (A ↔ AcceptedPair old new P)
     → ((x y : Schema) → P x y ↔ Q x y) → A ↔ AcceptedPair old new Q
@@ -192,8 +165,7 @@ module _ (p : Policy) (paired : Paired p) (old new : List ℕ) where
   passes image x end e = record { end = end; read = e; alone = paired.alone x }
 
   both_read : {P : Schema → Schema → Type 0} {x y : Schema} → Passes p old x → Passes p new y → P x y → AcceptedPair old new P
-  both_read {x = x} {y = y} a b h =
-      record { old_schema = x; new_schema = y; old_end = a.end; new_end = b.end; old_read = a.read; new_read = b.read; holds = h }
+  both_read a b h = read_pair a.read b.read h
 
   module _ {P : Schema → Schema → Type 0} (a : AcceptedPair old new P) where
     old_passes : Passes p old a.old_schema

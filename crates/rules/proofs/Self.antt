@@ -7,7 +7,7 @@ use mathlib.Core.List.{List, [], ◌∷◌, ◌++◌}
 use Prim.Native.Nat.{ℕ, max}
 use native.Mathlib.Omega.{arith}
 use lib.Dec.{ltb}
-use Rattle.maps.specs.Lists.{largest}
+use Rattle.maps.specs.Lists.{largest, any}
 use Rattle.maps.specs.Compare.{Rules, compare}
 use Rattle.maps.specs.Orders.{Strict, before}
 use Rattle.maps.specs.Walk.{Rising}
@@ -16,17 +16,16 @@ use Rattle.maps.proofs.Orders.{by_number}
 use Rattle.maps.proofs.Names.{by_name}
 use Rattle.maps.proofs.Survivors.{rising}
 use Rattle.maps.proofs.Levels.{self_largest, self_none}
+use Rattle.maps.proofs.Any.{any_same, any_never, any_or, any_flat_map, largest_any}
 use Rattle.image.specs.Schema.{Name, Marks, Ty, Field, Variant, Decl}
 use Rattle.image.specs.Kinds.{Kind, kind_of, message, enum, flags, union, newtype, config, alias, trait, impl, other}
 use Rattle.rules.specs.Equal.{Sound, never}
-use Rattle.rules.specs.Survivors.{Registry, name_of, ordinal_of, field_map, variant_ordinal, variant_map, View}
+use Rattle.rules.specs.Survivors.{Registry, name_of, ordinal_of, field_map, variant_ordinal, variant_map, union_variants, View}
 use Rattle.rules.specs.Types.{resolve}
 use Rattle.rules.specs.Changes.{level, Change, only}
 use Rattle.rules.specs.Clauses.{compare_namespaces, Reading, Context, context, compare_types, field_text, compare_field_names, compare_encodings, compare_deprecated, compare_fields, field_rules, compare_field_sets, compare_messages, enum_rules, compare_non_exhaustive, compare_enums, flags_rules, compare_flags, union_rules, compare_unions, compare_newtypes, compare_kind, compare_alike, compare_decls, decl_rules, changes, field_types, variant_types, types_of, compared_types}
-use Rattle.rules.specs.Verdict.{any}
 use Rattle.rules.proofs.Equal.{pairs, numbers, marks, options, names, name_lists}
 use Rattle.rules.proofs.Types.{encodings}
-use Rattle.rules.proofs.Any.{any_same, any_never, any_or, any_flat_map, largest_any}
 use Rattle.rules.proofs.Readings.{level_of, Odd, odd_types, Lawful}
 
 -- 2 where a test passes, and the largest of two such
@@ -115,16 +114,7 @@ flags_self d x = variants_self (flags_rules d) (λ v w. refl) x.variants
 module _ (odd : Odd) where
   -- in variants that are compared
   unfoldable pub odd_variants : Kind → Decl → Bool
-  odd_variants message d = false
-  odd_variants enum d = false
-  odd_variants flags d = false
-  odd_variants union d = any odd.last_in (variant_map d.variants)
-  odd_variants newtype d = false
-  odd_variants config d = false
-  odd_variants alias d = false
-  odd_variants trait d = false
-  odd_variants impl d = false
-  odd_variants other d = false
+  odd_variants k d = any odd.last_in (union_variants k d)
 
   -- in a declaration besides its types
   unfoldable pub odd_decl : Decl → Bool
@@ -138,20 +128,8 @@ pub odd_view_types : (odd : Ty → Bool) (v : View) → odd_view (odd_types odd)
 unfolding odd_view odd_decl odd_variants
 odd_view_types odd v =
     ap (λ b. any (λ t. odd (resolve v.registry t)) (compared_types v) || b)
-    (any_same _ never (λ d. go (kind_of d.kind) d) v.standing ∙ any_never v.standing)
+    (any_same _ never (λ d. any_never (union_variants (kind_of d.kind) d)) v.standing ∙ any_never v.standing)
     ∙ or-false _
-  where
-    go : (k : Kind) (d : Decl) → odd_variants (odd_types odd) k d ≡ false
-    go message d = refl
-    go enum d = refl
-    go flags d = refl
-    go union d = any_never (variant_map d.variants)
-    go newtype d = refl
-    go config d = refl
-    go alias d = refl
-    go trait d = refl
-    go impl d = refl
-    go other d = refl
 
 -- ---- the clauses, over any lawful reading
 
@@ -207,7 +185,7 @@ module _ {r : Reading} {odd : Odd} (lawful : Lawful r odd) (R : Registry) where
         ∙ ap (λ b. b || any odd.last_in (variant_map x.variants)) (sym (any_flat_map odd_type (λ v. field_types v.fields) (variant_map x.variants))))
 
     kinds_self : (k : Kind) → largest level_of (compare_kind k own x x) ≡ score (any odd_type (types_of k x) || odd_variants odd k x)
-    unfolding compare_kind types_of compare_newtypes odd_variants any largest
+    unfolding compare_kind types_of compare_newtypes odd_variants union_variants any largest
     kinds_self message = messages_self ∙ ap score (sym (or-false _))
     kinds_self enum = enums_self x.name x
     kinds_self flags = flags_self x.name x

@@ -11,7 +11,7 @@ use Prim.Native.Nat.{ℕ, zero, suc, ◌+◌, ◌<◌}
 use native.Mathlib.Omega.{arith}
 use borrow.Author.Tests.{eq-eqb, ne_eqb, lt-ltb, ltb-true}
 use lib.Dec.{eqb, ltb}
-use Rattle.maps.specs.Lists.{All}
+use Rattle.maps.specs.Lists.{All, any, among}
 use Rattle.maps.specs.Keyed.{lookup}
 use Rattle.maps.specs.Orders.{same, before}
 use Rattle.maps.specs.Walk.{Rising, seen, latest}
@@ -19,12 +19,12 @@ use Rattle.maps.proofs.Names.{by_name}
 use Rattle.maps.proofs.Orders.{same_eq, same_ne}
 use Rattle.maps.proofs.Searches.{latest_append, lookup_latest}
 use Rattle.maps.proofs.Survivors.{rising}
+use Rattle.maps.proofs.Reorderings.{all_in}
+use Rattle.maps.proofs.Any.{among_found, among_cons, among_here, among_more, among_none}
 use Rattle.image.specs.Schema.{Name, Decl, Schema}
 use Rattle.rules.specs.Survivors.{Registry, stands_for, resolved, listed, name_of, declarations, view_of}
-use Rattle.rules.specs.Verdict.{any}
-use Rattle.rules.specs.Reached.{member, IdSet, has}
+use Rattle.rules.specs.Reached.{IdSet, has}
 use Rattle.rules.specs.Imports.{marked_ids, standing_with, view_with}
-use Rattle.rules.proofs.ReachedSets.{member_cons, member_here, member_more, member_none}
 
 -- ---- with no id
 
@@ -93,22 +93,16 @@ ids_rise from [] = tt
 ids_rise from (true ∷ m) = (ids_after from (suc from) m (omega arith), ids_rise (suc from) m)
 ids_rise from (false ∷ m) = ids_rise (suc from) m
 
--- what all of some ids have, each of them has
-all_member : (P : ℕ → Type 0) (ids : List ℕ) → All P ids → (id : ℕ) → member id ids ≡ true → P id
-unfolding All
-all_member P [] h id e = member_none id e
-all_member P (a ∷ ids) h id e = ⊎_elim (λ q. subst P (sym q) h.0) (λ q. all_member P ids h.1 id q) (member_cons id a ids e)
-
 -- an id before all of some ids is none of them
-not_before : (id : ℕ) (ids : List ℕ) → All (λ j. ltb id j ≡ true) ids → member id ids ≡ false
-not_before id ids h = go (member id ids) refl
+not_before : (id : ℕ) (ids : List ℕ) → All (λ j. ltb id j ≡ true) ids → among id ids ≡ false
+not_before id ids h = go (among id ids) refl
   where
-    go : (b : Bool) → member id ids ≡ b → b ≡ false
-    go true e = absurd (omega (arith, ltb-true id id (all_member (λ j. ltb id j ≡ true) ids h id e)))
+    go : (b : Bool) → among id ids ≡ b → b ≡ false
+    go true e = absurd (omega (arith, ltb-true id id (all_in (λ j. ltb id j ≡ true) h (among_found id ids e))))
     go false e = refl
 
-ids_from_lem : (k from : ℕ) (m : IdSet) → member (from + k) (marked_ids from m) ≡ has m k
-unfolding marked_ids has member any
+ids_from_lem : (k from : ℕ) (m : IdSet) → among (from + k) (marked_ids from m) ≡ has m k
+unfolding marked_ids has among any
 ids_from_lem k from [] = refl
 ids_from_lem zero from (true ∷ m) = rw (eq-eqb (from + 0) from (omega arith))
 ids_from_lem zero from (false ∷ m) = not_before (from + 0) (marked_ids (suc from) m) (ids_after (from + 0) (suc from) m (omega arith))
@@ -118,25 +112,25 @@ ids_from_lem (suc k) from (true ∷ m) =
     simp d (subst (λ j. any (eqb j) (marked_ids (suc from) m) ≡ has m k) (sym n) (ids_from_lem k (suc from) m))
 ids_from_lem (suc k) from (false ∷ m) = let n : from + suc k ≡ suc from + k = omega arith in rw n (ids_from_lem k (suc from) m)
 
-pub ids_has : (id : ℕ) (m : IdSet) → member id (marked_ids 0 m) ≡ has m id
-ids_has id m = subst (λ j. member j (marked_ids 0 m) ≡ has m id) (omega arith) (ids_from_lem id 0 m)
+pub ids_has : (id : ℕ) (m : IdSet) → among id (marked_ids 0 m) ≡ has m id
+ids_has id m = subst (λ j. among j (marked_ids 0 m) ≡ has m id) (omega arith) (ids_from_lem id 0 m)
 
 -- ---- of some rising ids, the entry of a name with the highest
 
 module _ (R : Registry) (name : Name) where
   -- of the ids that have P none has an entry of the name
   abbrev Clear : List ℕ → (ℕ → Type 0) → Type 0
-  Clear ids P = (j : ℕ) (e : Decl) → P j → member j ids ≡ true → stands_for R j ≡ Some e → e.name ≡ name → ⊥
+  Clear ids P = (j : ℕ) (e : Decl) → P j → among j ids ≡ true → stands_for R j ≡ Some e → e.name ≡ name → ⊥
 
   pub data Highest (ids : List ℕ) : Option Decl → Type 0 where
-    highest : {id : ℕ} {d : Decl} → member id ids ≡ true → stands_for R id ≡ Some d → d.name ≡ name → Clear ids (λ j. id < j) → Highest ids (Some d)
+    highest : {id : ℕ} {d : Decl} → among id ids ≡ true → stands_for R id ≡ Some d → d.name ≡ name → Clear ids (λ j. id < j) → Highest ids (Some d)
     nowhere : Clear ids (λ j. Unit {0}) → Highest ids None
 
   -- one id more in front
   clear_more : (P : ℕ → Type 0) (id : ℕ) (ids : List ℕ) → Clear ids P → ((e : Decl) → P id → stands_for R id ≡ Some e → e.name ≡ name → ⊥)
       → Clear (id ∷ ids) P
   clear_more P id ids c h j e p i g n =
-      ⊎_elim (λ q. h e (subst P q p) (subst (λ x. stands_for R x ≡ Some e) q g) n) (λ q. c j e p q g n) (member_cons j id ids i)
+      ⊎_elim (λ q. h e (subst P q p) (subst (λ x. stands_for R x ≡ Some e) q g) n) (λ q. c j e p q g n) (among_cons j id ids i)
 
   abbrev found : List Decl → Option Decl
   found ds = latest name_of before name ds
@@ -156,19 +150,19 @@ module _ (R : Registry) (name : Name) where
     where
       go : (b : Bool) → same before name f.name ≡ b → Highest (id ∷ ids) (cond b (Some f) None)
       go true q =
-          highest (member_here id ids) v (sym (same_eq by_name name f.name q))
+          highest (among_here id ids) v (sym (same_eq by_name name f.name q))
           (clear_more _ id ids (λ j g p. c j g tt) (λ g p. absurd (omega arith)))
       go false q =
           nowhere (clear_more _ id ids c (λ g p w n. same_ne by_name name f.name q (sym (ap name_of (same_Some f g (sym v ∙ w)) ∙ n))))
 
   pub highest_found : (ids : List ℕ) → Rises ids → Highest ids (found (listed R ids))
   unfolding listed latest Rising
-  highest_found [] h = nowhere (λ j e p i. member_none j i)
+  highest_found [] h = nowhere (λ j e p i. among_none j i)
   highest_found (id ∷ ids) h = go (found (listed R ids)) refl (highest_found ids h.1)
     where
       go : (r : Option Decl) → found (listed R ids) ≡ r → Highest ids r → Highest (id ∷ ids) (found (resolved (stands_for R id) (listed R ids)))
       go (Some d) e (highest {id = top} i g n c) =
           rw (found_still d (listed R ids) e (stands_for R id))
-          (highest (member_more top id ids i) g n (clear_more _ id ids c
-          (λ f p. absurd (omega (arith, ltb-true id top (all_member (λ j. ltb id j ≡ true) ids h.0 top i))))))
+          (highest (among_more top id ids i) g n (clear_more _ id ids c
+          (λ f p. absurd (omega (arith, ltb-true id top (all_in (λ j. ltb id j ≡ true) h.0 (among_found top ids i)))))))
       go None e (nowhere c) = found_first id ids (listed R ids) e c (stands_for R id) refl

@@ -4,44 +4,31 @@
 use mathlib.Core.Path.{◌≡◌, refl, sym, ap, ◌∙◌}
 use mathlib.Core.Bool.{Bool, true, false, cond, not, ◌&&◌, ◌||◌, or-false, or-true}
 use mathlib.Core.Logic.{◌⊎◌, inl, inr}
-use mathlib.Core.List.{List, [], ◌∷◌, map, flat_map}
+use mathlib.Core.List.{List, [], ◌∷◌, flat_map}
 use Prim.Native.Nat.{ℕ}
 use native.Mathlib.Omega.{arith}
-use lib.Dec.{eqb, ltb}
+use lib.Dec.{eqb}
 use borrow.Author.Tests.{eqb-true}
 use Rattle.std.proofs.lemmas.Bool.{false_from_ne_true}
-use Rattle.maps.specs.Lists.{largest, total, count, All}
-use Rattle.maps.specs.Keyed.{survivors}
+use Rattle.maps.specs.Lists.{largest, total, count, All, any, among}
 use Rattle.maps.proofs.Lists.{all, all_map, largest_same, largest_flat_map, total_same, total_flat_map, count_append}
 use Rattle.maps.proofs.Orders.{by_number}
 use Rattle.maps.proofs.Survivors.{rising}
 use Rattle.maps.proofs.Levels.{Chained, chained_small}
 use Rattle.maps.proofs.Reorderings.{In, all_listed}
+use Rattle.maps.proofs.Any.{any_each, any_same, any_or, any_in, any_found, any_survivors, largest_any, among_in, among_survivors}
 use Rattle.maps.proofs.Tests.{no_both}
 use Rattle.image.specs.Schema.{Name}
 use Rattle.rules.specs.Survivors.{ordinal_of, field_map, variant_ordinal, variant_map}
 use Rattle.rules.specs.Changes.{major, level, Change, only, kind_at, TombstoneReused, TombstoneDropped}
-use Rattle.rules.specs.Verdict.{bump_of, count_of, any}
-use Rattle.rules.specs.Tombstones.{among, rising_numbers, used_by_fields, used_by_variants, used, reused, dropped, compare_struck, compare_last, compare_last_in, uses, Breaks, NotHidden, Struck, StruckOff}
+use Rattle.rules.specs.Verdict.{bump_of, count_of}
+use Rattle.rules.specs.Tombstones.{rising_numbers, used_by_fields, used_by_variants, used, reused, dropped, compare_struck, compare_last, compare_last_in, uses, Breaks, NotHidden, Struck, StruckOff}
 use Rattle.rules.proofs.Equal.{numbers}
-use Rattle.rules.proofs.Any.{any_each, any_same, any_or, any_map, any_in, any_found, any_survivors, largest_any}
 use Rattle.rules.proofs.Mirror.{exchange, mirror, mirror_test, one_way, apart}
 use Rattle.rules.proofs.Readings.{level_of, Besides, OneKind, AnyTwo}
 use Rattle.rules.proofs.Chain.{first_major, second_major}
 use Rattle.rules.proofs.Self.{score, then_score}
 use Rattle.rules.proofs.Unreported.{all_append, all_flat_map, only_all, Of, Other, none_counted}
-
--- ---- numbers that are listed
-
-among_in : {n : ℕ} {l : List ℕ} → In n l → among n l ≡ true
-unfolding among
-among_in {n = n} i = any_in (eqb n) i (numbers.self n)
-
--- what survives has the same numbers
-among_survivors : {E : Type 0} (key : E → ℕ) (n : ℕ) (l : List E) → among n (map key (survivors key ltb l)) ≡ among n (map key l)
-unfolding among
-among_survivors key n l =
-    any_map (eqb n) key (survivors key ltb l) ∙ any_survivors key by_number (eqb n) l ∙ sym (any_map (eqb n) key l)
 
 rising_any : (p : ℕ → Bool) (l : List ℕ) → any p (rising_numbers l) ≡ any p l
 unfolding rising_numbers
@@ -123,6 +110,11 @@ module _ (d : Name) (s u t : List ℕ) where
   breaks : any (told u t) s ≡ true → Breaks (compare_struck d s u t)
   unfolding bump_of level
   breaks e = struck_level d s u t ∙ ap score e
+
+  -- a number that is struck off and used
+  pub reuse_breaks : (n : ℕ) → among n s ≡ true → among n u ≡ true → Breaks (compare_struck d s u t)
+  unfolding told
+  reuse_breaks n a b = breaks (told_any s u t n a (rw b))
 
   abbrev Still : Type 0
   Still = (n : ℕ) → among n s ≡ true → (among n u ≡ false) × (among n t ≡ true)

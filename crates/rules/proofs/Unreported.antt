@@ -1,29 +1,29 @@
 -- "The three `..OrdinalChanged` counts are 0.", and so are those of R-6 and R-10 "in the earlier verdicts": the clauses report no such change,
 -- whatever they compare, and so does no verdict that reports none besides. Assumes nothing.
-use mathlib.Core.Path.{◌≡◌, refl, ◌∙◌}
-use mathlib.Core.Bool.{Bool, true, false, cond, ◌&&◌, ◌||◌}
+use mathlib.Core.Path.{◌≡◌, refl, ◌∙◌, subst}
+use mathlib.Core.Bool.{Bool, true, false, cond, not, ◌&&◌, ◌||◌}
 use Rattle.std.specs.Prelude.{Option, None, Some}
 use mathlib.Core.List.{List, [], ◌∷◌, ◌++◌, flat_map}
 use Prim.Native.Nat.{ℕ, ◌+◌, ◌<◌}
 use native.Mathlib.Omega.{arith}
-use borrow.Author.Tests.{eqb-true, ltb-true}
+use borrow.Author.Tests.{eqb-true, ltb-true, not-true}
 use lib.Dec.{eqb, ltb}
+use Rattle.std.proofs.lemmas.Bool.{false_from_ne_true}
 use Rattle.maps.proofs.Lists.{all_map}
 use Rattle.maps.proofs.Tests.{no_both, both}
-use Rattle.maps.specs.Lists.{total, count, All}
+use Rattle.maps.specs.Lists.{total, count, All, among, any}
 use Rattle.maps.specs.Orders.{before}
 use Rattle.maps.specs.Keyed.{lookup}
 use Rattle.maps.specs.Compare.{Rules, unmatched, matched, between, compare}
 use Rattle.image.specs.Schema.{Name, Marks, Ty, Field, Variant, Decl, Schema}
 use Rattle.image.specs.Kinds.{Kind, kind_of, message, enum, flags, union, newtype, config, alias, trait, impl, other}
 use Rattle.rules.specs.Survivors.{name_of, ordinal_of, field_map, variant_ordinal, variant_map, View}
-use Rattle.rules.specs.Changes.{Bump, Change, only, kind_count, kind_at, ordinal_kinds, FieldOrdinalChanged, VariantOrdinalChanged, FlagsBitOrdinalChanged, WidthChanged, TombstoneReused, TombstoneDropped}
+use Rattle.rules.specs.Changes.{Bump, Change, only, kind_count, kind_at, ordinal_kinds, FieldAdded, FieldRemoved, FieldTypeChanged, FieldOrdinalChanged, FieldRenamed, FieldDeprecated, FieldEncodingChanged, VariantAdded, VariantRemoved, VariantOrdinalChanged, DeclarationAdded, DeclarationRemoved, DeclarationKindChanged, NamespaceChanged, NonExhaustiveChanged, FlagsBitAdded, FlagsBitRemoved, FlagsBitOrdinalChanged}
 use Rattle.rules.specs.Clauses.{compare_namespaces, Reading, clauses_by, Context, context, compare_types, compare_field_names, compare_encodings, compare_deprecated, compare_fields, field_rules, compare_field_sets, compare_messages, variant_gone, variant_came, enum_rules, compare_non_exhaustive, compare_enums, flags_rules, compare_flags, union_rules, compare_unions, compare_newtypes, compare_kind, kind_changed, compare_alike, compare_decls, decl_rules, changes}
 use Rattle.rules.specs.Verdict.{count_of}
 use Rattle.rules.specs.Outcome.{Outcome, select}
 use Rattle.rules.specs.Answer.{Policy, verdict_by, usual}
 use Rattle.rules.specs.Refusals.{Decided, old_refused, old_alone, new_refused, new_alone, pair_refused, verdict}
-use Rattle.rules.specs.Tombstones.{among}
 use Rattle.rules.specs.Mended.{mended_kinds}
 use Rattle.rules.specs.Distance.{count_between}
 use Rattle.rules.proofs.Outcomes.{refusal_is}
@@ -75,11 +75,20 @@ only_all P false c h = tt
 
 -- ---- the clauses
 
--- the kinds that no clause reports: the three, and those of R-6 and R-10
-unfoldable pub outside : ℕ → Bool
-outside kind =
-    eqb kind (kind_at FieldOrdinalChanged) || (eqb kind (kind_at VariantOrdinalChanged) || (eqb kind (kind_at FlagsBitOrdinalChanged)
-    || (eqb kind (kind_at WidthChanged) || (eqb kind (kind_at TombstoneReused) || eqb kind (kind_at TombstoneDropped)))))
+-- the kinds that the clauses report of two declarations under one name, and all that they report; the others are the three, and those of R-6
+-- and R-10
+abbrev pub inner_kinds : List ℕ
+inner_kinds =
+    (kind_at FieldAdded) ∷ kind_at FieldRemoved ∷ kind_at FieldTypeChanged ∷ kind_at FieldRenamed ∷ kind_at FieldDeprecated ∷ kind_at FieldEncodingChanged
+    ∷ kind_at VariantAdded ∷ kind_at VariantRemoved ∷ kind_at DeclarationKindChanged ∷ kind_at NonExhaustiveChanged ∷ kind_at FlagsBitAdded
+    ∷ kind_at FlagsBitRemoved ∷ []
+
+abbrev pub clause_kinds : List ℕ
+clause_kinds = kind_at NamespaceChanged ∷ kind_at DeclarationRemoved ∷ kind_at DeclarationAdded ∷ inner_kinds
+
+-- a kind that is in a list is another than one that is not
+pub another : (kinds : List ℕ) (j k : ℕ) → among j kinds ≡ false → among k kinds ≡ true → eqb k j ≡ false
+another kinds j k n i = false_from_ne_true (eqb k j) (λ p. no_both (subst (λ m. among m kinds ≡ true) (eqb-true k j p) i) n)
 
 -- a change of another kind than j
 abbrev pub Other : ℕ → Change → Type 0
@@ -128,39 +137,41 @@ adds_ordinary {kinds = kinds} a j e = record {
         go true p = no_both (rw (eqb-true c.kind j p) at o) e
         go false p = refl
 
-module _ (j : ℕ) (out : outside j ≡ true) where
-  -- a kind that is not among them is another
-  apart : (k : ℕ) → outside k ≡ false → eqb k j ≡ false
-  apart k e = go (eqb k j) refl
-    where
-      go : (b : Bool) → eqb k j ≡ b → b ≡ false
-      go true p = no_both out (rw (eqb-true k j p) at e)
-      go false p = refl
+inner_other : (j : ℕ) → among j clause_kinds ≡ false → among j inner_kinds ≡ false
+unfolding among any
+inner_other j = go (eqb j (kind_at NamespaceChanged)) (eqb j (kind_at DeclarationRemoved)) (eqb j (kind_at DeclarationAdded)) (among j inner_kinds)
+  where
+    go : (a b c d : Bool) → (a || (b || (c || d))) ≡ false → d ≡ false
+    go false false false d e = e
+    go true b c d e = no_both refl e
+    go false true c d e = no_both refl e
+    go false false true d e = no_both refl e
 
-  test_other : (test : Bool) (c : Change) → outside c.kind ≡ false → All (Other j) (only test c)
-  test_other test c e = only_all (Other j) test c (apart c.kind e)
+module _ (j : ℕ) (out : among j inner_kinds ≡ false) where
+  test_other : (test : Bool) (c : Change) → among c.kind inner_kinds ≡ true → All (Other j) (only test c)
+  test_other test c e = only_all (Other j) test c (another inner_kinds j c.kind out e)
 
-  one_other : (c : Change) → outside c.kind ≡ false → All (Other j) (c ∷ [])
+  one_other : (c : Change) → among c.kind inner_kinds ≡ true → All (Other j) (c ∷ [])
   unfolding All
-  one_other c e = (apart c.kind e, tt)
+  one_other c e = (another inner_kinds j c.kind out e, tt)
 
   deprecated_other : (d : Name) (field : Option Name) (target : List ℕ) (m n : Marks) → All (Other j) (compare_deprecated d field target m n)
-  unfolding compare_deprecated outside
+  unfolding compare_deprecated among any
   deprecated_other d field target m n = test_other _ _ refl
 
   types_other : (r : Context) (d : Name) (field : Option Name) (what : List ℕ) (t u : Ty) → All (Other j) (compare_types r d field what t u)
-  unfolding compare_types outside
+  unfolding compare_types among any
   types_other r d field what t u = test_other _ _ refl
 
   fields_other : (r : Context) (d : Name) (f g : Field) → All (Other j) (compare_fields r d f g)
-  unfolding compare_fields compare_field_names compare_encodings outside
+  unfolding compare_fields compare_field_names compare_encodings among any
   fields_other r d f g =
       all_append (Other j) _ _ (test_other _ _ refl)
       (all_append (Other j) _ _ (types_other r d _ _ f.type g.type)
       (all_append (Other j) _ _ (test_other _ _ refl) (deprecated_other d _ _ f.marks g.marks)))
 
   sets_other : (r : Context) (d : Name) (m n : List Field) → All (Other j) (compare_field_sets r d m n)
-  unfolding compare_field_sets field_rules outside
+  unfolding compare_field_sets field_rules among any
   sets_other r d m n =
       all_compare (Other j) ordinal_of ltb (field_rules r d) (λ f. one_other _ refl) (λ f. one_other _ refl) (fields_other r d) (field_map m)
       (field_map n)
@@ -171,16 +182,16 @@ module _ (j : ℕ) (out : outside j ≡ true) where
   variants_other r gone came kept m n = all_compare (Other j) variant_ordinal ltb r gone came kept (variant_map m) (variant_map n)
 
   gone_other : (d : Name) (v : Variant) → All (Other j) (variant_gone d v)
-  unfolding variant_gone outside
+  unfolding variant_gone among any
   gone_other d v = one_other _ refl
 
   came_other : (b : Bump) (d : Name) (v : Variant) → All (Other j) (variant_came b d v)
-  unfolding variant_came outside
+  unfolding variant_came among any
   came_other b d v = one_other _ refl
 
   module _ (r : Context) (o : Ordinary j r.reading) where
     kinds_other : (k : Kind) (x y : Decl) → All (Other j) (compare_kind k r x y)
-    unfolding compare_kind compare_messages compare_enums enum_rules compare_non_exhaustive compare_flags flags_rules compare_unions union_rules compare_newtypes outside
+    unfolding compare_kind compare_messages compare_enums enum_rules compare_non_exhaustive compare_flags flags_rules compare_unions union_rules compare_newtypes among any
     kinds_other message x y =
         all_append (Other j) _ _ (sets_other r x.name x.fields y.fields) (deprecated_other x.name _ _ x.marks y.marks)
     kinds_other enum x y =
@@ -200,21 +211,23 @@ module _ (j : ℕ) (out : outside j ≡ true) where
     kinds_other impl x y = nothing_other j
     kinds_other other x y = nothing_other j
 
-    decls_other : (x y : Decl) → All (Other j) (compare_decls r x y)
-    unfolding compare_decls compare_alike kind_changed outside
+    pub decls_other : (x y : Decl) → All (Other j) (compare_decls r x y)
+    unfolding compare_decls compare_alike kind_changed among any
     decls_other x y = go (eqb x.kind y.kind)
       where
         go : (u : Bool) → All (Other j) (cond u (compare_alike r x y) (kind_changed x y))
         go true = all_append (Other j) _ _ (o.first x y) (all_append (Other j) _ _ (kinds_other (kind_of x.kind) x y) (o.last x y))
         go false = one_other _ refl
 
-  changes_other : (r : Reading) → Ordinary j r → (x y : View) → All (Other j) (changes r x y)
-  unfolding changes compare_namespaces decl_rules outside
+-- of a kind that they do not report at all
+module _ (j : ℕ) (out : among j clause_kinds ≡ false) where
+  pub changes_other : (r : Reading) → Ordinary j r → (x y : View) → All (Other j) (changes r x y)
+  unfolding changes compare_namespaces decl_rules among any All
   changes_other r o x y =
-      all_append (Other j) _ _ (test_other _ _ refl)
+      all_append (Other j) _ _ (only_all (Other j) _ _ (another clause_kinds j _ out refl))
       (all_compare (Other j) name_of before (decl_rules (context r x.registry y.registry))
-      (λ d. one_other _ refl) (λ d. one_other _ refl) (decls_other (context r x.registry y.registry) o) x.standing
-      y.standing)
+      (λ d. (another clause_kinds j _ out refl, tt)) (λ d. (another clause_kinds j _ out refl, tt))
+      (decls_other j (inner_other j out) (context r x.registry y.registry) o) x.standing y.standing)
 
   -- ---- the counts, of any verdict
 
@@ -234,7 +247,7 @@ module _ (j : ℕ) (out : outside j ≡ true) where
 -- the three, of any verdict that reports none of them besides
 pub no_ordinal_changed : (p : Policy) → All (λ j. Ordinary j p.reading) ordinal_kinds → (old new : List ℕ)
     → All (λ kind. count_between (verdict_by p) kind old new ≡ 0) ordinal_kinds
-unfolding All outside
+unfolding All among any
 no_ordinal_changed p o old new = (
   none_selected (kind_at FieldOrdinalChanged) refl (omega arith) p o.0 old new,
   (
@@ -246,10 +259,10 @@ no_ordinal_changed p o old new = (
 -- "always 0 in the earlier verdicts", which report the clauses alone, over any view and however types are read
 pub no_mended_changed : (view : Schema → View) (same : Ty → Ty → Bool) (old new : List ℕ)
     → All (λ kind. count_between (verdict_by (usual view (clauses_by same))) kind old new ≡ 0) mended_kinds
-unfolding All outside
+unfolding All among any
 no_mended_changed view same old new = all_map none mended_kinds (refl, (refl, (refl, tt)))
   where
-    none : (j : ℕ) → (outside j && ltb j kind_count) ≡ true → count_between (verdict_by (usual view (clauses_by same))) j old new ≡ 0
+    none : (j : ℕ) → (not (among j clause_kinds) && ltb j kind_count) ≡ true → count_between (verdict_by (usual view (clauses_by same))) j old new ≡ 0
     none j e =
-        let h = both (outside j) (ltb j kind_count) e in
-        none_selected j h.0 (ltb-true j kind_count h.1) (usual view (clauses_by same)) (clauses_ordinary same j) old new
+        let h = both (not (among j clause_kinds)) (ltb j kind_count) e in
+        none_selected j (not-true (among j clause_kinds) h.0) (ltb-true j kind_count h.1) (usual view (clauses_by same)) (clauses_ordinary same j) old new

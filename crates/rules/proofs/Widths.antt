@@ -8,13 +8,12 @@ use Prim.Native.Nat.{ℕ, ◌+◌, ◌≤◌}
 use native.Mathlib.Nat.{le_trans}
 use native.Mathlib.Omega.{arith}
 use lib.ListN.{length}
-use Rattle.maps.specs.Lists.{total, All}
+use Rattle.maps.specs.Lists.{total, All, among}
 use Rattle.image.specs.Schema.{Decl}
 use Rattle.image.specs.Words.{bytes}
 use Rattle.rules.specs.Equal.{never}
 use Rattle.rules.specs.Changes.{kind_at, WidthChanged}
 use Rattle.rules.specs.Widths.{show_width, compare_widths}
-use Rattle.rules.specs.Tombstones.{among}
 use Rattle.text.proofs.Numbers.{decimal_length}
 use Rattle.rules.proofs.Equal.{numbers, options}
 use Rattle.rules.proofs.Mirror.{exchange, mirror}

@@ -1,6 +1,6 @@
 -- Demand 3, the distance rule, over byte lists and in terms of a verdict call alone. Assumes nothing.
 use Rattle.std.specs.Prelude.{◌≡◌, Bool, false, cond, List, [], ◌∷◌, ℕ, ◌+◌, max, ◌≤◌}
-use Rattle.maps.specs.Lists.{All}
+use Rattle.maps.specs.Lists.{All, any}
 use Rattle.image.specs.Schema.{Schema}
 use Rattle.image.specs.Parse.{Parsed, ok, no}
 use Rattle.image.specs.Image.{read_image}
@@ -8,7 +8,6 @@ use Rattle.rules.specs.Survivors.{View}
 use Rattle.rules.specs.Types.{holds_vector}
 use Rattle.rules.specs.Changes.{kind_at, FieldAdded, FieldRemoved, FieldTypeChanged, FieldOrdinalChanged, FieldRenamed, FieldEncodingChanged, VariantAdded, VariantRemoved, VariantOrdinalChanged, DeclarationAdded, DeclarationRemoved, DeclarationKindChanged, NamespaceChanged, NonExhaustiveChanged, FlagsBitAdded, FlagsBitRemoved, FlagsBitOrdinalChanged, WidthChanged}
 use Rattle.rules.specs.Clauses.{compared_types}
-use Rattle.rules.specs.Verdict.{any}
 
 -- an image is any list of bytes
 abbrev pub Image : Type 0

@@ -150,3 +150,11 @@ pub record ImportEdges : Type 0 where
   -- every entry of a chain of any length is reached, also the one after 500 steps
   pub steps : (n id : ℕ) → 1 ≤ id → id ≤ n → Reached (chain n) id
   pub five_hundred : Reached (chain 500) 500
+  -- what is reached stands in the report by its name, between what is listed, and not before it
+  pub by_name : told imports (listing (newtype (named 1) (entry "C" u8 ∷ entry "B" u8 ∷ [])) (2 ∷ [])) (listing (newtype (named 1) (entry "C" f32 ∷ entry "B" f32 ∷ [])) (2 ∷ []))
+      ≡ bytes "FieldTypeChanged;Major;B;-;newtype 'B' inner type changed from u8 to f32\nFieldTypeChanged;Major;C;-;newtype 'C' inner type changed from u8 to f32\nBreaking;Major;2\n"
+  -- a listed declaration that lost its name, and is reached, is followed
+  pub lost_followed : changing imports (λ b. listing (newtype (named 1) (entry "C" (named 3) ∷ entry "C" u8 ∷ b ∷ [])) (1 ∷ 2 ∷ [])) ≡ seen
+  -- a name that is listed on one side and reached on the other is compared, either way round
+  pub moved_in : told imports (listing (naming (entry "B" u8 ∷ [])) (1 ∷ [])) (naming (entry "B" f32 ∷ [])) ≡ seen
+  pub moved_out : told imports (naming (entry "B" u8 ∷ [])) (listing (naming (entry "B" f32 ∷ [])) (1 ∷ [])) ≡ seen

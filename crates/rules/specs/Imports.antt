@@ -1,7 +1,7 @@
 -- R-2, "Follow the imports": what stands with what is reached, and the verdict and the report over it. The clauses, the checks and the stages
 -- are those of document 01. Assumes nothing.
 use Rattle.std.specs.Prelude.{◌≡◌, true, cond, List, [], ◌∷◌, ◌++◌, ℕ, suc, ◌<◌, Option, None, Some}
-use Rattle.maps.specs.Lists.{count}
+use Rattle.maps.specs.Lists.{count, among}
 use Rattle.maps.specs.Keyed.{survivors, lookup}
 use Rattle.maps.specs.Orders.{before}
 use Rattle.image.specs.Schema.{Name, Decl, Schema}
@@ -10,7 +10,7 @@ use Rattle.image.specs.Image.{read_image}
 use Rattle.rules.specs.Equal.{same_name}
 use Rattle.rules.specs.Survivors.{stands_for, listed, name_of, declarations, View}
 use Rattle.rules.specs.Answer.{Policy, usual, plain_reading, outcome, checked}
-use Rattle.rules.specs.Reached.{Reached, member, IdSet, reached_set}
+use Rattle.rules.specs.Reached.{Reached, IdSet, reached_set}
 
 -- ---- what stands
 
@@ -49,7 +49,7 @@ pub data Stands (s : Schema) (name : Name) : Option Decl → Type 0 where
 
 -- nothing that is not listed is reached
 abbrev pub OnlyListed : Schema → Type 0
-OnlyListed s = (id : ℕ) → Reached s id → member id s.ids ≡ true
+OnlyListed s = (id : ℕ) → Reached s id → among id s.ids ≡ true
 
 pub record Imported : Type 0 where
   pub stands : (s : Schema) (name : Name) → Stands s name (lookup name_of before name (imports_view s).standing)

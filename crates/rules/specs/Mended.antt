@@ -1,15 +1,17 @@
--- R-5, "Three answers from the type comparison": what it says of two types, and the mended verdict, which reads the third answer as equal and
--- reports widths (Widths) and tombstones (Tombstones). The clauses and the stages are those of document 01. Assumes nothing.
-use Rattle.std.specs.Prelude.{◌≡◌, Bool, true, false, cond, ◌&&◌, ◌↔◌, List, [], ◌∷◌, ℕ, ◌+◌, None}
+-- R-5, "Three answers from the type comparison": what it says of two types, and the mended verdict, which reads the third answer as equal,
+-- reports widths (Widths) and tombstones (Tombstones), and is given of two images that store alike. The clauses and the stages are those of
+-- document 01. Assumes nothing.
+use Rattle.std.specs.Prelude.{◌≡◌, Bool, true, false, cond, not, ◌&&◌, ◌||◌, ◌↔◌, List, [], ◌∷◌, ℕ, eqb, ◌+◌, None, Some}
+use Rattle.std.specs.Bool.{beq}
 use Rattle.maps.specs.Lists.{All}
-use Rattle.image.specs.Codes.{number, mixed_refusal}
-use Rattle.image.specs.Schema.{Ty}
+use Rattle.image.specs.Codes.{number, mixed_refusal, both_sides}
+use Rattle.image.specs.Schema.{Ty, Schema}
 use Rattle.rules.specs.Survivors.{view_of}
 use Rattle.rules.specs.Types.{same_label, same_tree, same_type, holds_vector}
 use Rattle.rules.specs.Changes.{kind_at, WidthChanged, TombstoneReused, TombstoneDropped}
 use Rattle.rules.specs.Clauses.{Reading}
-use Rattle.rules.specs.Answer.{Policy, alias_check, outcome, checked, verdict_by}
-use Rattle.rules.specs.Widths.{compare_widths, mixed_check}
+use Rattle.rules.specs.Answer.{fault, Check, Policy, alias_check, outcome, checked, verdict_by}
+use Rattle.rules.specs.Widths.{compare_widths}
 use Rattle.rules.specs.Tombstones.{compare_last, compare_last_in}
 use Rattle.rules.specs.Distance.{holds_vectors}
 
@@ -59,6 +61,13 @@ mended_type t u = read_as true (likeness t u)
 -- R-6: WidthChanged stands "first in that declaration"; R-10: what is told of tombstones "last in their declaration or variant"
 abbrev pub mended_reading : Reading
 mended_reading = record { same = mended_type; first = compare_widths; last = compare_last; last_in = compare_last_in }
+
+-- 16: "if either image or both are format 1"; R-10: it "also covers one image of format 3 against one that is not"
+unfoldable pub mixed : Schema → Schema → Bool
+mixed x y = eqb x.format 1 || (eqb y.format 1 || not (beq (eqb x.format 3) (eqb y.format 3)))
+
+unfoldable pub mixed_check : Check
+mixed_check x y = cond (mixed x y) (Some (fault (number mixed_refusal) (number both_sides))) None
 
 -- R-6: 16 is tested "after 10 and before 11"
 abbrev pub mended : Policy

@@ -2,14 +2,13 @@
 -- proved (`ReachedIs`). Assumes nothing.
 use Rattle.std.specs.Prelude.{◌≡◌, ◌↔◌, Bool, true, false, cond, ℕ, zero, suc, eqb, length, get_or, set, replicate, Option, None, Some}
 use mathlib.Core.List.{List, [], ◌∷◌, ◌++◌, flat_map}
-use Rattle.maps.specs.Lists.{pass}
+use Rattle.maps.specs.Lists.{pass, among}
 use Rattle.std.specs.Option.{is_some}
 use Rattle.image.specs.Schema.{Label, Ty, leaf, one, two, Decl, Schema}
 use Rattle.image.specs.Codes.{number, named_tag}
 use Rattle.image.specs.Kinds.{kind_of}
 use Rattle.rules.specs.Survivors.{Registry, stands_for, View, view_of}
 use Rattle.rules.specs.Clauses.{types_of, compared_types}
-use Rattle.rules.specs.Verdict.{any}
 
 -- ---- "named nodes, at any depth, in the compared types"
 
@@ -30,9 +29,6 @@ named_of d = flat_map named_in (types_of (kind_of d.kind) d)
 unfoldable pub named_from : View → List ℕ
 named_from v = flat_map named_in (compared_types v)
 
-unfoldable pub member : ℕ → List ℕ → Bool
-member id ids = any (eqb id) ids
-
 -- ---- as a statement
 
 -- not "an id that is N or more, or whose entry is empty"
@@ -42,8 +38,8 @@ resolvable R id = is_some (stands_for R id)
 -- "every resolvable entry reached through named nodes, at any depth, in the compared types of the survivors and then of the entries
 -- reached, over any number of steps. Every entry reached is followed, also one that does not stand."
 pub data Reached (s : Schema) : ℕ → Type 0 where
-  by_survivor : {id : ℕ} → member id (named_from (view_of s)) ≡ true → resolvable s.registry id ≡ true → Reached s id
-  by_reached : {via id : ℕ} {d : Decl} → Reached s via → stands_for s.registry via ≡ Some d → member id (named_of d) ≡ true
+  by_survivor : {id : ℕ} → among id (named_from (view_of s)) ≡ true → resolvable s.registry id ≡ true → Reached s id
+  by_reached : {via id : ℕ} {d : Decl} → Reached s via → stands_for s.registry via ≡ Some d → among id (named_of d) ≡ true
       → resolvable s.registry id ≡ true → Reached s id
 
 -- ---- and computed

@@ -4,6 +4,7 @@ use Rattle.std.specs.Prelude.{Option, None, Some, List, [], ◌∷◌, ℕ, ltb,
 use Rattle.maps.specs.Keyed.{survivors}
 use Rattle.maps.specs.Orders.{before}
 use Rattle.image.specs.Schema.{Name, Field, Variant, Decl, Schema}
+use Rattle.image.specs.Kinds.{Kind, union}
 
 abbrev pub Registry : Type 0
 Registry = List (Option Decl)
@@ -39,6 +40,11 @@ variant_ordinal v = v.ordinal
 
 unfoldable pub variant_map : List Variant → List Variant
 variant_map vs = survivors variant_ordinal ltb vs
+
+-- those with fields and tombstones of their own: a union's
+unfoldable pub union_variants : Kind → Decl → List Variant
+union_variants union d = variant_map d.variants
+union_variants k d = []
 
 -- What the clauses compare of a schema: its namespace, the declarations that stand, by rising name, and its registry, for the names of
 -- its types.

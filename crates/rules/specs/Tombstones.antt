@@ -1,8 +1,8 @@
 -- R-10, "Struck-off ordinals": what the mended verdict reports of the numbers that a body strikes off; which images strike off a number
 -- and use it; and what holds of these definitions. Assumes nothing.
-use Rattle.std.specs.Prelude.{◌≡◌, Bool, true, false, cond, not, ◌&&◌, ◌||◌, ◌⊎◌, ◌↔◌, List, [], map, ◌++◌, ℕ, eqb, ltb, None}
+use Rattle.std.specs.Prelude.{◌≡◌, Bool, true, false, cond, not, ◌&&◌, ◌||◌, ◌⊎◌, ◌↔◌, List, [], map, ◌++◌, ℕ, ltb, None}
 use mathlib.Core.List.{flat_map}
-use Rattle.maps.specs.Lists.{count}
+use Rattle.maps.specs.Lists.{count, any, among}
 use Rattle.maps.specs.Keyed.{survivors}
 use Rattle.maps.specs.Walk.{Rising}
 use Rattle.image.specs.Schema.{Name, Field, Variant, Decl, Schema}
@@ -11,15 +11,9 @@ use Rattle.image.specs.Parse.{Parsed, ok, no}
 use Rattle.image.specs.Image.{read_image}
 use Rattle.image.specs.Words.{bytes}
 use Rattle.text.specs.Decimal.{decimal}
-use Rattle.rules.specs.Survivors.{field_map, variant_map, declarations}
+use Rattle.rules.specs.Survivors.{field_map, variant_map, union_variants, declarations}
 use Rattle.rules.specs.Changes.{major, level, Change, change, only, kind_at, TombstoneReused, TombstoneDropped}
-use Rattle.rules.specs.Verdict.{bump_of, count_of, any}
-
--- ---- numbers
-
--- whether a number is one of those listed
-unfoldable pub among : ℕ → List ℕ → Bool
-among n numbers = any (eqb n) numbers
+use Rattle.rules.specs.Verdict.{bump_of, count_of}
 
 -- "numbers rising", "Repeated tombstones count as one"
 unfoldable pub rising_numbers : List ℕ → List ℕ
@@ -82,21 +76,12 @@ compare_last_in d old new = compare_struck d old.tombstones (used_by_fields new.
 unfoldable pub uses : List ℕ → List ℕ → Bool
 uses struck_off in_use = any (λ n. among n in_use) struck_off
 
--- in a surviving variant: only a union's have fields and tombstones
-unfoldable pub variant_uses : Kind → Decl → Bool
-variant_uses message d = false
-variant_uses enum d = false
-variant_uses flags d = false
-variant_uses union d = any (λ v. uses v.tombstones (used_by_fields v.fields)) (variant_map d.variants)
-variant_uses newtype d = false
-variant_uses config d = false
-variant_uses alias d = false
-variant_uses trait d = false
-variant_uses impl d = false
-variant_uses other d = false
+-- in a surviving variant
+unfoldable pub variant_uses : Decl → Bool
+variant_uses d = any (λ v. uses v.tombstones (used_by_fields v.fields)) (union_variants (kind_of d.kind) d)
 
 unfoldable pub decl_uses : Decl → Bool
-decl_uses d = uses d.tombstones (used d) || variant_uses (kind_of d.kind) d
+decl_uses d = uses d.tombstones (used d) || variant_uses d
 
 unfoldable pub schema_uses : Schema → Bool
 schema_uses s = any decl_uses (declarations s)

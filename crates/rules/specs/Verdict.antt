@@ -1,6 +1,6 @@
 -- The verdict: bump, result, counts; and refusal 11. Assumes nothing.
-use Rattle.std.specs.Prelude.{Bool, false, cond, ◌&&◌, ◌||◌, List, [], ◌∷◌, ℕ, eqb, Option, None, Some}
-use Rattle.maps.specs.Lists.{largest, count}
+use Rattle.std.specs.Prelude.{Bool, false, cond, ◌&&◌, List, ℕ, eqb, Option, None, Some}
+use Rattle.maps.specs.Lists.{largest, count, any}
 use Rattle.maps.specs.Keyed.{lookup}
 use Rattle.maps.specs.Orders.{before}
 use Rattle.image.specs.Schema.{Decl}
@@ -30,10 +30,6 @@ alias d = eqb d.kind (number alias_kind)
 unfoldable pub is_alias : Option Decl → Bool
 is_alias None = false
 is_alias (Some d) = alias d
-
-unfoldable pub any : {A : Type 0} → (A → Bool) → List A → Bool
-any p [] = false
-any p (a ∷ l) = p a || any p l
 
 unfoldable pub alias_pair : View → View → Bool
 alias_pair old new = any (λ d. alias d && is_alias (lookup name_of before d.name new.standing)) old.standing

@@ -1,14 +1,10 @@
--- R-6, "Widths written out": what the mended verdict reports of widths, and its check that both images store them, and, R-10, that both store
--- tombstones or neither does. Assumes nothing.
-use Rattle.std.specs.Prelude.{Bool, cond, not, ◌||◌, ◌++◌, List, [], ℕ, eqb, Option, None, Some}
-use Rattle.std.specs.Bool.{beq}
-use Rattle.image.specs.Schema.{Decl, Schema}
-use Rattle.image.specs.Codes.{number, mixed_refusal, both_sides}
+-- R-6, "Widths written out": what the mended verdict reports of widths. Assumes nothing.
+use Rattle.std.specs.Prelude.{not, ◌++◌, List, [], ℕ, eqb, Option, None, Some}
+use Rattle.image.specs.Schema.{Decl}
 use Rattle.image.specs.Words.{bytes}
 use Rattle.text.specs.Decimal.{decimal}
 use Rattle.rules.specs.Equal.{same_option}
 use Rattle.rules.specs.Changes.{major, Change, change, only, from_to, kind_at, WidthChanged}
-use Rattle.rules.specs.Answer.{fault, Check}
 
 -- as it is stored; a format without widths, which this verdict refuses, has nothing to show
 unfoldable pub show_width : Option ℕ → List ℕ
@@ -21,10 +17,3 @@ unfoldable pub compare_widths : Decl → Decl → List Change
 compare_widths old new =
     only (not (same_option eqb old.width new.width))
     (change (kind_at WidthChanged) major old.name None (bytes "width changed" ++ from_to (show_width old.width) (show_width new.width)))
-
--- 16: "if either image or both are format 1"; R-10: it "also covers one image of format 3 against one that is not"
-unfoldable pub mixed : Schema → Schema → Bool
-mixed x y = eqb x.format 1 || (eqb y.format 1 || not (beq (eqb x.format 3) (eqb y.format 3)))
-
-unfoldable pub mixed_check : Check
-mixed_check x y = cond (mixed x y) (Some (fault (number mixed_refusal) (number both_sides))) None
