@@ -10,7 +10,7 @@ use Rattle.parts.specs.Kinds.{kind_of}
 use Rattle.parts.specs.Numbers.{kind_number}
 use Rattle.parts.specs.declared.handles.Decl.{Decl}
 use Rattle.rules.specs.Clauses.{Context, kind_changed, compare_kind, compare_alike, compare_decls}
-use Rattle.types.specs.declared.Reading.{Reading}
+use Rattle.lines.specs.declared.Reading.{Reading}
 use Rattle.lines.specs.Sites.{change_of}
 use Rattle.lines.specs.Reports.{Reports}
 use Rattle.lines.specs.declared.Report.{Report}

@@ -15,7 +15,7 @@ use Rattle.rules.specs.Survivors.{name_of}
 use Rattle.rules.specs.Imports.{standing_with}
 use Rattle.rules.specs.Changes.{Change}
 use Rattle.rules.specs.Clauses.{compare_decls, decl_rules}
-use Rattle.types.specs.declared.Reading.{Reading}
+use Rattle.lines.specs.declared.Reading.{Reading}
 use Rattle.survivors.specs.Answers.{standing_of, Survives, names_covered}
 use Rattle.survivors.specs.declared.decls.Declarations.{Declarations}
 use Rattle.survivors.proofs.Laws.Better.{some_map}

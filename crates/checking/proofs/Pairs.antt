@@ -10,19 +10,20 @@ use native.Mathlib.Numerals.{add-one}
 use lib.Dec.{eqb}
 use lib.ListN.{length, drop, drop_of_length-le}
 use lib.Seq.{drop-cons}
-use Rattle.maps.specs.Lists.{All}
+use Rattle.maps.specs.Lists.{All, any}
 use Rattle.maps.specs.Orders.{before}
 use Rattle.maps.specs.Keyed.{survivors, lookup}
 use Rattle.maps.proofs.Tests.{no_both}
 use Rattle.maps.proofs.Lists.{all}
 use Rattle.maps.proofs.Names.{by_name}
 use Rattle.maps.proofs.Survivors.{rising, all_survivors, all_lookup, lookup_key, lookup_own}
+use Rattle.maps.proofs.Any.{any_none, none_any}
 use Rattle.image.specs.Schema.{Name, Decl as Declaration}
 use Rattle.parts.specs.Handles.{schema_in, decl_of}
 use Rattle.parts.specs.declared.handles.Decl.{Decl}
 use Rattle.rules.specs.Survivors.{resolved, listed, name_of}
 use Rattle.rules.specs.Imports.{marked_ids, standing_with, view_with}
-use Rattle.rules.specs.Verdict.{alias, is_alias, any, alias_pair}
+use Rattle.rules.specs.Verdict.{alias, is_alias, alias_pair}
 use Rattle.survivors.specs.Answers.{standing_of, Survives}
 use Rattle.survivors.specs.Candidates.{candidates, Candidate, present}
 use Rattle.survivors.specs.declared.decls.Declarations.{Declarations}
@@ -73,22 +74,6 @@ module _ (old new : Declarations) {r : Option Decl} where
         → u ≡ aliases_of old new (option_map decl_of r)
     unfolding aliases_of alias
     entry_alias q n f = rw (decl_body e, ← k, sym p ∙ q, ← n) f
-
--- ---- any of a list
-
-any_none : {A : Type 0} (p : A → Bool) (l : List A) → any p l ≡ false → All (λ a. p a ≡ false) l
-unfolding any All
-any_none p [] e = tt
-any_none p (a ∷ l) e = go (p a) refl e (any_none p l)
-  where
-    go : (u : Bool) → p a ≡ u → (u || any p l) ≡ false → (any p l ≡ false → All (λ b. p b ≡ false) l) → (p a ≡ false) × All (λ b. p b ≡ false) l
-    go true q f ih = no_both refl f
-    go false q f ih = (q, ih f)
-
-none_any : {A : Type 0} (p : A → Bool) (l : List A) → All (λ a. p a ≡ false) l → any p l ≡ false
-unfolding any All
-none_any p [] h = refl
-none_any p (a ∷ l) h = rw h.0 (none_any p l h.1)
 
 -- two tests that are false together are the same
 false_together : (u v : Bool) → (u ≡ false → v ≡ false) → (v ≡ false → u ≡ false) → u ≡ v

@@ -14,7 +14,7 @@ use Rattle.rules.specs.Survivors.{name_of}
 use Rattle.rules.specs.Changes.{Change}
 use Rattle.rules.specs.Clauses.{decl_rules}
 use Rattle.rules.proofs.Standing.{standing_rises}
-use Rattle.types.specs.declared.Reading.{Reading}
+use Rattle.lines.specs.declared.Reading.{Reading}
 use Rattle.lines.specs.Reports.{Reports}
 use Rattle.lines.specs.declared.Report.{Report}
 use Rattle.lines.proofs.Reports.{Left, left_start, left_reading, left_turn, left_done}

@@ -3,7 +3,7 @@ use mathlib.Core.List.{◌++◌}
 use Rattle.maps.specs.Compare.{compare}
 use Rattle.rules.specs.Imports.{view_with}
 use Rattle.rules.specs.Clauses.{changes}
-use Rattle.types.specs.declared.Reading.{Reading}
+use Rattle.lines.specs.declared.Reading.{Reading}
 use Rattle.survivors.specs.declared.decls.Declarations.{Declarations}
 use Rattle.lines.specs.Reports.{Reports}
 use Rattle.lines.specs.declared.Report.{Report}

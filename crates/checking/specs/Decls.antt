@@ -20,8 +20,8 @@ use Rattle.tally.specs.declared.Bump.{Bump}
 use Rattle.tally.specs.declared.ChangeKind.{ChangeKind}
 use Rattle.details.specs.Details.{verb_text}
 use Rattle.details.specs.declared.Verb.{Verb}
-use Rattle.types.specs.Readings.{reading_of}
-use Rattle.types.specs.declared.Reading.{Reading}
+use Rattle.lines.specs.Readings.{reading_of}
+use Rattle.lines.specs.declared.Reading.{Reading}
 use Rattle.survivors.specs.Answers.{standing_of}
 use Rattle.survivors.specs.declared.decls.Declarations.{Declarations}
 use Rattle.items.specs.Items.{context_of}

@@ -10,12 +10,12 @@ ghost use Rattle.lines.specs.Reports.{Reports};
 ghost use Rattle.checking.specs.Decls.{of_namespaces, all_changes};
 
 use crate::decls::{kept_decls, unmatched_decls};
-use details::{Detail, Scope, Subject, Value, Verb};
+use details::{Scope, Subject, Value};
 use items::Side;
 use lines::{Report, Site};
 use parts::handles::Image;
 use survivors::decls::Declarations;
-use tally::{Bump, ChangeKind};
+use tally::ChangeKind;
 use types::namespaces::namespaces_equal;
 
 // 1. The namespace.
@@ -25,17 +25,13 @@ fn compare_namespaces<'a>(r: &mut Report<'_>, old: Image<'a>, new: Image<'a>)
     if namespaces_equal(old, new) {
         return;
     }
-    r.emit(Site {
-        kind: ChangeKind::NamespaceChanged,
-        bump: Bump::MAJOR,
-        scope: Scope::Schema,
-        field: None,
-        detail: Detail {
-            subject: Subject::Namespace,
-            verb: Verb::Changed,
-            values: Some((Value::Namespace(old), Value::Namespace(new))),
-        },
-    });
+    r.emit(Site::changed(
+        ChangeKind::NamespaceChanged,
+        Scope::Schema,
+        Subject::Namespace,
+        Value::Namespace(old),
+        Value::Namespace(new),
+    ));
 }
 
 // All clauses, in the order of the report.

@@ -60,19 +60,15 @@ pub(crate) fn lone<'a>(side: Side, decl: Decl<'a>) -> Site<'a>
 }
 
 // 3. A declaration of another kind.
-#[tactic(auto, unfolding(rules::specs::Clauses::kind_changed, details::specs::Details::detail_text, image::specs::Words::bytes))]
 pub(crate) fn kind_changed<'a>(old: Decl<'a>, new: Decl<'a>) -> Site<'a>
     ensures { change_of result ∷ [] ≡ kind_changed (decl_of old.entry) (decl_of new.entry) }
 {
-    Site {
-        kind: ChangeKind::DeclarationKindChanged,
-        bump: Bump::MAJOR,
-        scope: Scope::Decl(old.name()),
-        field: None,
-        detail: Detail {
-            subject: Subject::DeclName(old.name()),
-            verb: Verb::Changed,
-            values: Some((Value::Kind(old.kind()), Value::Kind(new.kind()))),
-        },
-    }
+    let name = old.name();
+    Site::changed(
+        ChangeKind::DeclarationKindChanged,
+        Scope::Decl(name),
+        Subject::DeclName(name),
+        Value::Kind(old.kind()),
+        Value::Kind(new.kind()),
+    )
 }

@@ -5,6 +5,7 @@ use mathlib.Core.Bool.{false≢true}
 use mathlib.Core.List.{[]}
 use Prim.Native.Nat.{ℕ, zero, suc, ◌≤◌, ◌<◌}
 use native.Mathlib.Omega.{arith}
+use Rattle.maps.specs.Lists.{among, any}
 use Rattle.image.specs.Schema.{Name}
 use Rattle.parts.specs.Kinds.{kind_of}
 use Rattle.parts.specs.Codes.{number, union_kind}
@@ -18,13 +19,12 @@ use Rattle.members.specs.Bodies.{struck_in}
 use Rattle.members.specs.declared.handles.Items.{Items}
 use Rattle.members.specs.declared.handles.Body.{Body}
 use Rattle.members.specs.declared.handles.Variant.{Variant}
-use Rattle.rules.specs.Tombstones.{used_by_fields, used_by_variants, used_in, used, among, compare_last, compare_last_in}
-use Rattle.rules.specs.Verdict.{any}
+use Rattle.rules.specs.Tombstones.{used_by_fields, used_by_variants, used_in, used, compare_last, compare_last_in}
 use Rattle.rules.proofs.Tombstones.{struck_off}
 use Rattle.survivors.specs.Runs.{ordinals_of}
 use Rattle.survivors.proofs.Runs.{listed_hold}
 use Rattle.survivors.proofs.Used.{holds_ordinals}
-use Rattle.clauses.specs.Struck.{of_bodies}
+use Rattle.clauses.specs.Tombstones.{of_bodies}
 
 module _ (d : Decl) where
   used_as : (k : ℕ) → (decl_of d).kind ≡ k → k ≤ number union_kind → {x : Items} → ItemsAt d.image (shape_by (kind_of k)) (items_in d.image.bytes.now d.at) x

@@ -1,5 +1,5 @@
 -- What stands on both sides: two fields, the fields of two variants; and the items of two declarations. Assumes nothing.
-use Rattle.std.proofs.Common.{◌≡◌, List, ◌++◌, ℕ, Bor, refl, sym, ap, subst, ◌∙◌}
+use Rattle.std.proofs.Common.{◌≡◌, List, ◌++◌, ℕ, refl, sym, ap, subst, ◌∙◌}
 use Rattle.std.specs.Prelude.{Option, Some}
 use Rattle.image.specs.Words.{bytes}
 use lib.Dec.{ltb}
@@ -9,28 +9,25 @@ use Rattle.image.specs.Schema.{Name, Field as FieldValue, Variant as VariantValu
 use Rattle.parts.specs.Promise.{DeclHere, decl_in, items_in, variant_items}
 use Rattle.parts.specs.Codes.{number, message_kind, enum_kind, flags_kind, union_kind}
 use Rattle.parts.specs.declared.Shape.{Shape}
-use Rattle.parts.specs.declared.Shape.TheVariants as shape
 use Rattle.parts.specs.declared.handles.Image.{Image}
 use Rattle.parts.proofs.Promise.{message_listed, enum_listed, flags_listed, union_listed, variant_listed}
-use Rattle.members.specs.Handles.{ItemsAt}
+use Rattle.members.specs.Handles.{ItemsAt, variant_of}
 use Rattle.members.specs.declared.handles.Item.{Item}
 use Rattle.members.specs.declared.handles.Items.{Items}
+use Rattle.members.specs.declared.handles.Variant.{Variant}
 use Rattle.rules.specs.Changes.{Change, quoted}
-use Rattle.rules.specs.Clauses.{Context, compare_field_names, compare_types, compare_encodings, compare_deprecated, compare_fields, compare_field_sets, field_text, field_rules, union_rules, variant_decl}
+use Rattle.rules.specs.Clauses.{Context, compare_field_names, compare_types, compare_encodings, compare_deprecated, compare_fields, compare_field_sets, field_text, union_rules}
 use Rattle.survivors.specs.Answers.{Among}
 use Rattle.survivors.specs.Runs.{item_of, items_of}
 use Rattle.survivors.proofs.Runs.{listed_hold}
-use Rattle.types.specs.Readings.{reading_of}
-use Rattle.types.specs.declared.Reading.{Reading}
-use Rattle.details.specs.Details.{declaration_of}
-use Rattle.details.specs.declared.Scope.{Scope}
+use Rattle.lines.specs.Readings.{reading_of}
+use Rattle.lines.specs.declared.Reading.{Reading}
 use Rattle.lines.specs.Reports.{Reports}
 use Rattle.lines.specs.declared.Report.{Report}
 use Rattle.lines.proofs.Reports.{reports_as, reports_more, reports_then}
 use Rattle.items.specs.Items.{context_of, shape, rules}
 use Rattle.items.specs.Owners.{shape_of, rules_of}
 use Rattle.items.specs.declared.Owner.{Owner}
-use Rattle.items.specs.declared.Owner.TheVariants as owner
 use Rattle.items.specs.declared.pairs.Pair.{Pair}
 use Rattle.clauses.specs.Marks.{deprecated}
 
@@ -56,48 +53,21 @@ module _ (i j : Image) (d : Name) (f g : FieldValue) where
       ++ (compare_encodings d f g ++ compare_deprecated d (Some g.name) (bytes "field " ++ quoted g.name) f.marks g.marks))
       names (reports_more types last)
 
-pub union_shape : {o : Owner} {name : Bor Name} → o ≡ owner.Union name → shape_of o ≡ Shape.Variant
-union_shape e = ap shape_of e
-
 -- ---- what the rules say of two items that stand under one ordinal
-
-by_fields : (r : Context) (o : Owner) (c : Scope) → o ≡ owner.Fields c → (i j : Item)
-    → (rules_of r o).kept (item_of (shape_of o) i) (item_of (shape_of o) j) ≡ compare_fields r (declaration_of c) (item_of shape.Field i) (item_of shape.Field j)
-unfolding field_rules
-by_fields r o c e i j =
-    subst (λ (p : Owner). (rules_of r p).kept (item_of (shape_of p) i) (item_of (shape_of p) j) ≡ compare_fields r (declaration_of c) (item_of shape.Field i) (item_of shape.Field j))
-    (sym e) refl
-
-by_variants : (r : Context) (o : Owner) (name : Bor Name) → o ≡ owner.Union name → (i j : Item)
-    → (rules_of r o).kept (item_of (shape_of o) i) (item_of (shape_of o) j)
-    ≡ compare_field_sets r (variant_decl name.now (item_of shape.Variant i)) (item_of shape.Variant i).fields (item_of shape.Variant j).fields
-    ++ r.reading.last_in (variant_decl name.now (item_of shape.Variant i)) (item_of shape.Variant i) (item_of shape.Variant j)
-unfolding union_rules
-by_variants r o name e i j =
-    subst (λ (p : Owner). (rules_of r p).kept (item_of (shape_of p) i) (item_of (shape_of p) j)
-    ≡ compare_field_sets r (variant_decl name.now (item_of shape.Variant i)) (item_of shape.Variant i).fields (item_of shape.Variant j).fields
-    ++ r.reading.last_in (variant_decl name.now (item_of shape.Variant i)) (item_of shape.Variant i) (item_of shape.Variant j))
-    (sym e) refl
 
 module _ (reading : Reading) (x : Pair) {i j : Item} (g : Among x.old i) (h : Among x.new j) where
   images : context_of reading i.image j.image ≡ context_of reading x.old.image x.new.image
   images = rw (g.image, h.image) refl
 
-  pub field_kept : (c : Scope) → x.of ≡ owner.Fields c
+  -- they are those of their owner, by the images that the items stand in
+  pub kept_by : (o : Owner) → x.of ≡ o
       → (rules reading x).kept (item_of (shape x) i) (item_of (shape x) j)
-      ≡ compare_fields (context_of reading i.image j.image) (declaration_of c) (item_of shape.Field i) (item_of shape.Field j)
-  field_kept c e =
-      by_fields (context_of reading x.old.image x.new.image) x.of c e i j
-      ∙ ap (λ (r : Context). compare_fields r (declaration_of c) (item_of shape.Field i) (item_of shape.Field j)) (sym images)
-
-  pub variant_kept : (name : Bor Name) → x.of ≡ owner.Union name
-      → (rules reading x).kept (item_of (shape x) i) (item_of (shape x) j)
-      ≡ compare_field_sets (context_of reading i.image j.image) (variant_decl name.now (item_of shape.Variant i)) (item_of shape.Variant i).fields (item_of shape.Variant j).fields
-      ++ (reading_of reading).last_in (variant_decl name.now (item_of shape.Variant i)) (item_of shape.Variant i) (item_of shape.Variant j)
-  variant_kept name e =
-      by_variants (context_of reading x.old.image x.new.image) x.of name e i j
-      ∙ ap (λ (r : Context). compare_field_sets r (variant_decl name.now (item_of shape.Variant i)) (item_of shape.Variant i).fields (item_of shape.Variant j).fields
-      ++ (reading_of reading).last_in (variant_decl name.now (item_of shape.Variant i)) (item_of shape.Variant i) (item_of shape.Variant j)) (sym images)
+      ≡ (rules_of (context_of reading i.image j.image) o).kept (item_of (shape_of o) i) (item_of (shape_of o) j)
+  kept_by o e =
+      subst (λ (p : Owner). (rules reading x).kept (item_of (shape x) i) (item_of (shape x) j)
+      ≡ (rules_of (context_of reading x.old.image x.new.image) p).kept (item_of (shape_of p) i) (item_of (shape_of p) j))
+      e refl
+      ∙ ap (λ (r : Context). (rules_of r o).kept (item_of (shape_of o) i) (item_of (shape_of o) j)) (sym images)
 
 -- what is reported of two variants after their fields
 pub last_told : (d : Name) (v w : VariantValue) {a b c : Report} {cs : List Change} → Reports a cs b → Reports b ((reading_of b.reading).last_in d v w) c
@@ -125,9 +95,9 @@ module _ {i : Image} (at : ℕ) {x : Items} where
     union_variants a k = (listed_hold a (union_listed i.bytes.now at h k)).are
 
 -- of a union's variant
-pub variant_fields : (v : Item) (h : v.shape ≡ Shape.Variant) {x : Items} → ItemsAt v.image Shape.Field (variant_items v.image.bytes.now v.at) x
-    → (item_of shape.Variant v).fields ≡ items_of Shape.Field x
-variant_fields v h a = (listed_hold a (variant_listed v.image.bytes.now v.at (rw h at v.here))).are
+pub variant_fields : (v : Variant) {x : Items} → ItemsAt v.item.image Shape.Field (variant_items v.item.image.bytes.now v.item.at) x
+    → (variant_of v).fields ≡ items_of Shape.Field x
+variant_fields v a = (listed_hold a (variant_listed v.item.image.bytes.now v.item.at (rw v.is at v.item.here))).are
 
 -- ---- what is reported of two sets of fields, or of variants, otherwise said: of the images that they stand in
 

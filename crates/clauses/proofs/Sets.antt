@@ -4,7 +4,7 @@ use Rattle.maps.specs.Compare.{compare}
 use Rattle.lines.specs.Reports.{Reports}
 use Rattle.lines.specs.declared.Report.{Report}
 use Rattle.lines.proofs.Reports.{reports_none, reports_then}
-use Rattle.types.specs.declared.Reading.{Reading}
+use Rattle.lines.specs.declared.Reading.{Reading}
 use Rattle.items.specs.Items.{unmatched_items, kept_items, item_changes}
 use Rattle.items.specs.declared.Side.{Side}
 use Rattle.items.specs.declared.pairs.Pair.{Pair}

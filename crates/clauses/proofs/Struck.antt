@@ -1,21 +1,24 @@
--- What is reported of the numbers that a body strikes off, number by number, as what became of them is told. Assumes nothing.
+-- What is reported of the numbers that a body strikes off, number by number, as what happened to them is told. Assumes nothing.
 use mathlib.Core.Path.{◌≡◌, refl, sym, ap, ◌∙◌}
-use mathlib.Core.Bool.{Bool, true, false, not}
+use mathlib.Core.Bool.{Bool, true, false, cond}
 use mathlib.Core.List.{List, [], ◌∷◌, ◌++◌, flat_map}
 use Prim.Native.Nat.{ℕ}
 use Rattle.std.specs.Prelude.{Option, None, Some}
+use Rattle.maps.specs.Lists.{among, pass}
+use Rattle.maps.specs.Keyed.{survivors}
 use Rattle.maps.specs.Compare.{between}
 use Rattle.maps.proofs.Lists.{all, flat_map_same}
 use Rattle.image.specs.Schema.{Name}
-use Rattle.parts.specs.Promise.{tombstone_items}
+use Rattle.parts.specs.Promise.{items_at, places_by, places_from, tombstone_items}
+use Rattle.parts.proofs.Promise.{closed_listed}
 use Rattle.parts.specs.declared.Shape.TheVariants as shape
 use Rattle.members.specs.Handles.{ItemsAt, place_after}
 use Rattle.members.specs.Bodies.{struck_in}
 use Rattle.members.specs.declared.handles.Items.{Items}
 use Rattle.members.specs.declared.handles.Item.{Item}
 use Rattle.members.specs.declared.handles.Body.{Body}
-use Rattle.rules.specs.Changes.{Change}
-use Rattle.rules.specs.Tombstones.{among, rising_numbers, reused, dropped, compare_struck}
+use Rattle.rules.specs.Changes.{Change, only}
+use Rattle.rules.specs.Tombstones.{rising_numbers, reused, dropped, compare_struck}
 use Rattle.survivors.specs.Answers.{ordinal_at, StandsIn, NextItem}
 use Rattle.survivors.specs.declared.standing.StandingItems.{StandingItems}
 use Rattle.survivors.specs.Runs.{items_of, ordinals_of}
@@ -23,40 +26,34 @@ use Rattle.survivors.proofs.Runs.{items_hold, next_ordinal}
 use Rattle.survivors.proofs.Walks.{each, rest_items, items_start, items_done, items_turn}
 use Rattle.survivors.proofs.Used.{tombstones_hold, still_among}
 use Rattle.lines.specs.Reports.{Reports}
-use Rattle.lines.specs.Tombstones.{tombstone_change, became, told_of}
-use Rattle.lines.specs.declared.Fate.{Fate}
-use Rattle.lines.specs.declared.Fate.TheVariants as fate
 use Rattle.lines.specs.declared.Report.{Report}
-use Rattle.lines.proofs.Fates.{told_if}
 use Rattle.lines.proofs.Reports.{reports_as, reports_more, Left, left_start, left_turn, left_done}
-use Rattle.clauses.specs.Struck.{all_told, of_bodies}
+use Rattle.clauses.specs.Tombstones.{tombstone_change, happened, told_of, all_told, of_bodies}
+use Rattle.clauses.specs.declared.tombstones.TombstoneChange.{TombstoneChange}
+use Rattle.clauses.specs.declared.tombstones.TombstoneChange.TheVariants as happens
 use Rattle.clauses.proofs.Told.{silent, told}
 
--- ---- what became of a number: t says whether the new side uses it
+-- ---- what the rules report of a number is its change, if that happened to it
 
-module _ {f : Fate} (new still : Items) (n : ℕ) {t : Bool} (a : t ≡ among n (ordinals_of new)) where
-  pub became_reused : f ≡ fate.Reused → t ≡ became f (ordinals_of new) (ordinals_of still) n
-  became_reused e = rw (e, a) refl
+told_if : (f : TombstoneChange) (d : Name) (new_used new_struck : List ℕ) (n : ℕ)
+    → told_of f d new_used new_struck n ≡ only (happened f new_used new_struck n) (tombstone_change f d n)
+unfolding reused dropped
+told_if happens.Reused d new_used new_struck n = refl
+told_if happens.Dropped d new_used new_struck n = refl
 
-  module _ (e : f ≡ fate.Dropped) where
-    pub became_used : t ≡ true → not t ≡ became f (ordinals_of new) (ordinals_of still) n
-    became_used q = rw (e, ← a, q) refl
+-- ---- a number: t says whether that happened to it
 
-    pub became_dropped : t ≡ false → {v : Bool} → v ≡ among n (ordinals_of still) → not v ≡ became f (ordinals_of new) (ordinals_of still) n
-    became_dropped q b = rw (e, ← a, q, b) refl
-
--- ---- a number: t says whether that became of it
-
-module _ (f : Fate) (d : Name) (new still : Items) (n : ℕ) {t : Bool} (e : t ≡ became f (ordinals_of new) (ordinals_of still) n) where
+module _ (f : TombstoneChange) (d : Name) (new still : Items) (n : ℕ) {t : Bool} (e : t ≡ happened f (ordinals_of new) (ordinals_of still) n) where
   pub number_silent : t ≡ false → {r : Report} → Reports r (told_of f d (ordinals_of new) (ordinals_of still) n) r
   number_silent q = reports_as (told_if f d _ _ n) (silent _ (sym e ∙ q))
 
-  pub number_told : t ≡ true → {r r' : Report} → Reports r (tombstone_change f d n ∷ []) r' → Reports r (told_of f d (ordinals_of new) (ordinals_of still) n) r'
-  number_told q h = reports_as (told_if f d _ _ n) (told _ (sym e ∙ q) refl h)
+  pub number_told : t ≡ true → {c : Change} → c ≡ tombstone_change f d n → {r r' : Report} → Reports r (c ∷ []) r'
+      → Reports r (told_of f d (ordinals_of new) (ordinals_of still) n) r'
+  number_told q s h = reports_as (told_if f d _ _ n) (told _ (sym e ∙ q) s h)
 
 -- ---- all of them, in a walk by rising number
 
-module _ (f : Fate) (d : Name) (x new still : Items) where
+module _ (f : TombstoneChange) (d : Name) (x new still : Items) where
   abbrev told_each : ℕ → List Change
   told_each = told_of f d (ordinals_of new) (ordinals_of still)
 
@@ -95,6 +92,18 @@ module _ (f : Fate) (d : Name) (x new still : Items) where
 
 -- ---- two bodies
 
+-- nothing, if the old one strikes nothing off: t says whether its tombstones are stored
+module _ (d : Name) (old new : Body) {t : Bool}
+    (e : tombstone_items old.items.image.bytes.now (place_after old.items)
+    ≡ cond t (items_at old.items.image.bytes.now (place_after old.items)) (record { start = place_after old.items; count = 0 })) where
+  none_struck : t ≡ false → struck_in old ≡ []
+  unfolding places_from places_by
+  none_struck f = (rw (e, f) at (closed_listed old.items.image.bytes.now (place_after old.items) old.closed)).are
+
+  pub bodies_silent : t ≡ false → of_bodies d old new ≡ []
+  unfolding compare_struck rising_numbers survivors pass flat_map
+  bodies_silent f = rw (none_struck f) refl
+
 -- numbers that are still struck off, said by their items
 dropped_same : (d : Name) (u s t : List ℕ) (n : ℕ) → among n s ≡ among n t → dropped d u s n ≡ dropped d u t n
 unfolding dropped
@@ -117,7 +126,7 @@ module _ (d : Name) (old new : Body) {x y : Items} (p : ItemsAt old.items.image 
       ap (λ ns. flat_map (reused d u) (rising_numbers ns) ++ flat_map (dropped d u (struck_in new)) (rising_numbers ns)) (tombstones_hold old p).are
       ∙ ap (λ cs. flat_map (reused d u) l ++ cs) (all_dropped d u (struck_in new) (ordinals_of y) (λ n. sym (still_among new q n)) l)
 
-  pub bodies_told : {a b c : Report} → Reports a (all_told fate.Reused d x new.items y) b → Reports b (all_told fate.Dropped d x new.items y) c
+  pub bodies_told : {a b c : Report} → Reports a (all_told happens.Reused d x new.items y) b → Reports b (all_told happens.Dropped d x new.items y) c
       → Reports a (of_bodies d old new) c
   unfolding all_told
   bodies_told h k = reports_as both (reports_more h k)

@@ -5,4 +5,5 @@ use Rattle.rules.specs.Changes.{Change}
 use Rattle.rules.specs.Clauses.{compare_deprecated}
 
 abbrev pub deprecated : Name → Option Name → List ℕ → Bool → Bool → List Change
-deprecated d field what was is = compare_deprecated d field what (record { deprecated = was; non_exhaustive = false }) (record { deprecated = is; non_exhaustive = false })
+deprecated d field what was is =
+    compare_deprecated d field what (record { deprecated = was; non_exhaustive = false }) (record { deprecated = is; non_exhaustive = false })

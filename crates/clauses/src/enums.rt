@@ -6,7 +6,7 @@ ghost use Rattle.tally.specs.Tallies.{bump_value};
 ghost use Rattle.lines.specs.Reports.{Reports};
 ghost use Rattle.clauses.specs.Pairs.{of_enums};
 
-use details::{Detail, Scope, Subject, Value, Verb};
+use details::{Scope, Subject, Value};
 use items::pairs::Pair;
 use items::unmatched::unmatched_items;
 use items::{Owner, Side};
@@ -24,17 +24,13 @@ fn compare_openness(r: &mut Report<'_>, old: Decl<'_>, new: Decl<'_>)
     if was == is {
         return;
     }
-    r.emit(Site {
-        kind: ChangeKind::NonExhaustiveChanged,
-        bump: Bump::MAJOR,
-        scope: Scope::Decl(old.name()),
-        field: None,
-        detail: Detail {
-            subject: Subject::NonExhaustive,
-            verb: Verb::Changed,
-            values: Some((Value::NonExhaustive(was), Value::NonExhaustive(is))),
-        },
-    });
+    r.emit(Site::changed(
+        ChangeKind::NonExhaustiveChanged,
+        Scope::Decl(old.name()),
+        Subject::NonExhaustive,
+        Value::NonExhaustive(was),
+        Value::NonExhaustive(is),
+    ));
 }
 
 // "`VariantAdded` Minor if the new enum is non-exhaustive, else Major."

@@ -2,14 +2,14 @@
 ghost use Rattle.std.specs.Prelude.{◌≡◌};
 ghost use Rattle.members.specs.Handles.{field_of};
 ghost use Rattle.parts.specs.declared.Shape.{Shape};
-ghost use Rattle.rules.specs.Clauses.{compare_field_names, compare_encodings, compare_fields, compare_field_sets};
+ghost use Rattle.rules.specs.Clauses.{compare_field_names, compare_encodings};
 ghost use Rattle.survivors.specs.Answers.{Among};
-ghost use Rattle.survivors.specs.Runs.{items_of};
 ghost use Rattle.details.specs.Details.{declaration_of};
 ghost use Rattle.lines.specs.Reports.{Reports};
-ghost use Rattle.items.specs.Items.{context_of, kept_at};
+ghost use Rattle.items.specs.Items.{kept_at};
 ghost use Rattle.items.specs.declared.Owner.{Owner};
 ghost use Rattle.clauses.specs.Fields.{same_coding};
+ghost use Rattle.clauses.specs.Pairs.{of_fields, of_field_sets};
 
 use crate::shared::{compare_deprecated, compare_types};
 use details::{Detail, Scope, Subject, Value, Verb, Word};
@@ -77,7 +77,7 @@ fn compare_encodings<'a>(r: &mut Report<'_>, scope: Scope<'a>, old: Field<'a>, n
 
 // Two fields under one ordinal.
 fn compare_fields<'a>(r: &mut Report<'_>, scope: Scope<'a>, old: Field<'a>, new: Field<'a>)
-    ensures { Reports r.old (compare_fields (context_of r.old.reading old.entry.item.image new.entry.item.image) (declaration_of scope.entry) (field_of old.entry) (field_of new.entry)) r.new }
+    ensures { Reports r.old (of_fields r.old.reading scope.entry old.entry new.entry) r.new }
 {
     let name = new.name();
     compare_names(r, scope, old, new);
@@ -115,7 +115,7 @@ pub(crate) fn compare_field_sets<'a>(
     new: Items<'a>,
 )
     requires { (old.shape ≡ Shape.Field) × (new.shape ≡ Shape.Field) }
-    ensures { Reports r.old (compare_field_sets (context_of r.old.reading old.entry.image new.entry.image) (declaration_of scope.entry) (items_of Shape.Field old.entry) (items_of Shape.Field new.entry)) r.new }
+    ensures { Reports r.old (of_field_sets r.old.reading scope.entry old.entry new.entry) r.new }
 {
     let pair = Pair::new(Owner::Fields(scope), old, new);
     unmatched_items(r, Side::Old, pair);

@@ -4,7 +4,7 @@ ghost use Rattle.survivors.specs.Answers.{Among};
 ghost use Rattle.lines.specs.Reports.{Reports};
 ghost use Rattle.items.specs.Items.{kept_at};
 ghost use Rattle.items.specs.declared.Owner.{Owner};
-ghost use Rattle.clauses.specs.Pairs.{of_unions};
+ghost use Rattle.clauses.specs.Pairs.{of_unions, of_variants};
 
 use crate::fields::compare_field_sets;
 use crate::tombstones::compare_last_in;
@@ -17,7 +17,16 @@ use members::handles::{Item, Variant};
 use members::kinds::Union;
 use survivors::standing::{standing_item, standing_items};
 
-// An old variant of the union of a name: its fields are compared, if a new one stands under its ordinal too.
+// Two variants under one ordinal, of the union of a name: their fields, and last their tombstones.
+fn compare_variants<'a>(r: &mut Report<'_>, union: &'a [u8], old: Variant<'a>, new: Variant<'a>)
+    ensures { Reports r.old (of_variants r.old.reading union.now old.entry new.entry) r.new }
+{
+    let scope = Scope::Variant(union, old.name());
+    compare_field_sets(r, scope, old.fields(), new.fields());
+    compare_last_in(r, scope, old, new);
+}
+
+// An old variant of the union of a name: compared, if a new one stands under its ordinal too.
 fn kept_variant<'a>(r: &mut Report<'_>, union: &'a [u8], pair: Pair<'a>, item: Item<'a>)
     requires { (pair.of ≡ Owner.Union union) × Among pair.old item }
     ensures { Reports r.old (kept_at r.old.reading pair.entry item.entry) r.new }
@@ -25,11 +34,7 @@ fn kept_variant<'a>(r: &mut Report<'_>, union: &'a [u8], pair: Pair<'a>, item: I
     let Some(found) = standing_item(pair.new, item.ordinal()) else {
         return;
     };
-    let old = Variant { item };
-    let new = Variant { item: found };
-    let scope = Scope::Variant(union, old.name());
-    compare_field_sets(r, scope, old.fields(), new.fields());
-    compare_last_in(r, scope, old, new);
+    compare_variants(r, union, Variant { item }, Variant { item: found });
 }
 
 // Two unions: variants removed, added, kept.

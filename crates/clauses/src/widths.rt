@@ -4,11 +4,10 @@ ghost use Rattle.rules.specs.Widths.{compare_widths};
 ghost use Rattle.lines.specs.Reports.{Reports};
 ghost use Rattle.clauses.specs.Pairs.{of_first};
 
-use details::{Detail, Scope, Subject, Value, Verb};
-use lines::{Report, Site};
+use details::{Scope, Subject, Value};
+use lines::{Reading, Report, Site};
 use parts::handles::Decl;
-use tally::{Bump, ChangeKind};
-use types::Reading;
+use tally::ChangeKind;
 
 // Two widths: as they are stored, or one has none.
 fn compare_stored(r: &mut Report<'_>, old: Decl<'_>, new: Decl<'_>)
@@ -19,17 +18,13 @@ fn compare_stored(r: &mut Report<'_>, old: Decl<'_>, new: Decl<'_>)
     if was == is {
         return;
     }
-    r.emit(Site {
-        kind: ChangeKind::WidthChanged,
-        bump: Bump::MAJOR,
-        scope: Scope::Decl(old.name()),
-        field: None,
-        detail: Detail {
-            subject: Subject::Width,
-            verb: Verb::Changed,
-            values: Some((Value::Width(was), Value::Width(is))),
-        },
-    });
+    r.emit(Site::changed(
+        ChangeKind::WidthChanged,
+        Scope::Decl(old.name()),
+        Subject::Width,
+        Value::Width(was),
+        Value::Width(is),
+    ));
 }
 
 // Two declarations of one kind, before their clause.

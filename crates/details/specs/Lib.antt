@@ -1,2 +1,2 @@
--- Details: the texts of a change's declaration, item and detail.
+-- Details: the texts of a change's declaration, field and detail.
 pub mod Details

@@ -1,11 +1,10 @@
-// The detail of a change, apart from its line: what the change is of, what happened to it, and the values that changed; and the other
-// texts of a line, its words and its names.
+// The detail of a change, apart from its line: what the change is of, what happened to it, and the values that changed; and the names of a
+// line.
 #![tactic(auto, using(text::proofs::Writers::after_after))]
 
 pub mod names;
 mod shown;
 mod subjects;
-pub mod words;
 
 ghost use Rattle.text.specs.Writers.{Adds};
 ghost use Rattle.details.specs.Details.{verb_text, detail_text};

@@ -9,10 +9,10 @@ ghost use Rattle.details.specs.Details.{value_text, values_text};
 
 use crate::Value;
 use crate::names::put_quoted;
-use crate::words::put_kind;
 use display::encodings::encoding_display;
 use display::namespaces::namespace_display;
 use display::type_display;
+use display::words::put_kind;
 use parts::handles::Image;
 use text::Writer;
 
@@ -39,7 +39,6 @@ fn put_width(w: &mut Writer<'_>, value: Option<u8>)
 }
 
 // The namespace in quotes.
-#[tactic(auto, using(text::proofs::Writers::after_after), unfolding(rules::specs::Clauses::show_namespace, rules::specs::Changes::quoted, image::specs::Words::bytes))]
 fn put_namespace(w: &mut Writer<'_>, image: Image<'_>)
     ensures { Adds w.old (show_namespace (schema_in image.entry).namespace) w.new }
 {

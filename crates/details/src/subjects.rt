@@ -4,8 +4,8 @@ ghost use Rattle.text.specs.Writers.{Adds};
 ghost use Rattle.details.specs.Details.{word_text, decl_text, newtype_text, field_name_text, at_text, ordinal_text, subject_text};
 
 use crate::names::put_quoted;
-use crate::words::put_kind;
 use crate::{Subject, Word};
+use display::words::put_kind;
 use parts::kinds::Kind;
 use text::Writer;
 

@@ -1,13 +1,15 @@
-// Words by their code or tag. Where there are many they stand in one text, a space after each: a table of references to words would be memory
+// Words by their code, tag or kind. Where there are many they stand in one text, a space after each: a table of references to words would be memory
 // that is written to when the library is loaded.
 ghost use Rattle.std.specs.Prelude.{[], ◌∷◌, ◌≡◌};
-ghost use Rattle.parts.specs.Numbers.{tag_number};
+ghost use Rattle.image.specs.Words.{kind_word};
+ghost use Rattle.parts.specs.Numbers.{kind_number, tag_number};
 ghost use Rattle.parts.specs.Promise.{coding_number};
 ghost use Rattle.rules.specs.Text.{word, primitive_word, semantic_word, opening};
 ghost use Rattle.text.specs.Writers.{Adds};
 ghost use Rattle.display.specs.Words.{word_in};
 
 use parts::Coding;
+use parts::kinds::Kind;
 use parts::tags::Tag;
 use text::Writer;
 
@@ -52,6 +54,7 @@ pub(crate) fn put_sign(w: &mut Writer<'_>, sign: u8)
 }
 
 // A coding, each by its own arm.
+#[tactic(auto, using(crate::proofs::Laws::Words::coding_told), unfolding(image::specs::Words::bytes))]
 pub(crate) fn put_coding(w: &mut Writer<'_>, coding: Coding)
     ensures { Adds w.old (word ("default" ∷ "varint" ∷ "zigzag" ∷ []) (coding_number coding)) w.new }
 {
@@ -59,6 +62,24 @@ pub(crate) fn put_coding(w: &mut Writer<'_>, coding: Coding)
         Coding::Default => w.text(b"default"),
         Coding::Varint => w.text(b"varint"),
         Coding::Zigzag => w.text(b"zigzag"),
+    }
+}
+
+// A kind of declaration, as `decl_kind_name` spells it, each by its own arm.
+#[tactic(auto, using(crate::proofs::Laws::Words::kind_told), unfolding(image::specs::Words::bytes))]
+pub fn put_kind(w: &mut Writer<'_>, kind: Kind)
+    ensures { Adds w.old (kind_word (kind_number kind)) w.new }
+{
+    match kind {
+        Kind::Message => w.text(b"message"),
+        Kind::Enum => w.text(b"enum"),
+        Kind::Flags => w.text(b"flags"),
+        Kind::Union => w.text(b"union"),
+        Kind::Newtype => w.text(b"newtype"),
+        Kind::Config => w.text(b"config"),
+        Kind::Alias => w.text(b"generic_alias"),
+        Kind::Trait => w.text(b"trait"),
+        Kind::Impl => w.text(b"impl"),
     }
 }
 

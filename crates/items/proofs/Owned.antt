@@ -10,7 +10,7 @@ use Rattle.members.specs.declared.handles.Items.{Items}
 use Rattle.rules.specs.Changes.{Change}
 use Rattle.rules.specs.Clauses.{Context}
 use Rattle.survivors.specs.Runs.{item_ordinal, item_map, items_of}
-use Rattle.types.specs.declared.Reading.{Reading}
+use Rattle.lines.specs.declared.Reading.{Reading}
 use Rattle.items.specs.Items.{context_of, kept_items, item_changes}
 use Rattle.items.specs.Owners.{shape_of, rules_of}
 use Rattle.items.specs.declared.Owner.{Owner}

@@ -12,7 +12,7 @@ use Rattle.std.specs.Option.{is_some}
 use Rattle.maps.proofs.Tests.{no_both}
 use Rattle.parts.specs.Promise.{ordinal_in}
 use Rattle.rules.specs.Changes.{Change}
-use Rattle.types.specs.declared.Reading.{Reading}
+use Rattle.lines.specs.declared.Reading.{Reading}
 use Rattle.members.specs.Handles.{places_of}
 use Rattle.members.specs.declared.places.Places.{Places}
 use Rattle.members.specs.declared.handles.Items.{Items}

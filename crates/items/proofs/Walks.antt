@@ -10,7 +10,7 @@ use Rattle.parts.specs.Promise.{ItemOf}
 use Rattle.members.specs.declared.handles.Items.{Items}
 use Rattle.members.specs.declared.handles.Item.{Item}
 use Rattle.rules.specs.Changes.{Change}
-use Rattle.types.specs.declared.Reading.{Reading}
+use Rattle.lines.specs.declared.Reading.{Reading}
 use Rattle.survivors.specs.Answers.{ordinal_at, Among, StandsIn, NextItem}
 use Rattle.survivors.specs.declared.standing.StandingItems.{StandingItems}
 use Rattle.survivors.specs.Runs.{item_of, item_ordinal, items_of}

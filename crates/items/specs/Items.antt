@@ -11,8 +11,8 @@ use Rattle.rules.specs.Changes.{Change}
 use Rattle.rules.specs.Clauses.{Context, context}
 use Rattle.survivors.specs.Answers.{ordinal_at}
 use Rattle.survivors.specs.Runs.{item_of, item_ordinal, item_map, items_of}
-use Rattle.types.specs.Readings.{reading_of}
-use Rattle.types.specs.declared.Reading.{Reading}
+use Rattle.lines.specs.Readings.{reading_of}
+use Rattle.lines.specs.declared.Reading.{Reading}
 use Rattle.items.specs.Owners.{shape_of, rules_of}
 use Rattle.items.specs.Sides.{on, off}
 use Rattle.items.specs.declared.Side.{Side}

@@ -7,7 +7,7 @@ use Rattle.text.proofs.Writers.{after_after}
 use Rattle.rules.specs.Changes.{Change}
 use Rattle.tally.specs.Tallies.{tally_from, lines_of}
 use Rattle.tally.proofs.Totals.{tally_append, lines_append}
-use Rattle.types.specs.declared.Reading.{Reading}
+use Rattle.lines.specs.declared.Reading.{Reading}
 use Rattle.lines.specs.Reports.{writer_of, with_text, reported, Reports}
 use Rattle.lines.specs.declared.Report.{Report}
 

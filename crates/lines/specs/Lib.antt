@@ -1,6 +1,5 @@
--- Sites: the change that a site stands for. Tombstones: a number that was struck off, and its change. Last: the last line, of a tally.
--- Reports: a report after changes.
+-- Readings: how two images are read. Sites: the change that a site stands for. Last: the last line, of a tally. Reports: a report after changes.
+pub mod Readings
 pub mod Sites
-pub mod Tombstones
 pub mod Last
 pub mod Reports

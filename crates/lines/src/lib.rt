@@ -1,23 +1,17 @@
-// Changes and their lines: what a line shows, and the report, the one place where a change is counted and its line written; and the changes
-// of numbers that were struck off.
+// Changes and their lines: what a line shows, and the report, the one place where a change is counted and its line written.
 #![tactic(auto)]
 
 mod reporting;
-mod tombstones;
 pub mod words;
 
 ghost use Rattle.std.specs.Prelude.{◌≡◌, [], ◌∷◌};
 ghost use Rattle.tally.specs.Tallies.{no_change};
-ghost use Rattle.details.specs.Details.{declaration_of};
-ghost use Rattle.lines.specs.Sites.{change_of};
-ghost use Rattle.lines.specs.Tombstones.{tombstone_change};
+ghost use Rattle.lines.specs.Sites.{change_of, value_changed};
 ghost use Rattle.lines.specs.Reports.{buffer_of, with_text, Reports, Ends};
 
 use crate::reporting::{Line, line_into};
-use crate::tombstones::tombstone;
-use details::{Detail, Scope};
+use details::{Detail, Scope, Subject, Value, Verb};
 use tally::{Bump, ChangeKind, Tally};
-use types::Reading;
 
 // A change: its kind and weight, and what its line shows.
 #[derive(Clone, Copy)]
@@ -29,11 +23,37 @@ pub struct Site<'a> {
     pub detail: Detail<'a>,
 }
 
-// What became of a number that was struck off.
-#[derive(Clone, Copy)]
-pub enum Fate {
-    Reused,
-    Dropped,
+impl<'a> Site<'a> {
+    // Of what a scope names, or of something in it: it changed from one value to another. Major, and without a field.
+    #[tactic(auto, unfolding(details::specs::Details::detail_text, image::specs::Words::bytes))]
+    pub fn changed(
+        kind: ChangeKind,
+        scope: Scope<'a>,
+        subject: Subject<'a>,
+        was: Value<'a>,
+        is: Value<'a>,
+    ) -> Site<'a>
+        ensures { change_of result ≡ value_changed kind scope.entry subject.entry was.entry is.entry }
+    {
+        Site {
+            kind,
+            bump: Bump::MAJOR,
+            scope,
+            field: None,
+            detail: Detail {
+                subject,
+                verb: Verb::Changed,
+                values: Some((was, is)),
+            },
+        }
+    }
+}
+
+// How two images are read, as document 01 says, or mended: when their types are equal, and whether widths and tombstones are reported.
+#[derive(Clone, Copy, Debug, PartialEq, Eq)]
+pub enum Reading {
+    Plain,
+    Mended,
 }
 
 // The report so far: its lines, as far as the buffer reaches, how long they are, and the tally of their changes; and how the images are
@@ -69,13 +89,6 @@ impl Report<'_> {
     {
         self.put(site);
         self.tally = self.tally.with_change(site.kind, site.bump);
-    }
-
-    // Of a number that was struck off in what a scope names: what became of it.
-    pub fn emit_tombstone(&mut self, fate: Fate, scope: Scope<'_>, number: u32)
-        ensures { Reports self.old (tombstone_change fate (declaration_of scope.entry) number ∷ []) self.new }
-    {
-        self.emit(tombstone(fate, scope, number));
     }
 
     // "Last line, in the same way: result, bump, number of changes."

@@ -34,6 +34,7 @@ pub fn put_change(w: &mut Writer<'_>, kind: ChangeKind)
     }
 }
 
+#[tactic(auto, using(crate::proofs::Arms::bump_told), unfolding(image::specs::Words::bytes))]
 pub fn put_bump(w: &mut Writer<'_>, bump: Bump)
     ensures { Adds w.old (bump_word (level_of bump)) w.new }
 {
@@ -44,6 +45,7 @@ pub fn put_bump(w: &mut Writer<'_>, bump: Bump)
     }
 }
 
+#[tactic(auto, using(crate::proofs::Arms::result_told), unfolding(image::specs::Words::bytes))]
 pub fn put_compat(w: &mut Writer<'_>, of: CompatResult)
     ensures { Adds w.old (result_word (result_number of)) w.new }
 {

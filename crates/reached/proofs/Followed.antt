@@ -10,13 +10,13 @@ use lib.Dec.{eqb}
 use lib.ListN.{length, set, take, replicate, length-replicate, length-set}
 use lib.Seq.{length-take-le, get_or-set_other, get_or-take, ext_get_or}
 use Rattle.std.specs.Prelude.{Option, None, Some}
-use Rattle.maps.specs.Lists.{total, count}
+use Rattle.maps.specs.Lists.{total, count, among}
 use Rattle.maps.proofs.Tests.{no_both, both}
 use Rattle.parts.specs.Handles.{schema_in}
 use Rattle.parts.specs.declared.handles.Image.{Image}
 use Rattle.parts.proofs.Promise.{accepted_read}
 use Rattle.rules.specs.Survivors.{stands_for, view_of}
-use Rattle.rules.specs.Reached.{named_by, named_from, member, resolvable, IdSet, has, reached_set}
+use Rattle.rules.specs.Reached.{named_by, named_from, resolvable, IdSet, has, reached_set}
 use Rattle.rules.proofs.Held.{accepted_held}
 use Rattle.rules.proofs.ReachedSets.{below_has, no_marks_lem, mark_all_below, mark_all_has}
 use Rattle.rules.proofs.Reached.{resolvable_in, Within, within_marks, within_first, first_marks, Least, least_is, reached_is, reached_resolvable}
@@ -84,7 +84,7 @@ pub record Following (x : Image) (m f : IdSet) : Type 0 where
   -- all marks are of reached ids
   pub within : Within (schema_in x) m
   -- what is named by a followed entry is marked
-  pub closed : (via id : ℕ) → has f via ≡ true → member id (named_by (stands_for (schema_in x).registry via)) ≡ true
+  pub closed : (via id : ℕ) → has f via ≡ true → among id (named_by (stands_for (schema_in x).registry via)) ≡ true
       → resolvable (schema_in x).registry id ≡ true → has m id ≡ true
 
 module _ {x : Image} {m f : IdSet} (w : Following x m f) {n : ℕ} (e : n ≡ length (schema_in x).registry) where
@@ -121,11 +121,11 @@ module _ {x : Image} {m f : IdSet} (w : Following x m f) {n : ℕ} (e : n ≡ le
           inside id r = omega (arith, resolvable_in (schema_in x).registry id r, w.started.ready.room)
 
           closing : (via id : ℕ) (c : Bool) → eqb via i ≡ c → has (set f i true) via ≡ true
-              → member id (named_by (stands_for (schema_in x).registry via)) ≡ true → resolvable (schema_in x).registry id ≡ true → has m' id ≡ true
+              → among id (named_by (stands_for (schema_in x).registry via)) ≡ true → resolvable (schema_in x).registry id ≡ true → has m' id ≡ true
           closing via id true q h k r =
               subst (λ y. has y id ≡ true) (sym d.is)
               (mark_all_has (schema_in x).registry m (named_by (stands_for (schema_in x).registry i)) id
-              (subst (λ y. member id (named_by (stands_for (schema_in x).registry y)) ≡ true) (eqb-true via i q) k) r (inside id r))
+              (subst (λ y. among id (named_by (stands_for (schema_in x).registry y)) ≡ true) (eqb-true via i q) k) r (inside id r))
           closing via id false q h k r = kept id (w.closed via id (has_other f i via q h) k r)
 
     -- the end

@@ -19,7 +19,7 @@ use Rattle.parts.specs.Handles.{schema_in, decl_of, label_of, Resolves, TypeAt}
 use Rattle.parts.specs.declared.handles.Image.{Image}
 use Rattle.parts.specs.declared.handles.Decl.{Decl}
 use Rattle.parts.specs.declared.handles.TypeRef.{TypeRef}
-use Rattle.parts.proofs.Tagged.{same_tag}
+use Rattle.parts.proofs.Promise.{same_tag}
 use Rattle.rules.specs.Survivors.{stands_for}
 use Rattle.rules.specs.Reached.{named_label, named_in, resolvable, IdSet, mark, mark_all}
 use Rattle.rules.proofs.ReachedSets.{below_length, mark_all_below}

@@ -2,12 +2,13 @@
 use Rattle.std.specs.Prelude.{◌≡◌, Bool, true, false, List, ℕ, ◌≤◌, ◌<◌, length, take, Option, None, Some, IfSome}
 use Rattle.maps.specs.Keyed.{lookup}
 use Rattle.maps.specs.Orders.{before}
+use Rattle.maps.specs.Lists.{among}
 use Rattle.parts.specs.Promise.{tree_in, type_end}
 use Rattle.parts.specs.Handles.{schema_in, decl_of}
 use Rattle.parts.specs.declared.handles.Image.{Image}
 use Rattle.parts.specs.declared.handles.Decl.{Decl}
 use Rattle.rules.specs.Survivors.{name_of, declarations, view_of}
-use Rattle.rules.specs.Reached.{named_in, named_from, member, resolvable, IdSet, has, mark_all, reached_set}
+use Rattle.rules.specs.Reached.{named_in, named_from, resolvable, IdSet, has, mark_all, reached_set}
 use Rattle.survivors.specs.Answers.{standing_of}
 use Rattle.survivors.specs.declared.decls.Declarations.{Declarations}
 use Rattle.survivors.specs.declared.decls.StandingDecls.{StandingDecls}
@@ -29,7 +30,7 @@ pub record TypeMarked (i : Image) (at : ℕ) (m : IdSet) (r : ℕ) (n : IdSet) :
 -- what the survivors name is marked
 pub record Started (i : Image) (m : IdSet) : Type 0 where
   pub ready : Ready i m
-  pub first : (id : ℕ) → member id (named_from (view_of (schema_in i))) ≡ true → resolvable (schema_in i).registry id ≡ true → has m id ≡ true
+  pub first : (id : ℕ) → among id (named_from (view_of (schema_in i))) ≡ true → resolvable (schema_in i).registry id ≡ true → has m id ≡ true
 
 -- the listed declarations: those that stand among them are the survivors
 pub record Listed (i : Image) (ds : Declarations) : Type 0 where

@@ -1,3 +1,2 @@
--- Laws: what the proofs of the functions rest on. Besides: what the readings report besides the clauses.
+-- Laws: what the proofs of the functions rest on.
 pub mod Laws
-pub mod Besides

@@ -1,4 +1,4 @@
-// How alike two types are, each at its place in its own image, and whether they are read as equal.
+// How alike two types are, each at its place in its own image.
 ghost use Rattle.std.specs.Prelude.{◌≡◌};
 ghost use Rattle.parts.specs.Codes.{number, sub_byte_tag};
 ghost use Rattle.parts.specs.Handles.{label_of};
@@ -7,10 +7,8 @@ ghost use Rattle.rules.specs.Types.{same_label};
 ghost use Rattle.rules.specs.Mended.{likeness};
 ghost use Rattle.types.specs.Resolved.{named_by, node_of, resolved};
 ghost use Rattle.types.specs.Likeness.{same_codes, likeness_of, After, Compares};
-ghost use Rattle.types.specs.Readings.{reads_alike, reading_of};
 
-use crate::Reading;
-use crate::likeness::{Likeness, joined, of_tag, read_as};
+use crate::likeness::{Likeness, joined, of_tag};
 use crate::names::same_names;
 use crate::nodes::inner_types;
 use parts::handles::{Image, TypeRef};
@@ -45,7 +43,6 @@ fn sub_bytes_equal(a: TypeRef<'_>, b: TypeRef<'_>) -> bool
 }
 
 // Whether two nodes are the same but for their inner types. Vectors, quaternions and matrices are compared like the others.
-#[tactic(auto, using(crate::proofs::Laws::Labels::labels))]
 fn labels_equal(a: TypeRef<'_>, b: TypeRef<'_>) -> bool
     ensures { result ≡ same_label (node_of a.entry) (node_of b.entry) }
 {
@@ -112,23 +109,4 @@ pub fn types_likeness(a: TypeRef<'_>, b: TypeRef<'_>) -> Likeness
         Some(compared) => compared.likeness,
         None => Likeness::Different,
     }
-}
-
-// How the third answer is read. A reading more is a case more.
-#[tactic(auto, unfolding(crate::specs::Readings::reads_alike))]
-fn reads_alike(reading: Reading) -> bool
-    ensures { result ≡ reads_alike reading }
-{
-    match reading {
-        Reading::Plain => false,
-        Reading::Mended => true,
-    }
-}
-
-// Whether two types are equal, as they are read.
-#[tactic(auto, using(crate::proofs::Laws::Readings::read))]
-pub fn types_equal(reading: Reading, a: TypeRef<'_>, b: TypeRef<'_>) -> bool
-    ensures { result ≡ (reading_of reading).same (resolved a.entry) (resolved b.entry) }
-{
-    read_as(reads_alike(reading), types_likeness(a, b))
 }

@@ -37,7 +37,7 @@ pub(crate) fn joined(first: Likeness, rest: Likeness) -> Likeness
 
 // Whether types are read as equal; `third` says how the third answer is read.
 #[tactic(auto, unfolding(rules::specs::Mended::read_as, crate::specs::Likeness::likeness_of))]
-pub(crate) fn read_as(third: bool, likeness: Likeness) -> bool
+pub fn read_as(third: bool, likeness: Likeness) -> bool
     ensures { result ≡ read_as third (likeness_of likeness) }
 {
     match likeness {

@@ -2,7 +2,6 @@
 use Rattle.std.proofs.Common.{not, refl, sym, ap, ◌∙◌}
 use Rattle.image.specs.Words.{bytes}
 use Rattle.rules.specs.Clauses.{compare_namespaces}
-use Rattle.details.specs.Details.{detail_text}
 use Rattle.clauses.proofs.Told.{silent, told}
 use Rattle.checking.proofs.compare_namespaces.Goals as goal
 
@@ -11,5 +10,5 @@ unfolding compare_namespaces
 returns-then-namespaces_equal c = silent _ (ap not (sym c.namespaces_equal.ensures ∙ c.if-namespaces_equal.true))
 
 pub returns : goal.returns
-unfolding compare_namespaces detail_text bytes
-returns c = told _ (ap not (sym c.namespaces_equal.ensures ∙ c.if-namespaces_equal.false)) refl c.emit.ensures
+unfolding compare_namespaces bytes
+returns c = told _ (ap not (sym c.namespaces_equal.ensures ∙ c.if-namespaces_equal.false)) c.changed.ensures c.emit.ensures

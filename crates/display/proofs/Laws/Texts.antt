@@ -19,7 +19,7 @@ use Rattle.parts.specs.declared.handles.Image.{Image}
 use Rattle.parts.specs.declared.handles.Decl.{Decl}
 use Rattle.parts.specs.declared.handles.TypeRef.{TypeRef}
 use Rattle.parts.specs.declared.Encoding.{Encoding}
-use Rattle.parts.proofs.Tagged.{same_tag, past_codes}
+use Rattle.parts.proofs.Promise.{same_tag, past_codes}
 use Rattle.rules.specs.Types.{resolve}
 use Rattle.text.specs.Decimal.{decimal}
 use Rattle.text.specs.Writers.{Adds}

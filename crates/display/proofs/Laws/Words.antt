@@ -10,7 +10,14 @@ use borrow.Author.Tests.{ne_eqb, not-true}
 use lib.Dec.{eqb}
 use lib.ListN.{length, get_or, drop, drop_of_length-le}
 use lib.Seq.{drop-cons}
-use Rattle.image.specs.Words.{bytes}
+use Rattle.image.specs.Words.{bytes, kind_word}
+use Rattle.parts.specs.Kinds.{kind_of}
+use Rattle.image.specs.declared.kinds.Kind.{Kind}
+use Rattle.image.specs.declared.kinds.Kind.TheVariants as kind
+use Rattle.parts.specs.Numbers.{kind_number}
+use Rattle.parts.specs.Promise.{coding_number}
+use Rattle.parts.specs.declared.Coding.{Coding}
+use Rattle.parts.specs.declared.Coding.TheVariants as coding
 use Rattle.maps.proofs.Tests.{both}
 use Rattle.rules.specs.Text.{word}
 use Rattle.text.specs.Writers.{after}
@@ -119,3 +126,39 @@ table_word (w ∷ ws) h (suc n) =
 
 pub words_are : (text : List ℕ) (ws : List String) → text ≡ table ws → whole_words ws ≡ true → (n : ℕ) → word_in text n ≡ word ws n
 words_are text ws e h n = rw e (table_word ws h n)
+
+-- ---- words that the code writes each by its own arm
+
+abbrev coding_text : Coding → List ℕ
+coding_text coding.Default = bytes "default"
+coding_text coding.Varint = bytes "varint"
+coding_text coding.Zigzag = bytes "zigzag"
+
+pub coding_told : (c : Coding) → word ("default" ∷ "varint" ∷ "zigzag" ∷ []) (coding_number c) ≡ coding_text c
+unfolding word
+coding_told coding.Default = refl
+coding_told coding.Varint = refl
+coding_told coding.Zigzag = refl
+
+abbrev kind_text : Kind → List ℕ
+kind_text kind.Message = bytes "message"
+kind_text kind.Enum = bytes "enum"
+kind_text kind.Flags = bytes "flags"
+kind_text kind.Union = bytes "union"
+kind_text kind.Newtype = bytes "newtype"
+kind_text kind.Config = bytes "config"
+kind_text kind.Alias = bytes "generic_alias"
+kind_text kind.Trait = bytes "trait"
+kind_text kind.Impl = bytes "impl"
+
+pub kind_told : (k : Kind) → kind_word (kind_number k) ≡ kind_text k
+unfolding kind_word kind_of
+kind_told kind.Message = refl
+kind_told kind.Enum = refl
+kind_told kind.Flags = refl
+kind_told kind.Union = refl
+kind_told kind.Newtype = refl
+kind_told kind.Config = refl
+kind_told kind.Alias = refl
+kind_told kind.Trait = refl
+kind_told kind.Impl = refl

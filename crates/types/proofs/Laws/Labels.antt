@@ -13,7 +13,7 @@ use Rattle.image.specs.declared.tags.Tag.{Tag}
 use Rattle.image.specs.declared.tags.Tag.TheVariants as tag
 use Rattle.maps.proofs.Tests.{both}
 use Rattle.parts.specs.Promise.{LabelHere, label_in, Regular}
-use Rattle.parts.proofs.Promise.{label_regular, type_label}
+use Rattle.parts.proofs.Promise.{label_regular, type_label, same_tag, past_codes}
 use Rattle.parts.specs.Numbers.{tag_number}
 use Rattle.parts.specs.Handles.{decl_of, Resolves}
 use Rattle.parts.specs.declared.handles.Image.{Image}
@@ -25,7 +25,6 @@ use Rattle.rules.specs.Types.{name_or_none, resolve_label, same_label}
 use Rattle.rules.proofs.Types.{tag_resolved}
 use Rattle.types.specs.Resolved.{named_by, node_in}
 use Rattle.types.proofs.Laws.Names.{bytes}
-use Rattle.parts.proofs.Tagged.{same_tag, past_codes}
 
 -- ---- with the name in the place of the id
 
@@ -185,6 +184,3 @@ module _ (s : List ℕ) (i : ℕ) (t : List ℕ) (j : ℕ) (x y : Tag) (p : tag_
           let l = past_codes x a b c d in
           sym (as_they_are (λ z. absurd (omega arith))
           ∙ nothing_more _ _ (label_regular s i g) (label_regular t j h) tags (omega arith) (λ z. f (same_tag x tag.FixedArray (p ∙ z))) (λ z. k (same_tag x tag.Bits (p ∙ z))))
-
--- what the code needs
-pub ruleset labels = (by_name, by_primitive, by_semantic, by_size, by_numbers, by_names, by_tag, type_label)

@@ -3,7 +3,7 @@ use Rattle.std.proofs.Common.{sym, ap, ◌∙◌}
 use denote.Enum.Bare.{differs_true, differs_false}
 use Rattle.image.specs.contracts.kinds.Kind.{the_type}
 use Rattle.parts.specs.Numbers.{kind_number}
-use Rattle.checking.proofs.KindNumbers.{same_kind}
+use Rattle.parts.proofs.Promise.{same_kind}
 use Rattle.checking.proofs.Compared.{kinds_differ, agree_reports}
 use Rattle.checking.proofs.decls.compare_decls.Goals as goal
 

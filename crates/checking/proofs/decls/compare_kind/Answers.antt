@@ -4,7 +4,7 @@ use Rattle.parts.specs.Kinds.{kind_of}
 use Rattle.rules.specs.Clauses.{compare_kind}
 use Rattle.lines.proofs.Reports.{reports_none}
 use Rattle.image.specs.declared.kinds.Kind.TheVariants as kind
-use Rattle.checking.proofs.KindNumbers.{same_kind}
+use Rattle.parts.proofs.Promise.{same_kind}
 use Rattle.checking.proofs.Compared.{kind_reports, no_clause}
 use Rattle.checking.proofs.decls.compare_kind.Goals as goal
 

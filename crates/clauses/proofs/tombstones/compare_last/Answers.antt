@@ -1,5 +1,5 @@
 -- `clauses::tombstones::compare_last` meets its contract, by the reading. Assumes nothing.
-use Rattle.types.proofs.Besides.{none_last, mended_last}
+use Rattle.clauses.proofs.Readings.{none_last, mended_last}
 use Rattle.lines.proofs.Reports.{reports_none, reports_as}
 use Rattle.clauses.proofs.tombstones.compare_last.Goals as goal
 

@@ -1,6 +1,6 @@
 -- `clauses::tombstones::compare_last_in` meets its contract, by the reading. Assumes nothing.
 use Rattle.std.proofs.Common.{◌∙◌}
-use Rattle.types.proofs.Besides.{none_last_in, mended_last_in}
+use Rattle.clauses.proofs.Readings.{none_last_in, mended_last_in}
 use Rattle.lines.proofs.Reports.{reports_none, reports_as}
 use Rattle.clauses.proofs.Bodies.{variants_told}
 use Rattle.clauses.proofs.tombstones.compare_last_in.Goals as goal

@@ -6,4 +6,4 @@ use Rattle.clauses.proofs.tombstones.compare_numbers.Given as goal
 abbrev pub invariant-loop-number : goal.invariant-loop-number
 invariant-loop-number l =
     (goal.iterator-loop-number).can_next l.number-iterator × (goal.iterator-loop-number).is_finite l.number-iterator
-    × Telling l.fate (declaration_of l.scope) l.struck l.new l.still l.initial.r l.r l.number-iterator
+    × Telling l.change (declaration_of l.scope) l.struck l.new l.still l.initial.r l.r l.number-iterator

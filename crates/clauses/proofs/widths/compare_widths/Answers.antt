@@ -1,5 +1,5 @@
 -- `clauses::widths::compare_widths` meets its contract, by the reading. Assumes nothing.
-use Rattle.types.proofs.Besides.{none_first, mended_first}
+use Rattle.clauses.proofs.Readings.{none_first, mended_first}
 use Rattle.lines.proofs.Reports.{reports_none, reports_as}
 use Rattle.clauses.proofs.widths.compare_widths.Goals as goal
 

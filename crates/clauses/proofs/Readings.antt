@@ -1,13 +1,22 @@
--- What the code's readings report besides the clauses: the mended one reports widths first and tombstones last, and the plain one nothing.
--- Assumes nothing.
-use mathlib.Core.Path.{◌≡◌}
+-- What the code's readings make of types that are alike, and what they report besides the clauses: the mended one reports widths first and
+-- tombstones last, and the plain one nothing. Assumes nothing.
+use mathlib.Core.Path.{◌≡◌, refl, sym}
 use mathlib.Core.List.{[]}
-use Rattle.image.specs.Schema.{Name, Variant, Decl}
+use Rattle.image.specs.Schema.{Name, Ty, Variant, Decl}
 use Rattle.rules.specs.Widths.{compare_widths}
 use Rattle.rules.specs.Tombstones.{compare_last, compare_last_in}
-use Rattle.types.specs.Readings.{reading_of}
-use Rattle.types.specs.declared.Reading.{Reading}
-use Rattle.types.specs.declared.Reading.TheVariants.{Plain, Mended}
+use Rattle.rules.specs.Mended.{likeness, read_as, mended_type}
+use Rattle.rules.proofs.Mended.{three_answers}
+use Rattle.lines.specs.Readings.{reading_of}
+use Rattle.lines.specs.declared.Reading.{Reading}
+use Rattle.lines.specs.declared.Reading.TheVariants.{Plain, Mended}
+use Rattle.clauses.specs.Readings.{reads_alike}
+
+-- document 01 reads the third answer as different, and the mended verdict as equal
+pub read : (reading : Reading) (t u : Ty) → read_as (reads_alike reading) (likeness t u) ≡ (reading_of reading).same t u
+unfolding reads_alike reading_of mended_type
+read Plain t u = sym (three_answers t u).plainly
+read Mended t u = refl
 
 module _ {r : Reading} (p : r ≡ Plain) where
   pub none_first : (d e : Decl) → (reading_of r).first d e ≡ []
