@@ -58,53 +58,49 @@ module _ {A : Type 0} {j : Result A Found} {o : Option Fault} (e : fault_of j �
 
 -- ---- one image
 
-module _ (p : Policy) (side : Side) (s : List ℕ) {q : Result Image Refusal} (a : Reads s q) where
+module _ (side : Side) (s : List ℕ) {q : Result Image Refusal} (a : Reads s q) where
   module _ {i : Image} (e : q ≡ Ok i) where
     own : i.bytes.now ≡ s
     own = read_bytes a e
 
-    judged_in : on_side (side_number side) ((policy_of p).alone (schema_in i)) ≡ fault_in (policy_of p) (side_number side) s
-    judged_in = rw (← own) (accepted_fault (policy_of p) (side_number side) i.bytes.now (accepted_read i.bytes.now i.accepted).1)
+    passes : (p : Policy) → None ≡ fault_in (policy_of p) (side_number side) s
+    unfolding policy_of on_side
+    passes p = rw (← own) (accepted_fault (policy_of p) (side_number side) i.bytes.now (accepted_read i.bytes.now i.accepted).1)
 
-    module _ {j : Result ⊤ Found} (h : fault_of j ≡ on_side (side_number side) ((policy_of p).alone (schema_in i))) where
-      pub accepts : {u : ⊤} → j ≡ Ok u → Accepts p (side_number side) s (Ok i)
-      unfolding fault_of
-      accepts k = record { fault = sym (ap fault_of k) ∙ h ∙ judged_in; bytes = own }
+    pub accepts : Accepts (side_number side) s (Ok i)
+    unfolding fault_of
+    accepts = record { fault = passes; bytes = own }
 
-      pub fails_alone : {f : Found} → j ≡ Err f → Accepts p (side_number side) s (Err f)
-      unfolding fault_of
-      fails_alone k = record { fault = sym (ap fault_of k) ∙ h ∙ judged_in; bytes = tt }
-
-  pub refuses : {k : Refusal} → q ≡ Err k → Accepts p (side_number side) s (Err (record { refusal = k; side = side }))
+  pub refuses : {k : Refusal} → q ≡ Err k → Accepts (side_number side) s (Err (record { refusal = k; side = side }))
   unfolding fault_of
   refuses e = record {
-    fault = rejected_fault (policy_of p) (side_number side) s (read_no a e);
+    fault = λ p. rejected_fault (policy_of p) (side_number side) s (read_no a e);
     bytes = tt;
   }
 
 -- ---- two images
 
 module _ (p : Policy) (old new : List ℕ) where
-  module _ {j : Result Image Found} (a : Accepts p (number old_side) old j) where
+  module _ {j : Result Image Found} (a : Accepts (number old_side) old j) where
     pub old_refused_lem : {f : Found} → j ≡ Err f → outcome_by p (Err f) ≡ outcome (policy_of p) old new
     unfolding fault_of
-    old_refused_lem q = sym (old_fault (policy_of p) old new (sym a.fault ∙ ap fault_of q))
+    old_refused_lem q = sym (old_fault (policy_of p) old new (sym (a.fault p) ∙ ap fault_of q))
 
     module _ {i : Image} (e : j ≡ Ok i) where
       old_passes : (x : Schema) × Passes (policy_of p) old x
-      old_passes = no_fault (policy_of p) (number old_side) old (says_none a.fault e)
+      old_passes = no_fault (policy_of p) (number old_side) old (says_none (a.fault p) e)
 
       old_bytes : i.bytes.now ≡ old
       old_bytes = rw e at a.bytes
 
-      module _ {k : Result Image Found} (b : Accepts p (number new_side) new k) where
+      module _ {k : Result Image Found} (b : Accepts (number new_side) new k) where
         pub new_refused_lem : {f : Found} → k ≡ Err f → outcome_by p (Err f) ≡ outcome (policy_of p) old new
         unfolding fault_of
-        new_refused_lem q = sym (new_fault (policy_of p) old new old_passes.1 (sym b.fault ∙ ap fault_of q))
+        new_refused_lem q = sym (new_fault (policy_of p) old new old_passes.1 (sym (b.fault p) ∙ ap fault_of q))
 
         module _ {n : Image} (f : k ≡ Ok n) where
           new_passes : (y : Schema) × Passes (policy_of p) new y
-          new_passes = no_fault (policy_of p) (number new_side) new (says_none b.fault f)
+          new_passes = no_fault (policy_of p) (number new_side) new (says_none (b.fault p) f)
 
           new_bytes : n.bytes.now ≡ new
           new_bytes = rw f at b.bytes

@@ -14,7 +14,7 @@ use Rattle.rules.specs.Answer.{compared}
 use Rattle.tally.specs.Tallies.{no_change, lines_of, TallyOf}
 use Rattle.tally.specs.declared.Tally.{Tally}
 use Rattle.tally.proofs.Totals.{lines_many, tally_of}
-use Rattle.types.specs.declared.Reading.{Reading}
+use Rattle.lines.specs.declared.Reading.{Reading}
 use Rattle.lines.specs.Reports.{writer_of, with_text, reported, Reports, Ends}
 use Rattle.lines.specs.declared.Report.{Report}
 use Rattle.lines.proofs.Lines.{last_line_lem}
@@ -22,7 +22,6 @@ use Rattle.lines.proofs.Reports.{reports_as}
 use Rattle.checking.specs.Decls.{all_changes}
 use Rattle.verdicts.specs.Verdicts.{answer_values, of_tally, outcome_values}
 use Rattle.verdicts.specs.declared.Verdict.{Verdict}
-use Rattle.compat.specs.Policies.{reading_in}
 use Rattle.compat.specs.Passes.{Passed}
 use Rattle.compat.specs.Pairs.{changes_of}
 use Rattle.compat.specs.declared.prepared.Prepared.{Prepared}
@@ -65,7 +64,7 @@ module _ {a b : Report} {cs : List Change} (none : a.tally ≡ no_change) (small
 -- ---- by the reading of a policy
 
 module _ (k : Prepared) {a b c : Report}
-    (e : a.reading ≡ reading_in k.policy) (none : a.tally ≡ no_change) (h : Reports a (all_changes a.reading k.old k.new) b) (l : Ends b c) where
+    (e : a.reading ≡ k.policy.reading) (none : a.tally ≡ no_change) (h : Reports a (all_changes a.reading k.old k.new) b) (l : Ends b c) where
   by_policy : Reports a (changes_of k) b
   by_policy = reports_as (sym (policy_changes k) ∙ ap (λ (r : Reading). all_changes r k.old k.new) (sym e)) h
 

@@ -9,11 +9,11 @@ ghost use Rattle.std.specs.Prelude.{◌≡◌, ◌≤◌, length, take, Ok};
 ghost use Rattle.parts.specs.Numbers.{side_number};
 ghost use Rattle.rules.specs.Answer.{compared, outcome};
 ghost use Rattle.verdicts.specs.Verdicts.{answer_values, outcome_values};
-ghost use Rattle.compat.specs.Policies.{policy_of, pair_outcome, outcome_by, Accepts};
+ghost use Rattle.compat.specs.Policies.{policy_of, pair_outcome, Accepts, AcceptsBoth};
 ghost use Rattle.compat.specs.Pairs.{changes_of, outcome_of};
 ghost use Rattle.compat.specs.Passes.{Passed, Written, Reported};
 
-use crate::policies::{Policy, ids_of, judge_alone, judge_pair, reading_of};
+use crate::policies::{Policy, ids_of, judge_pair};
 use crate::prepared::Prepared;
 use checking::check;
 use lines::Report;
@@ -29,29 +29,22 @@ const FULL: Fault = Fault {
     side: Side::Both,
 };
 
-// The image that bytes are: 1 to 10, and then the check of one image.
-fn accept(policy: Policy, bytes: &[u8], side: Side) -> Result<Image<'_>, Fault>
-    ensures { Accepts policy (side_number side) bytes.now result }
+// The image that bytes are: 1 to 10.
+fn accept(bytes: &[u8], side: Side) -> Result<Image<'_>, Fault>
+    ensures { Accepts (side_number side) bytes.now result }
 {
     match Image::read(bytes) {
-        Ok(image) => {
-            judge_alone(policy, image, side)?;
-            Ok(image)
-        }
+        Ok(image) => Ok(image),
         Err(refusal) => Err(Fault { refusal, side }),
     }
 }
 
 // The two images: "old before new".
-fn accept_both<'a>(
-    policy: Policy,
-    old: &'a [u8],
-    new: &'a [u8],
-) -> Result<(Image<'a>, Image<'a>), Fault>
-    ensures { outcome_by policy result ≡ outcome (policy_of policy) old.now new.now }
+fn accept_both<'a>(old: &'a [u8], new: &'a [u8]) -> Result<(Image<'a>, Image<'a>), Fault>
+    ensures { AcceptsBoth old.now new.now result }
 {
-    let first = accept(policy, old, Side::Old)?;
-    let second = accept(policy, new, Side::New)?;
+    let first = accept(old, Side::Old)?;
+    let second = accept(new, Side::New)?;
     Ok((first, second))
 }
 
@@ -71,7 +64,7 @@ fn marked<'a>(image: Image<'a>, ids: &'a Reached) -> Declarations<'a>
 fn pass(pair: Prepared<'_>, out: &mut [u8]) -> Verdict
     ensures { Passed out.old (changes_of pair.entry) result out.new }
 {
-    let mut r = Report::new(out, reading_of(pair.policy));
+    let mut r = Report::new(out, pair.policy.reading);
     check(&mut r, pair.old, pair.new);
     r.put_last_line();
     Verdict::of_tally(r.tally, r.length)
@@ -105,7 +98,7 @@ fn compare(policy: Policy, old: Image<'_>, new: Image<'_>) -> Result<Verdict, Fa
 pub fn verdict(policy: Policy, old: &[u8], new: &[u8]) -> Result<Verdict, Fault>
     ensures { answer_values result ≡ outcome_values (outcome (policy_of policy) old.now new.now) }
 {
-    let (first, second) = accept_both(policy, old, new)?;
+    let (first, second) = accept_both(old, new)?;
     compare(policy, first, second)
 }
 
@@ -134,6 +127,6 @@ fn write(policy: Policy, old: Image<'_>, new: Image<'_>, out: &mut [u8]) -> Resu
 pub fn report(policy: Policy, old: &[u8], new: &[u8], out: &mut [u8]) -> Result<Verdict, Fault>
     ensures { Reported policy old.now new.now out.old result out.new }
 {
-    let (first, second) = accept_both(policy, old, new)?;
+    let (first, second) = accept_both(old, new)?;
     write(policy, first, second, out)
 }

@@ -1,14 +1,14 @@
-// What is special to a verdict: a further one is a further case of `Policy`, here and in the functions that take a policy apart.
+// What is special to a verdict, and the stages that ask for it: its sets of ids, and the checks of the pair.
 ghost use Rattle.std.specs.Prelude.{◌≡◌};
-ghost use Rattle.parts.specs.Numbers.{side_number};
+ghost use Rattle.rules.specs.Mended.{mixed};
 ghost use Rattle.parts.specs.Handles.{schema_in};
-ghost use Rattle.rules.specs.Answer.{first_fault, on_side};
-ghost use Rattle.rules.specs.Widths.{mixed, mixed_check};
+ghost use Rattle.rules.specs.Answer.{first_fault};
 ghost use Rattle.checking.specs.Decls.{both_aliases};
-ghost use Rattle.compat.specs.Policies.{policy_of, reading_in, HasIds, fault_by, fault_of, fault_if, alias_fault, mended_fault};
+ghost use Rattle.compat.specs.Policies.{policy_of, HasIds, format_fault, fault_by, fault_of, fault_if, alias_fault};
 
 use crate::prepared::Prepared;
 use checking::aliases::alias_pair;
+use lines::Reading;
 use parts::formats::Format;
 use parts::handles::Image;
 use parts::refusals::Refusal;
@@ -16,15 +16,40 @@ use parts::sides::Side;
 use reached::Reached;
 use reached::follow::{nothing, reached};
 use survivors::decls::Declarations;
-use types::Reading;
 use verdicts::Fault;
 
-// Which verdict is given: that of document 01, that with imports, or the mended one.
+// What a verdict is made of: a row, in which each stage finds what it asks. A further verdict is a further row. None has a check of one image
+// alone, after its 1 to 10.
 #[derive(Clone, Copy)]
-pub enum Policy {
-    Plain,
-    Imports,
-    Mended,
+pub struct Policy {
+    pub reading: Reading,
+    // Whether what an image names and does not list is compared too.
+    pub follows: bool,
+    // Whether 16 is tested: that both images store the same of widths and tombstones.
+    pub tests_formats: bool,
+}
+
+impl Policy {
+    // The verdict of document 01.
+    pub const PLAIN: Policy = Policy {
+        reading: Reading::Plain,
+        follows: false,
+        tests_formats: false,
+    };
+
+    // With imports.
+    pub const IMPORTS: Policy = Policy {
+        reading: Reading::Plain,
+        follows: true,
+        tests_formats: false,
+    };
+
+    // The mended one.
+    pub const MENDED: Policy = Policy {
+        reading: Reading::Mended,
+        follows: false,
+        tests_formats: true,
+    };
 }
 
 const ALIAS_PAIR: Fault = Fault {
@@ -37,38 +62,14 @@ const MIXED: Fault = Fault {
     side: Side::Both,
 };
 
-// How types are read, and whether widths and tombstones are reported.
-#[tactic(auto, unfolding(crate::specs::Policies::reading_in))]
-pub fn reading_of(policy: Policy) -> Reading
-    ensures { result ≡ reading_in policy }
-{
-    match policy {
-        Policy::Plain => Reading::Plain,
-        Policy::Imports => Reading::Plain,
-        Policy::Mended => Reading::Mended,
-    }
-}
-
 // The ids of an image that may stand besides the listed ones.
 pub fn ids_of(policy: Policy, image: Image<'_>) -> Reached
     ensures { HasIds policy image.entry result }
 {
-    match policy {
-        Policy::Plain => nothing(),
-        Policy::Imports => reached(image),
-        Policy::Mended => nothing(),
+    if policy.follows {
+        return reached(image);
     }
-}
-
-// The check of one image, after its 1 to 10 and before the other is read.
-pub fn judge_alone(policy: Policy, image: Image<'_>, side: Side) -> Result<(), Fault>
-    ensures { fault_of result ≡ on_side (side_number side) ((policy_of policy).alone (schema_in image.entry)) }
-{
-    match policy {
-        Policy::Plain => Ok(()),
-        Policy::Imports => Ok(()),
-        Policy::Mended => Ok(()),
-    }
+    nothing()
 }
 
 // A fault, where it is found.
@@ -91,7 +92,7 @@ fn judge_aliases(old: Declarations<'_>, new: Declarations<'_>) -> Result<(), Fau
 }
 
 // Whether one of two images, or both, are of format 1, which stores no widths, or one of them alone is of format 3, which stores what is struck off.
-#[tactic(auto, unfolding(rules::specs::Widths::mixed))]
+#[tactic(auto, unfolding(rules::specs::Mended::mixed))]
 fn is_mixed(old: Image<'_>, new: Image<'_>) -> bool
     ensures { result ≡ mixed (schema_in old.entry) (schema_in new.entry) }
 {
@@ -102,31 +103,22 @@ fn is_mixed(old: Image<'_>, new: Image<'_>) -> bool
         || matches!(was, Format::Three) != matches!(is, Format::Three)
 }
 
-// 16.
-#[tactic(auto, unfolding(crate::specs::Policies::fault_if, rules::specs::Widths::mixed_check))]
-fn judge_formats(old: Image<'_>, new: Image<'_>) -> Result<(), Fault>
-    ensures { fault_of result ≡ mixed_check (schema_in old.entry) (schema_in new.entry) }
+// 16, if it is tested.
+fn judge_formats(policy: Policy, old: Image<'_>, new: Image<'_>) -> Result<(), Fault>
+    ensures { fault_of result ≡ format_fault policy (schema_in old.entry) (schema_in new.entry) }
 {
+    if !policy.tests_formats {
+        return Ok(());
+    }
     refused_if(is_mixed(old, new), MIXED)
 }
 
-// 16, and then 11.
-fn judge_mended(old: Declarations<'_>, new: Declarations<'_>) -> Result<(), Fault>
-    ensures { fault_of result ≡ mended_fault old.entry new.entry }
-{
-    judge_formats(old.image, new.image)?;
-    judge_aliases(old, new)
-}
-
-// The checks of the pair, in their order.
+// The checks of the pair, in their order: 16, and then 11.
 pub fn judge_pair(pair: Prepared<'_>) -> Result<(), Fault>
     ensures { fault_of result ≡ first_fault (policy_of pair.entry.policy).pair (schema_in pair.entry.old.image) (schema_in pair.entry.new.image) }
 {
     let old = pair.old;
     let new = pair.new;
-    match pair.policy {
-        Policy::Plain => judge_aliases(old, new),
-        Policy::Imports => judge_aliases(old, new),
-        Policy::Mended => judge_mended(old, new),
-    }
+    judge_formats(pair.policy, old.image, new.image)?;
+    judge_aliases(old, new)
 }

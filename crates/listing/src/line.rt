@@ -3,7 +3,7 @@ ghost use Rattle.parts.specs.Numbers.{kind_number};
 ghost use Rattle.text.specs.Writers.{Adds};
 ghost use Rattle.listing.specs.Listing.{line_of};
 
-use details::words::put_kind;
+use display::words::put_kind;
 use parts::kinds::Kind;
 use text::Writer;
 

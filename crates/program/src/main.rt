@@ -18,7 +18,7 @@ const ROOM: usize = 65536;
 // The report of two images.
 fn compare(rt: &(impl Print + Eprint), old: &[u8], new: &[u8]) {
     let mut out = [0; ROOM];
-    let answer = compat::report(Policy::Plain, old, new, &mut out);
+    let answer = compat::report(Policy::PLAIN, old, new, &mut out);
     printing::print_answer(rt, answer, &out);
 }
 

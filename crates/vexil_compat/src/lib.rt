@@ -21,7 +21,7 @@ use verdicts::Values;
 pub extern "C" fn vexil_compat_verdict(old: &[u8], new: &[u8], selector: u64) -> u64
     ensures { result ≡ verdict_of old.now new.now selector }
 {
-    Values::of(verdict(Policy::Plain, old, new)).select(selector)
+    Values::of(verdict(Policy::PLAIN, old, new)).select(selector)
 }
 
 // The values of a verdict, from selector 0 on, one for each place of a buffer.
@@ -47,7 +47,7 @@ fn values_by(policy: Policy, old: &[u8], new: &[u8], values: &mut [u64]) -> u64
 pub extern "C" fn vexil_compat_values(old: &[u8], new: &[u8], values: &mut [u64]) -> u64
     ensures { Valued (verdict_of old.now new.now) values.old result values.new }
 {
-    values_by(Policy::Plain, old, new, values)
+    values_by(Policy::PLAIN, old, new, values)
 }
 
 // The report's length, 0 if refused; the report stands at the start of the buffer.
@@ -62,7 +62,7 @@ fn report_by(policy: Policy, old: &[u8], new: &[u8], out: &mut [u8]) -> u64
 pub extern "C" fn vexil_compat_report(old: &[u8], new: &[u8], out: &mut [u8]) -> u64
     ensures { Reported plain old.now new.now out.old result out.new }
 {
-    report_by(Policy::Plain, old, new, out)
+    report_by(Policy::PLAIN, old, new, out)
 }
 
 // The same three with imports.
@@ -70,21 +70,21 @@ pub extern "C" fn vexil_compat_report(old: &[u8], new: &[u8], out: &mut [u8]) ->
 pub extern "C" fn vexil_compat_imports_verdict(old: &[u8], new: &[u8], selector: u64) -> u64
     ensures { result ≡ verdict_by imports old.now new.now selector }
 {
-    Values::of(verdict(Policy::Imports, old, new)).select(selector)
+    Values::of(verdict(Policy::IMPORTS, old, new)).select(selector)
 }
 
 #[unsafe(no_mangle)]
 pub extern "C" fn vexil_compat_imports_values(old: &[u8], new: &[u8], values: &mut [u64]) -> u64
     ensures { Valued (verdict_by imports old.now new.now) values.old result values.new }
 {
-    values_by(Policy::Imports, old, new, values)
+    values_by(Policy::IMPORTS, old, new, values)
 }
 
 #[unsafe(no_mangle)]
 pub extern "C" fn vexil_compat_imports_report(old: &[u8], new: &[u8], out: &mut [u8]) -> u64
     ensures { Reported imports old.now new.now out.old result out.new }
 {
-    report_by(Policy::Imports, old, new, out)
+    report_by(Policy::IMPORTS, old, new, out)
 }
 
 // The same three mended.
@@ -92,21 +92,21 @@ pub extern "C" fn vexil_compat_imports_report(old: &[u8], new: &[u8], out: &mut 
 pub extern "C" fn vexil_compat_mended_verdict(old: &[u8], new: &[u8], selector: u64) -> u64
     ensures { result ≡ verdict_by mended old.now new.now selector }
 {
-    Values::of(verdict(Policy::Mended, old, new)).select(selector)
+    Values::of(verdict(Policy::MENDED, old, new)).select(selector)
 }
 
 #[unsafe(no_mangle)]
 pub extern "C" fn vexil_compat_mended_values(old: &[u8], new: &[u8], values: &mut [u64]) -> u64
     ensures { Valued (verdict_by mended old.now new.now) values.old result values.new }
 {
-    values_by(Policy::Mended, old, new, values)
+    values_by(Policy::MENDED, old, new, values)
 }
 
 #[unsafe(no_mangle)]
 pub extern "C" fn vexil_compat_mended_report(old: &[u8], new: &[u8], out: &mut [u8]) -> u64
     ensures { Reported mended old.now new.now out.old result out.new }
 {
-    report_by(Policy::Mended, old, new, out)
+    report_by(Policy::MENDED, old, new, out)
 }
 
 // The listing's length, 0 if refused; the listing stands at the start of the buffer.

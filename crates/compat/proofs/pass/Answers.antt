@@ -5,6 +5,6 @@ use Rattle.compat.proofs.pass.Goals as goal
 
 pub returns : goal.returns
 returns c =
-    let n = sym (pass_name c.args.pair (c.new-r.ensures.reading ∙ c.reading_of.ensures) c.new-r.ensures.tally c.check.ensures c.put_last_line.ensures ∙ c.new-r.ensures.same_reference) in
-    passed c.args.pair (c.new-r.ensures.reading ∙ c.reading_of.ensures) c.new-r.ensures.tally c.check.ensures c.put_last_line.ensures
+    let n = sym (pass_name c.args.pair c.new-r.ensures.reading c.new-r.ensures.tally c.check.ensures c.put_last_line.ensures ∙ c.new-r.ensures.same_reference) in
+    passed c.args.pair c.new-r.ensures.reading c.new-r.ensures.tally c.check.ensures c.put_last_line.ensures
     c.new-r.ensures.start c.new-r.ensures.bytes (omega arith) (search rules) c.of_tally.ensures

@@ -6,7 +6,7 @@ use Rattle.compat.proofs.report.Goals as goal
 pub returns-in_err-first : goal.returns-in_err-first
 returns-in_err-first c =
     let p = err_from_is_err_and c.from_residual.result c.from_residual.ensures.1 in
-    rw (p.1, p.2) (report_refused c.args.policy c.args.old.now c.args.new.now c.accept_both.ensures _ c.in_err-first.was)
+    rw (p.1, p.2) (report_refused c.args.policy c.args.old.now c.args.new.now (c.accept_both.ensures.outcome c.args.policy) _ c.in_err-first.was)
 
 pub returns : goal.returns
-returns c = report_told c.args.policy c.args.old.now c.args.new.now c.accept_both.ensures c.in_ok-first.was c.write.ensures
+returns c = report_told c.args.policy c.args.old.now c.args.new.now (c.accept_both.ensures.outcome c.args.policy) c.in_ok-first.was c.write.ensures

@@ -8,8 +8,8 @@ use Rattle.compat.proofs.verdict.Goals as goal
 pub returns-in_err-first : goal.returns-in_err-first
 returns-in_err-first c =
     let p = err_from_is_err_and c.from_residual.result c.from_residual.ensures.1 in
-    rw (p.1, p.2) (verdict_refused c.args.policy c.args.old.now c.args.new.now c.accept_both.ensures c.in_err-first.was)
+    rw (p.1, p.2) (verdict_refused c.args.policy c.args.old.now c.args.new.now (c.accept_both.ensures.outcome c.args.policy) c.in_err-first.was)
 
 pub returns : goal.returns
 returns c =
-    c.compare.ensures ∙ ap outcome_values (images_told c.args.policy c.args.old.now c.args.new.now c.accept_both.ensures c.in_ok-first.was)
+    c.compare.ensures ∙ ap outcome_values (images_told c.args.policy c.args.old.now c.args.new.now (c.accept_both.ensures.outcome c.args.policy) c.in_ok-first.was)
