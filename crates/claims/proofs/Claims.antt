@@ -24,21 +24,29 @@ use Rattle.rules.proofs.Distance.{distance_rule}
 use Rattle.rules.proofs.Reached.{reached_is}
 use Rattle.rules.proofs.Standing.{view_rises}
 use Rattle.rules.proofs.Imports.{imports_rise, imported_holds, imports_numbered, imports_bounded, imports_refusals, imports_distance_rule}
+use Rattle.rules.proofs.OneSide.{one_side}
 use Rattle.rules.proofs.ImportEdges.{import_edges}
 use Rattle.rules.proofs.PinnedImports.{pinned_imports}
 use Rattle.rules.proofs.Ignored.{earlier_ignore}
 use Rattle.rules.proofs.PinnedIgnored.{pinned_ignored}
 use Rattle.rules.proofs.Tombstones.{struck_off}
 use Rattle.rules.proofs.Mended.{three_answers, mended_bounded, mended_ordinary, otherwise, mended_distance_rule}
+use Rattle.rules.proofs.AllElse.{all_else}
+use Rattle.rules.proofs.Reuse.{no_reuse_hidden}
 use Rattle.rules.proofs.MendedRefusals.{mended_numbered, mended_told_lem, mended_refusals}
 use Rattle.rules.proofs.MendedEdges.{mended_edges}
 use Rattle.rules.proofs.TombstoneEdges.{tombstone_edges}
 use Rattle.rules.proofs.PinnedMended.{pinned_mended}
+use Rattle.rules.proofs.PinnedReuse.{pinned_reuse}
+use Rattle.rules.proofs.PinnedBuffers.{pinned_buffers}
 use Rattle.listing.proofs.Refusals.{listing_refusals}
 use Rattle.listing.proofs.Ignored.{ignores}
 use Rattle.refiling.proofs.FilingOrder.{filing_order}
 use Rattle.refiling.proofs.Relation.{refilings}
-use Rattle.claims.specs.Claims.{RefusingTwo, ComparingTwo, Refusing, Comparing, Importing, Mending, Widening, Striking, Claims}
+use Rattle.refiling.proofs.Example.{example}
+use Rattle.refiling.proofs.Needed.{readings, needed}
+use Rattle.claims.specs.Claims.{RefusingTwo, ComparingTwo, Refusing, Comparing, Importing, Mending, Widening, Striking, Filing, Claims}
+use Rattle.claims.proofs.Widths.{widths, widths_met}
 
 -- ---- of two images, by any verdict
 
@@ -88,6 +96,7 @@ importing : Importing
 importing = record {
   reached = reached_is;
   imported = imported_holds;
+  one_side = one_side;
   refusing = refusing_two imports imports_numbered imports_bounded imports_refusals;
   comparing = comparing_two imports imports_numbered plain_ordinary (clauses_told imports_view imports_rise plain_reading);
   distance = imports_distance_rule;
@@ -101,6 +110,7 @@ mending = record {
   refusing = refusing_two mended mended_numbered mended_bounded mended_refusals;
   comparing = comparing_two mended mended_numbered mended_ordinary mended_told_lem;
   otherwise = otherwise;
+  all_else = all_else;
   distance = mended_distance_rule;
   edges = mended_edges;
   pinned = pinned_mended;
@@ -108,6 +118,8 @@ mending = record {
 
 widening : Widening
 widening = record {
+  widths = widths;
+  widths_met = widths_met;
   ignored = earlier_ignore;
   listing = ignores;
   pinned = pinned_ignored;
@@ -116,7 +128,10 @@ widening = record {
 }
 
 striking : Striking
-striking = record { struck_off = struck_off; edges = tombstone_edges }
+striking = record { struck_off = struck_off; hidden = no_reuse_hidden; edges = tombstone_edges; pinned = pinned_reuse }
+
+filing : Filing
+filing = record { order = filing_order; anew = refilings; example = example; readings = readings; needed = needed }
 
 pub claims : Claims
 claims = record {
@@ -127,6 +142,6 @@ claims = record {
   mending = mending;
   widening = widening;
   striking = striking;
-  filing = filing_order;
-  filings = refilings;
+  filing = filing;
+  buffers = pinned_buffers;
 }

@@ -24,19 +24,26 @@ use Rattle.rules.specs.Edges.{Edges}
 use Rattle.rules.specs.Pinned.{Pinned}
 use Rattle.rules.specs.Reached.{ReachedIs}
 use Rattle.rules.specs.Imports.{imports_view, imports, Imported}
+use Rattle.rules.specs.OneSide.{OneSide}
 use Rattle.rules.specs.ImportEdges.{ImportEdges}
 use Rattle.rules.specs.PinnedImports.{PinnedImports}
 use Rattle.rules.specs.Tombstones.{uses_struck, StruckOff}
 use Rattle.rules.specs.Mended.{ThreeAnswers, mended, mended_kinds, Otherwise}
+use Rattle.rules.specs.AllElse.{AllElse}
+use Rattle.rules.specs.Reuse.{NoReuseHidden}
 use Rattle.rules.specs.MendedRefusals.{Mixed, MendedRefusals}
 use Rattle.rules.specs.Ignored.{EarlierIgnore}
 use Rattle.rules.specs.PinnedIgnored.{PinnedIgnored}
 use Rattle.rules.specs.MendedEdges.{MendedEdges}
 use Rattle.rules.specs.TombstoneEdges.{TombstoneEdges}
 use Rattle.rules.specs.PinnedMended.{PinnedMended}
+use Rattle.rules.specs.PinnedReuse.{PinnedReuse}
+use Rattle.rules.specs.PinnedBuffers.{PinnedBuffers}
 use Rattle.listing.specs.Refusals.{ListingRefusals}
 use Rattle.listing.specs.Ignored.{ListingIgnores}
 use Rattle.refiling.specs.Refiling.{Refilings, FilingOrder}
+use Rattle.refiling.specs.Example.{Example, Readings, Needed}
+use Rattle.claims.specs.Widths.{Widths, WidthsMet}
 
 -- ---- of a verdict on two images, by what it is made of: `plain` is that of 01, `imports` the one with imports, `mended` the mended one
 
@@ -94,6 +101,8 @@ pub record Importing : Type 0 where
   -- under each name the survivor stands, or else the highest id that is reached; each reached name once; where nothing is imported the
   -- verdict is that of 01
   pub imported : Imported
+  -- "A name that one side alone has, as survivor or reached, is removed or added": told once, and no other is
+  pub one_side : OneSide
   -- "A second verdict, with a report": the demands hold of it, over what stands then
   pub refusing : RefusingTwo imports (VerdictRefusals imports_view plain_reading)
   pub comparing : ComparingTwo imports (λ x y. ¬ AliasPair imports_view x y)
@@ -113,6 +122,8 @@ pub record Mending : Type 0 where
   pub refusing : RefusingTwo mended MendedRefusals
   pub comparing : ComparingTwo mended (λ x y. ¬ Mixed x y × ¬ AliasPair view_of x y)
   pub otherwise : Otherwise
+  -- and of every two images that get it, whatever they hold: all but changed types and those three kinds is told as by that of 01
+  pub all_else : AllElse
   -- "there every image that gets a verdict against itself is at distance 0 from itself. The chain rule covers the mended verdict as well.";
   -- R-10: "one that strikes off a number and uses it in the same surviving declaration, or surviving variant of one, is now at distance 2 from
   -- itself; every other one stays at 0"; and the swap of counts, but of R-10's two
@@ -127,6 +138,9 @@ Uncounted policy = (old new : Image) → All (λ kind. count_between (verdict_by
 
 -- R-6: "Widths written out."; R-10: "Struck-off ordinals." What the mended verdict makes of widths and tombstones is above.
 pub record Widening : Type 0 where
+  -- "a differing width between two enums or two flags .. both numbers as stored": each has one, no other kind has, and both are told if they differ
+  pub widths : Widths
+  pub widths_met : WidthsMet
   -- "The earlier verdicts accept both formats and ignore the width.", they "skip tombstones": two images that hold the same but for format,
   -- widths and tombstones get the same answers from every earlier call, on either side of any pair, and from the listing; and such images, by
   -- computation
@@ -141,8 +155,21 @@ pub record Widening : Type 0 where
 pub record Striking : Type 0 where
   -- what is reported of two declarations or variants, when nothing is, that no release in the middle hides a reuse; and what "uses" means
   pub struck_off : StruckOff
-  -- its edges, by computation
+  -- "Repeated tombstones count as one."; "a chain cannot hide a reuse behind a middle release", however long it is and whatever stands between
+  pub hidden : NoReuseHidden
+  -- its edges, and chains that reuse a number, by computation
   pub edges : TombstoneEdges
+  pub pinned : PinnedReuse
+
+-- R-13: "Filing order must not matter."
+pub record Filing : Type 0 where
+  pub order : FilingOrder
+  -- filing anew is an equivalence
+  pub anew : Refilings
+  -- two releases filed anew in each format; how the readings of the premise differ; and what can't be left out of it
+  pub example : Example
+  pub readings : Readings
+  pub needed : Needed
 
 pub record Claims : Type 0 where
   pub refusing : Refusing
@@ -152,6 +179,6 @@ pub record Claims : Type 0 where
   pub mending : Mending
   pub widening : Widening
   pub striking : Striking
-  -- R-13: filing order must not matter; and filing anew is an equivalence
-  pub filing : FilingOrder
-  pub filings : Refilings
+  pub filing : Filing
+  -- the report calls with imports and mended, in buffers that are long enough and a byte short, by computation
+  pub buffers : PinnedBuffers

@@ -1,2 +1,3 @@
--- What is promised, on one page.
+-- What is promised, on one page; and Widths, a claim of it that is about the images as they are written.
+pub mod Widths
 pub mod Claims
