@@ -1,8 +1,9 @@
 """What the gate asks of the must-fail edits beyond `rt ci`, which refuses a file of them as a whole.
 
-Each comment line of an edit file starts one wrong answer. Those of one file stand in different functions and are tried in one check of the
-crate: the facts of a function's proof rest on the contracts of what it calls, not on their proofs, so each is refused by itself. What the
-prover says of an edit is kept by keeping/sitecustomize.py."""
+Each comment line of an edit file starts one wrong answer, and those of one file are tried in one check of the crate. Wrong answers of code
+stand in different functions: the facts of a function's proof rest on the contracts of what it calls, not on their proofs, so each is refused
+by itself. In a crate without code wrong definitions may share a file, too: each must be refused by a declaration that rests on it and on no
+other one of them. What the prover says of an edit is kept by keeping/sitecustomize.py."""
 
 import importlib.util
 import json
@@ -13,6 +14,7 @@ from pathlib import Path
 from typing import NamedTuple
 
 import checks
+from declarations import Declarations, Name
 
 KEEPING = Path(__file__).resolve().parent / "keeping"
 # By its path: the system may have a sitecustomize of its own.
@@ -24,9 +26,12 @@ MODULE.loader.exec_module(keeping)
 UNFIT = re.compile(r"has no `|has no field|not in scope(?! here, so what is shown)|expected `[^`]*`, found|was not admitted|which was rejected|was not checked")
 FUNCTION = re.compile(r'^(\s*)(?:pub(?:\(crate\))? )?(?:extern "C" )?fn (\w+)')
 IMPL = re.compile(r"^impl(?:<[^>]*>)? (?:(\w+)(?:<(\w+)>)? for )?(\w+)")
+# One of an `impl`, which no function holds.
+CONSTANT = re.compile(r"^    (?:pub(?:\(crate\))? )?const \w+:")
 CLAUSE = re.compile(r"\b(?:requires|ensures) \{")
 # Texts, arrows and operators. A proof may fail for one operation more although the answer is right, so a wrong answer has the code's.
 TOKEN = re.compile(r'"(?:[^"\\]|\\.)*"|\'(?:\\.|[^\'])\'|=>|->|[-+*/%]=?|[<>=!]=|[<>]|&&|\|\|')
+ERROR = re.compile(r"^(?:\./)?(\S+\.antt):(\d+):\d+: error: ")
 KINDS = {"==": "equality", "!=": "equality", "<": "order", "<=": "order", ">": "order", ">=": "order", "&&": "test", "||": "test"}
 
 
@@ -39,26 +44,29 @@ class Function(NamedTuple):
 
 class Answer(NamedTuple):
     """A wrong answer, and the functions that it changes; None for a change of anything else, also of a contract, which others rest on. With
-    its lines of code that have other operations than before. Goals are named after the code, so that an answer may carry their new names into
-    a file of proofs/."""
+    its lines of code that have other operations than before, and the places that it changes, by file and line. Goals are named after the code,
+    so that an answer may carry their new names into a file of proofs/."""
 
     label: str
     functions: set[Function | None]
     reshaped: list[str]
+    places: set[tuple[str, int]]
 
 
 def names_at(source: str, text: str) -> list[str]:
     """The name of the function that holds the text, after what the prover calls its `impl` if it is a method; nothing outside of functions."""
-    names: list[str] = []
+    within, name = [], None
     for line in source[: source.index(text) + len(text)].splitlines():
         if line == "}":
-            names = []
+            within, name = [], None
         elif match := IMPL.match(line):
-            trait, of, name = match.groups(default="")
-            names = [name + trait + of[:1].upper() + of[1:]]
+            trait, of, own = match.groups(default="")
+            within, name = [own + trait + of[:1].upper() + of[1:]], None
         elif match := FUNCTION.match(line):
-            names = [*(names[:1] if match[1] else []), match[2]]
-    return names
+            within, name = within if match[1] else [], match[2]
+        elif CONSTANT.match(line):
+            name = None
+    return [*within, name] if name else []
 
 
 def function_at(crate: Path, file: str, text: str) -> Function | None:
@@ -82,19 +90,25 @@ def operations(text: str) -> Counter[str]:
 def answers(crate: Path, edit: Path) -> list[Answer]:
     """The wrong answers of an edit file."""
     found: list[Answer] = []
+    texts: dict[str, str] = {}
     file = old = ""
     for line in edit.read_text().splitlines():
         if line.startswith("#"):
-            found.append(Answer(line.lstrip("# "), set(), []))
+            found.append(Answer(line.lstrip("# "), set(), [], set()))
         elif line.startswith("file: "):
             file = line.removeprefix("file: ")
+            texts.setdefault(file, (crate / file).read_text())
         elif line.startswith("old: "):
-            found = found or [Answer("", set(), [])]
+            found = found or [Answer("", set(), [], set())]
             old = line.removeprefix("old: ")
+            found[-1].places.add((file, texts[file].partition(old)[0].count("\n") + 1))
             if not file.startswith("proofs/"):
                 found[-1].functions.add(function_at(crate, file, old))
-        elif line.startswith("new:") and found and file.startswith("src/") and operations(line[4:]) != operations(old):
-            found[-1].reshaped.append(line)
+        elif line.startswith("new:") and found:
+            new = line.removeprefix("new:").removeprefix(" ")
+            texts[file] = texts[file].replace(old, new)
+            if file.startswith("src/") and operations(new) != operations(old):
+                found[-1].reshaped.append(line)
     return found
 
 
@@ -121,17 +135,40 @@ def refusals(function: Function | None, log: str) -> list[str]:
     return answered + [line for line in searched if line.startswith(f"fn {function.path}: ")]
 
 
-def faults_of(answer: Answer, alone: bool, log: str) -> list[str]:
-    """Whether a wrong answer was refused in a function that it changes because a fact fails, as the first error there says."""
-    if None in answer.functions and not alone:
-        return [f"{answer.label}: it changes more than functions, so it needs a file of its own"]
+def has_code(crate: Path) -> bool:
+    return any(FUNCTION.match(line) for file in (crate / "src").rglob("*.rt") for line in file.read_text().splitlines())
+
+
+def told_apart(crate: Path, edit: Path, found: list[Answer], log: str) -> list[list[str]]:
+    """Of each of several wrong definitions the errors that only it can have caused: in declarations that rest on what it changes, and on nothing
+    that another one changes. A change of a `use` line is one of all that its file declares."""
+    declarations = Declarations(edited(crate, edit))
+
+    def changed(answer: Answer) -> set[Name]:
+        lines = {place: declarations.at.get(place) for place in answer.places}
+        wide = {file for (file, _), name in lines.items() if not name}
+        return {name for name in lines.values() if name} | {name for name in declarations.words if name.file in wide}
+
+    changes = [changed(answer) for answer in found]
+    errors: list[list[str]] = [[] for _ in found]
+    for error in errors_of(log):
+        match = ERROR.match(error)
+        name = declarations.at.get((match[1], int(match[2]))) if match else None
+        causes = [number for number, names in enumerate(changes) if name and names & declarations.below(name)]
+        if len(causes) == 1:
+            errors[causes[0]].append(error)
+    # A fact that fails is told also after a declaration that rests on what was refused.
+    return [sorted(own, key=lambda error: bool(UNFIT.search(error))) for own in errors]
+
+
+def faults_of(answer: Answer, errors: list[str]) -> list[str]:
+    """Whether a wrong answer was refused because a fact fails, as the first of the errors that are its own says."""
     if answer.reshaped:
         return [f"{answer.label}: it has other operations than the code: {answer.reshaped[0]}"]
-    found = [line for function in answer.functions for line in refusals(function, log)]
-    if not found:
+    if not errors:
         return [f"{answer.label}: no error in its log"]
-    if UNFIT.search(found[0]):
-        return [f"{answer.label}: refused for its shape and not for a fact: {found[0][:200]}"]
+    if UNFIT.search(errors[0]):
+        return [f"{answer.label}: refused for its shape and not for a fact: {errors[0][:200]}"]
     return []
 
 
@@ -177,7 +214,15 @@ def edit_faults(crate: Path, edit: Path, log: str | None) -> tuple[int, list[str
     found = answers(crate, edit)
     if not found or not found[0].label:
         return 0, ["it has a wrong answer without a comment line"]
-    faults = [faults_of(answer, len(found) == 1, log) for answer in found]
+    wide = [None in answer.functions for answer in found]
+    together = len(found) > 1 and any(wide)
+    if together and not has_code(crate):
+        errors = told_apart(crate, edit, found, log)
+    else:
+        errors = [[line for function in answer.functions for line in refusals(function, log)] for answer in found]
+    faults = [faults_of(*both) for both in zip(found, errors)]
+    if together and has_code(crate):
+        faults = [[f"{answer.label}: it changes more than functions, so it needs a file of its own"] if one else fault for answer, one, fault in zip(found, wide, faults)]
     return sum(not fault for fault in faults), shared(found) + [text for fault in faults for text in fault]
 
 

@@ -21,9 +21,17 @@ fn first(a: u8) -> u8
 }
 
 impl Pair {
+    pub const FIRST: Pair = Pair {
+        before: 1,
+    };
+
     pub fn second(self) -> u8 {
         self.b
     }
+
+    const LAST: Pair = Pair {
+        after: 2,
+    };
 }
 
 pub(crate) fn third(c: u8) -> u8 {
@@ -75,7 +83,8 @@ class Edits(unittest.TestCase):
             ("    d\n", "maps::pairs::searched", None),
         ):
             self.assertEqual(edits.function_at(self.crate, "src/pairs.rt", text), (path, folder))
-        self.assertIsNone(edits.function_at(self.crate, "src/pairs.rt", "u8 = 1"))
+        for constant in ("u8 = 1", "before: 1", "after: 2"):
+            self.assertIsNone(edits.function_at(self.crate, "src/pairs.rt", constant))
         self.assertIsNone(edits.function_at(self.crate, "src/pairs.rt", "ensures { r }"))
         self.assertIsNone(edits.function_at(self.crate, "specs/Pairs.antt", "a"))
 
@@ -152,6 +161,37 @@ class Edits(unittest.TestCase):
         self.assertEqual(self.found(constant, ("proofs/Laws.antt", FACT)), (1, []))
         passed, faults = self.found(FIRST + constant, ("proofs/pairs/first/Answers.antt", FACT))
         self.assertEqual((passed, len(faults)), (1, 1))
+
+    def laws(self):
+        """A crate without code: two definitions, a law of each and one of both."""
+        self.source.write_text("// No code.\n")
+        for path, text in (
+            ("specs/Words.antt", "use Other.{ℕ}\n\npub one : ℕ\none = 1\n\n-- of one\npub two : ℕ\ntwo = 2\n"),
+            ("proofs/First.antt", "use Rattle.maps.specs.Words.{one as first}\n\npub of_one : first ≡ 1\nof_one = refl\n"),
+            ("proofs/Both.antt", "use Rattle.maps.specs.Words.{two}\nuse Rattle.maps.proofs.First.{of_one}\n\npub of_two : two ≡ 2\nof_two = refl\n\npub of_both : two ≡ 2\nof_both = of_one\n"),
+        ):
+            (self.crate / path).parent.mkdir(parents=True, exist_ok=True)
+            (self.crate / path).write_text(text)
+
+    def at(self, *errors: tuple[str, int, str]) -> str:
+        return "".join(f"./{file}:{line}:2: error: {text}\n" for file, line, text in errors) + "logic=not-proved\n"
+
+    def test_wrong_definitions_are_told_apart_by_what_rests_on_one_alone(self):
+        self.laws()
+        both = "# one\nfile: specs/Words.antt\nold: one = 1\nnew: one = 0\n# two\nfile: specs/Words.antt\nold: two = 2\nnew: two = 0\n"
+        first, second, of_both = ("proofs/First.antt", 4, FACT), ("proofs/Both.antt", 5, FACT), ("proofs/Both.antt", 8, FACT)
+        self.assertEqual(self.said(both, self.at(first, second, of_both)), (2, []))
+        self.assertEqual(self.said(both, self.at(first, of_both)), (1, ["must-fail maps/1: two: no error in its log"]))
+        self.assertEqual(self.said(both, self.at(of_both, second)), (1, ["must-fail maps/1: one: no error in its log"]))
+        unfit = ("proofs/First.antt", 3, "`of_one` was not admitted")
+        self.assertEqual(self.said(both, self.at(unfit, second))[0], 1)
+        self.assertEqual(self.said(both, self.at(unfit, first, second)), (2, []))
+
+    def test_another_import_is_a_change_of_the_whole_file(self):
+        self.laws()
+        both = "# import\nfile: proofs/First.antt\nold: {one as first}\nnew: {two as first}\n# two\nfile: specs/Words.antt\nold: two = 2\nnew: two = 0\n"
+        first, second = ("proofs/First.antt", 4, FACT), ("proofs/Both.antt", 5, FACT)
+        self.assertEqual(self.said(both, self.at(first, second)), (1, ["must-fail maps/1: import: no error in its log"]))
 
     def test_an_edit_that_cannot_be_tried_fails(self):
         said = "must-fail maps/1.edit: BAD EDIT: an 'old:' text is in src/lib.rt 0 times, and not once"

@@ -19,6 +19,7 @@ ORACLE = ROOT / "target" / "oracle" / "oracle"
 ANSWERS = ROOT / "crates" / "replay" / "data" / "answers.bin"
 PINNED = (ROOT / "KIT-ID").read_text().strip()
 HAMMER_SEED, HAMMER_PAIRS, HAMMER_SECONDS = 20_261_115, 10_000, 300
+JUDGE_SEED, JUDGE_PAIRS = 20_261_120, 20_000
 SUMMARY = re.compile(r"^(\d+) passed, (\d+) failed$")
 
 
@@ -112,7 +113,7 @@ def crates(gate: Gate):
 
 
 def gate_tests(gate: Gate):
-    for tests in ("checks_test.py", "edits_test.py", "run_test.py"):
+    for tests in ("checks_test.py", "declarations_test.py", "edits_test.py", "run_test.py"):
         gate.command(f"tools/gate/{tests}", sys.executable, f"tools/gate/{tests}", "-q", "-b")
 
 
@@ -163,6 +164,12 @@ def hammer(gate: Gate):
         gate.suite("tools/hammer/run.sh", "bash", "tools/hammer/run.sh", HAMMER_SEED, HAMMER_PAIRS, HAMMER_SECONDS)
 
 
+def judge(gate: Gate):
+    """The second judge: its own test, and pairs by the library, the oracle and it."""
+    if not is_left_out(gate, "tools/judge", "rustc", "g++"):
+        gate.suite("tools/judge/run.sh", "bash", "tools/judge/run.sh", JUDGE_SEED, JUDGE_PAIRS)
+
+
 def main() -> int:
     gate = Gate()
     if sys.argv[1:] == ["--help"]:
@@ -182,6 +189,7 @@ def main() -> int:
     gate.stage("loader", lambda: loader(gate))
     gate.stage("program", lambda: program(gate))
     gate.stage("hammer", lambda: hammer(gate))
+    gate.stage("judge", lambda: judge(gate))
     return gate.finish()
 
 
