@@ -1,6 +1,6 @@
 #!/usr/bin/env python3
-"""Tests of `./vexil-compat` and of how it builds, in a copy of the repository with two small crates and an `rt` that stands in for the
-toolchain: it proves nothing, and the library that it makes answers what a file of a crate says, so that an answer tells from which build it is.
+"""Tests of `./vexil-compat` and of how it builds, in a copy of the repository with three small crates and an `rt` and a `rattle` that stand
+in for the toolchain: they prove nothing, and the library that they make answers what a file of a crate says, so that an answer tells from which build it is.
 
 The script of the repository itself is asked last; it needs target/loader/loader (build.sh). The last line is `N passed, M failed`.
 """
@@ -20,25 +20,33 @@ from pairs import IMPORTS, MENDED, PLAIN, SAMPLE, SAMPLE_REPORT, output, sample_
 
 KIT = (ROOT / "KIT-ID").read_text().strip()
 LONG_AGO = 946_684_800  # 2000-01-01
-# Says what it is asked for in $CALLS, and that two of it ran at once if they did. A crate takes $SECONDS_EACH.
+BUILT = ["ci", "build"]
+# Say what they are asked for in $CALLS, and that two of it ran at once if they did. A crate takes $SECONDS_EACH.
 RT = """#!/usr/bin/env bash
 set -eu
 case $1 in
 version) echo "${OTHER_KIT:-@KIT@}" ;;
-lib)
-    cd ../..
+ci)
     if ! mkdir busy 2> /dev/null; then echo overlap >> "$CALLS"; fi
-    echo lib >> "$CALLS"
-    for crate in below beside vexil_compat; do
+    echo ci >> "$CALLS"
+    for crate in $(ls crates); do
         sleep "${SECONDS_EACH:-0}"
         if grep -q unprovable "crates/$crate/src/lib.rt"; then rmdir busy; echo "rt: $crate NOT PROVED"; exit 1; fi
         mkdir -p "crates/$crate/out/rlib"
-        [ $crate = vexil_compat ] || touch "crates/$crate/out/rlib/$crate.rlib"
+        touch "crates/$crate/out/rlib/$crate.rlib"
     done
-    cp "$LIBRARIES/$(cat crates/below/src/lib.rt).a" crates/vexil_compat/out/libvexil_compat.a
     rmdir busy
     ;;
 esac
+"""
+RATTLE = """#!/usr/bin/env bash
+set -eu
+echo "$1" >> "$CALLS"
+below=$(tr ' ' '\\n' <<< "$*" | sed -n 's/^below=//p')
+[ -e "$below" ]
+sleep "${SECONDS_EACH:-0}"
+if grep -q unprovable src/lib.rt; then echo "vexil_compat is not proved"; exit 1; fi
+cp "$LIBRARIES/$(cat "${below%/out/*}/src/lib.rt").a" "${@: -1}"
 """
 # A library that answers every pair alike.
 ANSWER = """#include "vexil_compat.h"
@@ -73,14 +81,15 @@ class Copy:
         self.root, self.bin, self.libraries, self.calls, self.cache = (folder / name for name in ("copy", "bin", "libraries", "calls", "cache"))
         for name in ("include", "samples", "tools/loader"):
             shutil.copytree(ROOT / name, self.root / name)
-        for name in ("vexil-compat", "KIT-ID"):
+        for name in ("vexil-compat", "KIT-ID", "tools/proved.sh"):
             shutil.copy(ROOT / name, self.root / name)
         (self.root / "crates.txt").write_text("below:\nbeside:\nvexil_compat: below\n")
         for crate in ("below", "beside", "vexil_compat"):
             self.write(f"crates/{crate}/src/lib.rt", "first")
         self.bin.mkdir()
-        (self.bin / "rt").write_text(RT.replace("@KIT@", KIT))
-        (self.bin / "rt").chmod(0o755)
+        for name, text in (("rt", RT.replace("@KIT@", KIT)), ("rattle", RATTLE)):
+            (self.bin / name).write_text(text)
+            (self.bin / name).chmod(0o755)
         self.libraries.mkdir()
         for answer in ("first", "second"):
             self.make_library(answer)
@@ -118,47 +127,57 @@ class Copy:
 def stale(suite: Suite, copy: Copy):
     """By content, and not by date: the answer is always that of the files that are there."""
     first, second = (0, "first\n", ""), (0, "second\n", "")
-    suite.equal("the first call builds", (copy.asked(), copy.builds()), (first, ["lib"]))
+    suite.equal("the first call builds", (copy.asked(), copy.builds()), (first, BUILT))
     suite.equal("the second does not", (copy.asked(), copy.builds()), (first, []))
     copy.write("crates/below/src/lib.rt", "second", LONG_AGO)
-    suite.equal("a file of another content with an older date", (copy.asked(), copy.builds()), (second, ["lib"]))
+    suite.equal("a file of another content with an older date", (copy.asked(), copy.builds()), (second, BUILT))
     copy.write("crates/below/src/lib.rt", "second")
     suite.equal("a file of the same content with a newer date", (copy.asked(), copy.builds()), (second, []))
     copy.write("crates/below/src/lib.rt", "first", LONG_AGO)
-    suite.equal("back again", (copy.asked(), copy.builds()), (first, ["lib"]))
+    suite.equal("back again", (copy.asked(), copy.builds()), (first, BUILT))
     for path in ("crates/vexil_compat/specs/New.antt", "crates/below/proofs/New.antt", "crates/below/src/lib.rt"):
         copy.write(path, "first", LONG_AGO)
         copy.asked()
-        again = [] if path.endswith("lib.rt") else ["lib"]
+        again = [] if path.endswith("lib.rt") else BUILT
         suite.equal(f"with {path}", copy.builds(), again)
     (copy.root / "crates/below/proofs/New.antt").rename(copy.root / "crates/below/proofs/Other.antt")
-    suite.equal("a file of another name", (copy.asked(), copy.builds()), (first, ["lib"]))
+    suite.equal("a file of another name", (copy.asked(), copy.builds()), (first, BUILT))
+
+
+def stale_by_others(suite: Suite, copy: Copy):
+    """By what the library rests on, directly or by another crate, and by what a link leads to."""
+    first = (0, "first\n", "")
     copy.write("crates.txt", "below:\nbeside:\nvexil_compat: below beside\n", LONG_AGO)
-    suite.equal("the library rests on one crate more", (copy.asked(), copy.builds()), (first, ["lib"]))
+    suite.equal("the library rests on one crate more", (copy.asked(), copy.builds()), (first, BUILT))
     copy.write("crates.txt", "below: beside\nbeside:\nvexil_compat: below beside\n", LONG_AGO)
-    suite.equal("a crate rests on another", (copy.asked(), copy.builds()), (first, ["lib"]))
+    suite.equal("a crate rests on another", (copy.asked(), copy.builds()), (first, BUILT))
     copy.write("crates.txt", "below : beside # and not\nbeside:\nvexil_compat: below\n", LONG_AGO)
-    suite.equal("and the library on that one alone", (copy.asked(), copy.builds()), (first, ["lib"]))
+    suite.equal("and the library on that one alone", (copy.asked(), copy.builds()), (first, BUILT))
     copy.write("crates/beside/src/lib.rt", "other", LONG_AGO)
-    suite.equal("a crate below the crate below", (copy.asked(), copy.builds()), (first, ["lib"]))
+    suite.equal("a crate below the crate below", (copy.asked(), copy.builds()), (first, BUILT))
     copy.write("elsewhere", "linked")
     (copy.root / "crates/below/specs").mkdir()
     (copy.root / "crates/below/specs/Linked.antt").symlink_to(copy.root / "elsewhere")
-    suite.equal("a file by a link", (copy.asked(), copy.builds()), (first, ["lib"]))
+    suite.equal("a file by a link", (copy.asked(), copy.builds()), (first, BUILT))
     copy.write("elsewhere", "linked to another")
-    suite.equal("that has changed", (copy.asked(), copy.builds()), (first, ["lib"]))
+    suite.equal("that has changed", (copy.asked(), copy.builds()), (first, BUILT))
     copy.write("crates.txt", "below:\nbeside:\n")
     status, printed, said = copy.asked()
     suite.equal("no line of the library", (status, printed, "no line of vexil_compat" in said), (2, "", True))
     copy.write("crates.txt", "below:\nbeside:\nvexil_compat: below beside\n", LONG_AGO)
-    suite.equal("three crates again", (copy.asked(), copy.builds()), (first, ["lib"]))
+    suite.equal("three crates again", (copy.asked(), copy.builds()), (first, BUILT))
+
+
+def stale_beside(suite: Suite, copy: Copy):
+    """By the library that is in its place and by the loading tool's own source, and not by what neither is made of."""
+    first = (0, "first\n", "")
     for path in ("crates/below/must-fail/1.edit", "docs/NEW.md", "crates/other/src/lib.rt"):
         copy.write(path, "new")
         suite.equal(f"what the library is not made of: {path}", (copy.asked(), copy.builds()), (first, []))
     shutil.copy(copy.libraries / "second.a", copy.root / "target/staticlib/libvexil_compat.a")
-    suite.equal("another library in its place", (copy.asked(), copy.builds()), (first, ["lib"]))
+    suite.equal("another library in its place", (copy.asked(), copy.builds()), (first, BUILT))
     os.remove(copy.root / "target/staticlib/libvexil_compat.a")
-    suite.equal("no library in its place", (copy.asked(), copy.builds()), (first, ["lib"]))
+    suite.equal("no library in its place", (copy.asked(), copy.builds()), (first, BUILT))
     loader = copy.root / "tools/loader/loader.c"
     copy.write("tools/loader/loader.c", loader.read_text().replace("fwrite(out, 1, length", 'puts("mended"), fwrite(out, 1, length'), LONG_AGO)
     suite.equal("the loading tool's own source", (copy.asked(), copy.builds()), ((0, "mended\nfirst\n", ""), []))
@@ -202,7 +221,7 @@ def edited(suite: Suite, copy: Copy):
         suite.equal(f"and {later} afterwards", copy.asked(), (0, f"{later}\n", ""))
         copy.builds()
     copy.write("crates/below/src/lib.rt", "first")
-    suite.equal("first again", (copy.asked(), copy.builds()), ((0, "first\n", ""), ["lib"]))
+    suite.equal("first again", (copy.asked(), copy.builds()), ((0, "first\n", ""), BUILT))
 
 
 def at_once(suite: Suite, copy: Copy):
@@ -212,7 +231,7 @@ def at_once(suite: Suite, copy: Copy):
     calls = [subprocess.Popen([copy.root / "vexil-compat"], **words) for _ in range(4)]
     answers = [(*call.communicate(), call.returncode) for call in calls]
     suite.equal("four at once answer", answers, [("second\n", "", 0)] * 4)
-    suite.equal("and build once", copy.builds(), ["lib"])
+    suite.equal("and build once", copy.builds(), BUILT)
     copy.write("crates/below/src/lib.rt", "first")
     words = {**words, "env": copy.environment(SECONDS_EACH="20"), "start_new_session": True}
     # As from a terminal, also if whoever runs the tests ignores the signal.
@@ -223,10 +242,10 @@ def at_once(suite: Suite, copy: Copy):
     suite.equal("who asks for help does not wait", (copy.asked("--help")[0], time.monotonic() - start < 10), (0, True))
     os.killpg(call.pid, signal.SIGINT)
     suite.equal("a call that is broken off answers nothing", (call.communicate()[0], call.returncode == 0), ("", False))
-    for busy in copy.cache.glob("vexil_compat/*/busy"):
+    for busy in copy.cache.glob("vexil_compat/*/vexil_compat/below/busy"):
         busy.rmdir()
     copy.builds()
-    suite.equal("the next one builds", (copy.asked(), copy.builds()), ((0, "first\n", ""), ["lib"]))
+    suite.equal("the next one builds", (copy.asked(), copy.builds()), ((0, "first\n", ""), BUILT))
 
 
 def on_terminal(copy: Copy, **environment) -> str:
@@ -253,8 +272,8 @@ def progress(suite: Suite, copy: Copy):
     copy.write("crates/below/src/lib.rt", "second")
     said = on_terminal(copy, SECONDS_EACH="1.3")
     suite.equal("what it does", "vexil-compat: the library is proved first, 3 crates" in said, True)
-    suite.equal("the first crate", bool(re.search(r"0 of 3 crates proved, now below \(0:0\d\)", said)), True)
-    suite.equal("the next", bool(re.search(r"1 of 3 crates proved, now beside \(0:0\d\)", said)), True)
+    suite.equal("the first crate", bool(re.search(r"0 of 3 crates proved, now \w+ \(0:0\d\)", said)), True)
+    suite.equal("the next", bool(re.search(r"1 of 3 crates proved, now \w+ \(0:0\d\)", said)), True)
     suite.equal("the last", bool(re.search(r"2 of 3 crates proved, now vexil_compat \(0:0\d\)", said)), True)
     suite.equal("a current build says nothing", on_terminal(copy), "")
     copy.write("crates/below/src/lib.rt", "first")
@@ -265,11 +284,12 @@ def progress(suite: Suite, copy: Copy):
 def no_build(suite: Suite, copy: Copy):
     """Without a build there is no answer: status 2 and what is missing."""
     current = (0, "first\n", "")
-    copy.write("crates/vexil_compat/src/lib.rt", "unprovable")
-    status, printed, said = copy.asked()
-    suite.equal("what is not proved", (status, printed, "vexil_compat NOT PROVED" in said, "not proved; the whole log" in said), (2, "", True, True))
-    suite.equal("nor the next time", copy.asked()[:2], (2, ""))
-    copy.write("crates/vexil_compat/src/lib.rt", "first")
+    for crate, why in (("vexil_compat", "vexil_compat is not proved"), ("below", "below NOT PROVED")):
+        copy.write(f"crates/{crate}/src/lib.rt", "unprovable")
+        status, printed, said = copy.asked()
+        suite.equal(f"what is not proved: {crate}", (status, printed, why in said, "not proved; the whole log" in said), (2, "", True, True))
+        suite.equal("nor the next time", copy.asked()[:2], (2, ""))
+        copy.write(f"crates/{crate}/src/lib.rt", "first")
     suite.equal("proved again", copy.asked(), current)
     suite.equal("a current build needs no toolchain", copy.asked(rt=False), current)
     suite.equal("nor does it mind another", copy.asked(OTHER_KIT="rattle-kit-9"), current)
@@ -280,7 +300,7 @@ def no_build(suite: Suite, copy: Copy):
     suite.equal("another toolchain", (status, printed, "here    rattle-kit-9\n" in said, f"KIT-ID  {KIT}\n" in said), (2, "", True, True))
     suite.equal("another toolchain, on demand", copy.asked(OTHER_KIT="rattle-kit-9", VEXIL_COMPAT_ANY_KIT="1"), current)
     copy.builds()
-    suite.equal("what another proved is not taken without demand", (copy.asked(), copy.builds()), (current, ["lib"]))
+    suite.equal("what another proved is not taken without demand", (copy.asked(), copy.builds()), (current, BUILT))
     broken = copy.root / "tools/loader/refusals.c"
     copy.write("tools/loader/refusals.c", "broken")
     suite.equal("a loading tool that does not build", copy.asked()[:2], (2, ""))
@@ -331,4 +351,4 @@ if __name__ == "__main__":
     def prepare(suite: Suite):
         suite.copy = Copy(suite.folder)
 
-    sys.exit(Suite.run(prepare, *map(in_copy, (stale, replaced, edited, at_once, progress, no_build, words)), of_repository))
+    sys.exit(Suite.run(prepare, *map(in_copy, (stale, stale_by_others, stale_beside, replaced, edited, at_once, progress, no_build, words)), of_repository))
