@@ -5,6 +5,8 @@
 #   tools/oracle/build.sh --without-vexil     without it: the reader and the model only
 #   tools/oracle/build.sh --with-library DIR  target/oracle/oracle-library instead, which DIR/libvexil_compat.a is linked into;
 #                                             with or without the real `check`
+#   tools/oracle/build.sh --with-library DIR --with-judge DIR
+#                                             target/oracle/oracle-second instead, with the libjudge.a of tools/judge, too
 #
 # The Vexil sources come from $VEXIL_SRC, or else from ../shared/docs/src beside
 # this repository. They are copied below target/, held against the committed
@@ -28,6 +30,10 @@ while [ $# -gt 0 ]; do
       fi
       name=oracle-library
       library=(--cfg library -L "native=$2" -l static=vexil_compat)
+      shift ;;
+    --with-judge)
+      name=oracle-second
+      library+=(--cfg second -L "native=${2-}" -l static=judge -l stdc++)
       shift ;;
     *) echo "build.sh: unknown word: $1" >&2; exit 2 ;;
   esac
@@ -60,6 +66,6 @@ rust=(rustc --edition 2021 -O -D warnings)
 "${rust[@]}" --crate-type rlib --crate-name smol_str --out-dir "$out" "$here/stand_ins/smol_str.rs"
 # The selftest reads the samples, README.md and docs/FORMAT.md.
 export VEXIL_COMPAT_ROOT=$repo
-"${rust[@]}" --check-cfg 'cfg(vexil, library)' "${cfg[@]}" "${library[@]}" --crate-name oracle \
+"${rust[@]}" --check-cfg 'cfg(vexil, library, second)' "${cfg[@]}" "${library[@]}" --crate-name oracle \
   --extern "smol_str=$out/libsmol_str.rlib" -o "$out/$name" "$here/src/main.rs"
 echo "built $out/$name${cfg[0]:+ with the real check}"

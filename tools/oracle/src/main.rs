@@ -64,7 +64,9 @@ built with the Vexil sources also:
 built with the library also:
        oracle-library bench FILE
        oracle-library hammer FILE SEED COUNT SECONDS FOLDER
-       oracle-library hammer --refiled | --imports | --mended SEED COUNT SECONDS FOLDER";
+       oracle-library hammer --refiled | --imports | --mended SEED COUNT SECONDS FOLDER
+built with the second judge also:
+       oracle-second second SEED COUNT SECONDS FOLDER";
 
 fn main() {
     let words: Vec<String> = std::env::args().skip(1).collect();
@@ -111,6 +113,10 @@ fn run(words: &[&str]) -> Outcome {
             number(seconds)?,
             folder,
         ),
+        #[cfg(second)]
+        ["second", seed, count, seconds, folder] => {
+            library::second::run(number(seed)?, number(count)?, number(seconds)?, folder)
+        }
         _ => Err(USAGE.to_string()),
     }
 }

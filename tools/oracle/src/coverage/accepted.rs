@@ -121,9 +121,8 @@ fn of_type(fact: &mut impl FnMut(String), ty: &Type, node: usize) {
 pub fn rows(rows: &mut Rows) {
     let mut each = |text: String| rows.sides(|side| format!("accepted {side}: {text}"));
     each(format!("{IMAGE_BYTES} bytes"));
-    each("8 bytes".to_string());
-    each("listed body behind 32,000 bytes".to_string());
-    for text in ["N 512", "M 512", "N 0", "M 0"] {
+    let sizes = ["8 bytes", "listed body behind 32,000 bytes"];
+    for text in sizes.into_iter().chain(["N 512", "M 512", "N 0", "M 0"]) {
         each(text.to_string());
     }
     for segments in 0..=16 {

@@ -22,7 +22,7 @@ const REPORT_ROOM: usize = 1 << 20;
 const MORE_ONCE_IN: u64 = 4;
 
 /// The images that stand for each side of a pair: one, or one and its copies.
-type Sides = [Vec<Vec<u8>>; 2];
+pub type Sides = [Vec<Vec<u8>>; 2];
 
 /// The pair in hand, in files, and that of which it is a copy, or itself: there
 /// they are also after a fault or a call without end.
@@ -121,7 +121,7 @@ fn with_copies(rng: &mut Rng) -> Sides {
 
 /// Random pairs, among them some with copies and some made for another verdict, each
 /// from numbers of their own: the others are those of the seed alone.
-fn random(seed: u64, count: u64) -> impl Iterator<Item = Sides> {
+pub fn random(seed: u64, count: u64) -> impl Iterator<Item = Sides> {
     let (mut rng, mut filing) = (Rng::new(seed), Rng::new(!seed));
     let others = [(Verdict::Imports, 32), (Verdict::Mended, 16)];
     let mut others = others.map(|(verdict, turn)| (verdict, Rng::new(seed.rotate_left(turn))));

@@ -10,6 +10,8 @@ pub mod hammer;
 mod held;
 #[cfg(vexil)]
 mod realistic;
+#[cfg(second)]
+pub mod second;
 #[cfg(vexil)]
 mod timed;
 #[cfg(vexil)]
