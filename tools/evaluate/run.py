@@ -15,9 +15,10 @@ from pathlib import Path
 
 ROOT = Path(__file__).resolve().parents[2]
 sys.path.append(str(ROOT / "tools"))
+from layers import below, listed
 from pairs import IMPORTS, MENDED, PLAIN, recorded
 
-CRATES = ("maps", "image", "refusals", "text", "rules")
+CRATES = sorted({"rules", *below("rules", {crate: set(others) for crate, others in listed().items()})})
 IMAGES, REPORT = 1200, 4000  # the most bytes of both images, and of a report
 PER_FILE = 20
 # `reports` unfolds all that a report is computed by.
