@@ -1,4 +1,4 @@
-# make                      proves and builds the library and the loading tool (about seven minutes the first time)
+# make                      proves and builds the library and the loading tool (seven to ten minutes the first time)
 # make install PREFIX=DIR   installs the library, its header, a file for pkg-config and the tool `vexil-compat`; DESTDIR goes before it
 # make uninstall PREFIX=DIR
 # make test                 all tests, ./test

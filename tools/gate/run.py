@@ -1,6 +1,6 @@
 #!/usr/bin/env python3
-"""All tests of the repository: proofs, must-fail edits, programs and tools. They take about 28 minutes on four cores and 50 on two; what is
-proved is kept on that machine, so that a later run takes about 10 minutes. The last line is `N passed, M failed`, the sum of what ran; what could
+"""All tests of the repository: proofs, must-fail edits, programs and tools. They take 30 to 50 minutes on four cores, by the
+machine, and longer on two; what is proved is kept on that machine, so that a later run takes about 15 minutes. The last line is `N passed, M failed`, the sum of what ran; what could
 not run is named and not counted."""
 
 import os
@@ -115,6 +115,7 @@ def crates(gate: Gate):
 def gate_tests(gate: Gate):
     for tests in ("checks_test.py", "declarations_test.py", "edits_test.py", "run_test.py"):
         gate.command(f"tools/gate/{tests}", sys.executable, f"tools/gate/{tests}", "-q", "-b")
+    gate.command("tools/layers.py --check", sys.executable, "tools/layers.py", "--check")
 
 
 def oracle(gate: Gate):

@@ -17,6 +17,8 @@ processes=${4:-1}
 sh "$here/build.sh"
 library=$(bash "$repo/tools/loader/library.sh")
 bash "$repo/tools/oracle/build.sh" --with-library "$library" --with-judge "$repo/target/judge"
+# What an earlier run said counts for nothing.
+rm -f "$repo/target/judge"/*.log
 for ((process = 0; process < processes; process++)); do
     seed=$(($1 + process))
     "$repo/target/oracle/oracle-second" second $seed $(($2 / processes)) "$seconds" "$repo/target/judge/$seed" > "$repo/target/judge/$seed.log" &
