@@ -2,7 +2,7 @@
 // names: "Of declarations with one name the last listed stands."
 ghost use Rattle.std.specs.Prelude.{◌≤◌, length};
 
-use crate::nearest::{is_nearer, is_same, name_of};
+use crate::nearest::{is_nearer, name_of};
 use parts::handles::{Decl, Image};
 
 // What may stand in an image: with a set of its ids, none for the verdict of document 01, the reached ones for that with imports.
@@ -46,26 +46,39 @@ impl<'a> Declarations<'a> {
     }
 
     // The declaration that stands under a name: "The search goes from the end and stops at the first match."
-    #[tactic(auto, using(crate::proofs::Laws::Listed::backward))]
+    #[tactic(auto, using(crate::proofs::Laws::Listed::backward, crate::proofs::Laws::Nearest::agreeing))]
     pub fn survivor(self, name: &[u8]) -> Option<Decl<'a>>
         ensures { Survives (standing_of self.entry) self.entry.image name.now result }
     {
         let mut i = self.count();
-        while i != 0 {
+        'search: loop {
+            if i == 0 {
+                break None;
+            }
             i -= 1;
-            if let Some(decl) = self.candidate(i) {
-                if is_same(name, decl.name()) {
-                    return Some(decl);
+            let Some(decl) = self.candidate(i) else {
+                continue;
+            };
+            let own = decl.name();
+            if name.len() == own.len() {
+                let mut j = 0;
+                loop {
+                    if j == name.len() {
+                        break 'search Some(decl);
+                    }
+                    if name[j] != own[j] {
+                        break;
+                    }
+                    j += 1;
                 }
             }
         }
-        None
     }
 
     // The declaration that stands under the least name past that of `after`, from the start if that is none: in a pass from the front that goes
     // over to a later one of the same name.
     #[tactic(auto, using(crate::proofs::Laws::Listed::forward))]
-    pub(crate) fn following(self, after: Option<Decl<'a>>) -> Option<Decl<'a>>
+    pub fn following(self, after: Option<Decl<'a>>) -> Option<Decl<'a>>
         ensures { Follows (standing_of self.entry) self.entry.image after.entry result }
     {
         let n = self.count();

@@ -1,7 +1,6 @@
-// Names of declarations: whether two are the same, and whether a declaration takes the place of the best one so far, on the way to the one that
-// comes next.
+// Whether a declaration takes the place of the best one so far, on the way to the one that comes next, by their names.
 ghost use Rattle.std.specs.Prelude.{◌≡◌};
-ghost use Rattle.maps.specs.Orders.{same, before};
+ghost use Rattle.maps.specs.Orders.{before};
 ghost use Rattle.maps.specs.Walk.{past};
 ghost use Rattle.survivors.specs.Answers.{named, name_at, name_with, nearer_name};
 
@@ -13,24 +12,6 @@ pub(crate) fn name_of<'a>(found: Option<Decl<'a>>) -> Option<&'a [u8]>
 {
     let decl = found?;
     Some(decl.name())
-}
-
-// Whether two names are the same: told byte by byte, since the names that are compared mostly differ at once.
-#[tactic(auto, using(crate::proofs::Laws::Nearest::agreeing))]
-pub(crate) fn is_same(a: &[u8], b: &[u8]) -> bool
-    ensures { result ≡ same before a.now b.now }
-{
-    if a.len() != b.len() {
-        return false;
-    }
-    let mut j = 0;
-    while j != a.len() {
-        if a[j] != b[j] {
-            return false;
-        }
-        j += 1;
-    }
-    true
 }
 
 // Whether one name stands before another.

@@ -94,21 +94,19 @@ module _ {ds : Declarations} {name : Name} where
           unfolding shown resolved
           one = rw (← v.value, u)
 
-          -- t: it has the name
-          module _ {t : Bool} (q : t ≡ same before name own) where
-            pub left_other : t ≡ false → Left ds name (i - 1)
-            unfolding back
-            left_other n = record {
-              most = less;
-              found = sym (latest_other name_of before name shown (candidates ds) None i h k.most (decl_of d) one (rw w at (sym q ∙ n))) ∙ k.found;
-            }
+          pub left_other : false ≡ same before name own → Left ds name (i - 1)
+          unfolding back
+          left_other n = record {
+            most = less;
+            found = sym (latest_other name_of before name shown (candidates ds) None i h k.most (decl_of d) one (rw w at (sym n))) ∙ k.found;
+          }
 
-            pub left_found : t ≡ true → Survives (standing_of ds) ds.image name (Some d)
-            unfolding back
-            left_found n = record {
-              value = sym (latest_found name_of before name shown (candidates ds) None i h k.most (decl_of d) one (rw w at (sym q ∙ n))) ∙ k.found;
-              image = rw u at v.image;
-            }
+          pub left_found : true ≡ same before name own → Survives (standing_of ds) ds.image name (Some d)
+          unfolding back
+          left_found n = record {
+            value = sym (latest_found name_of before name shown (candidates ds) None i h k.most (decl_of d) one (rw w at (sym n))) ∙ k.found;
+            image = rw u at v.image;
+          }
 
 -- ---- from the front
 
