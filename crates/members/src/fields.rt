@@ -12,7 +12,7 @@ use parts::{Coding, Encoding};
 
 // Whether a field is marked as deprecated.
 #[tactic(auto, using(parts::proofs::Laws::Fields::deprecation))]
-pub(crate) fn field_deprecated(image: &[u8], at: usize) -> bool
+pub fn field_deprecated(image: &[u8], at: usize) -> bool
     requires { ItemHere Shape.Field image.now at }
     ensures { result ≡ (field_in image.now at).marks.deprecated }
 {
@@ -35,7 +35,7 @@ fn deltas(image: &[u8], at: usize) -> usize
 
 // A field's encoding.
 #[tactic(auto, using(parts::proofs::Laws::Fields::encodings))]
-pub(crate) fn field_encoding(image: &[u8], at: usize) -> Encoding
+pub fn field_encoding(image: &[u8], at: usize) -> Encoding
     requires { ItemHere Shape.Field image.now at }
     ensures { coding_of result ≡ (field_in image.now at).encoding }
 {
@@ -62,7 +62,7 @@ fn limit_place(image: &[u8], at: usize) -> usize
 
 // A field's limit, if it has one.
 #[tactic(auto, using(parts::proofs::Laws::Fields::limits))]
-pub(crate) fn field_limit(image: &[u8], at: usize) -> Option<u64>
+pub fn field_limit(image: &[u8], at: usize) -> Option<u64>
     requires { ItemHere Shape.Field image.now at }
     ensures { result ≡ (field_in image.now at).limit }
 {
@@ -83,7 +83,7 @@ fn is_plain(image: &[u8], at: usize) -> bool
 
 // Where a field's type stands. Most fields are plain: their type is found by the length of the name alone.
 #[tactic(auto, using(parts::proofs::Laws::Fields::types))]
-pub(crate) fn field_type(image: &[u8], at: usize) -> usize
+pub fn field_type(image: &[u8], at: usize) -> usize
     requires { ItemHere Shape.Field image.now at }
     ensures { result ≡ type_place image.now at }
 {

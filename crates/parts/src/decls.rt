@@ -14,7 +14,7 @@ use image::kinds::Kind;
 use image::numbers::u16_at;
 
 #[tactic(auto, using(crate::proofs::Laws::Decls::heads))]
-pub(crate) fn decl_kind(image: &[u8], at: usize) -> Kind
+pub fn decl_kind(image: &[u8], at: usize) -> Kind
     requires { DeclHere image.now at }
     ensures { kind_number result ≡ (decl_in image.now at).kind }
 {
@@ -23,7 +23,7 @@ pub(crate) fn decl_kind(image: &[u8], at: usize) -> Kind
 
 // The bytes of the name; an impl's is empty.
 #[tactic(auto, using(crate::proofs::Laws::Decls::heads))]
-pub(crate) fn decl_name(image: &[u8], at: usize) -> &[u8]
+pub fn decl_name(image: &[u8], at: usize) -> &[u8]
     requires { DeclHere image.now at }
     ensures { result.now ≡ (decl_in image.now at).name }
 {
@@ -52,7 +52,7 @@ fn marks(image: &[u8], at: usize) -> u8
 
 // Whether a declaration is marked as deprecated.
 #[tactic(auto, unfolding(image::specs::Fields::marks_of))]
-pub(crate) fn deprecated(image: &[u8], at: usize) -> bool
+pub fn deprecated(image: &[u8], at: usize) -> bool
     requires { DeclHere image.now at }
     ensures { result ≡ (decl_in image.now at).marks.deprecated }
 {
@@ -61,7 +61,7 @@ pub(crate) fn deprecated(image: &[u8], at: usize) -> bool
 
 // Whether a declaration is marked as non-exhaustive.
 #[tactic(auto, unfolding(image::specs::Fields::marks_of))]
-pub(crate) fn non_exhaustive(image: &[u8], at: usize) -> bool
+pub fn non_exhaustive(image: &[u8], at: usize) -> bool
     requires { DeclHere image.now at }
     ensures { result ≡ (decl_in image.now at).marks.non_exhaustive }
 {
@@ -123,7 +123,7 @@ pub fn width_place(image: &[u8], at: usize) -> usize
 
 // The width of a declaration: of an enum in wire bits, of flags in wire bytes. Nothing else has one, nor do they in a format without widths.
 #[tactic(auto, using(crate::proofs::Laws::Decls::widths))]
-pub(crate) fn width(image: &[u8], at: usize) -> Option<u8>
+pub fn width(image: &[u8], at: usize) -> Option<u8>
     requires { DeclHere image.now at }
     ensures { result ≡ (decl_in image.now at).width }
 {
@@ -135,7 +135,7 @@ pub(crate) fn width(image: &[u8], at: usize) -> Option<u8>
 
 // Where a newtype's type stands.
 #[tactic(auto, using(crate::proofs::Laws::Decls::heads), unfolding(crate::specs::Promise::inner_place))]
-pub(crate) fn inner_type(image: &[u8], at: usize) -> usize
+pub fn inner_type(image: &[u8], at: usize) -> usize
     requires { DeclHere image.now at × ((decl_in image.now at).kind ≡ number newtype_kind) }
     ensures { result ≡ inner_place image.now at }
 {

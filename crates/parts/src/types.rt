@@ -11,7 +11,7 @@ use image::numbers::{u32_at, u64_at};
 use image::tags::Tag;
 
 #[tactic(auto, using(crate::proofs::Laws::Labels::labels))]
-pub(crate) fn type_tag(image: &[u8], at: usize) -> Tag
+pub fn type_tag(image: &[u8], at: usize) -> Tag
     requires { LabelHere image.now at }
     ensures { tag_number result ≡ (label_in image.now at).tag }
 {
@@ -20,7 +20,7 @@ pub(crate) fn type_tag(image: &[u8], at: usize) -> Tag
 
 // The code of a primitive or a semantic type; of a sub-byte, whether it is signed.
 #[tactic(auto, using(crate::proofs::Laws::Labels::label_parts))]
-pub(crate) fn type_code(image: &[u8], at: usize) -> u8
+pub fn type_code(image: &[u8], at: usize) -> u8
     requires { LabelHere image.now at × ((label_in image.now at).tag ≤ number semantic_tag) }
     ensures { result ≡ (label_in image.now at).first }
 {
@@ -29,7 +29,7 @@ pub(crate) fn type_code(image: &[u8], at: usize) -> u8
 
 // The bits of a sub-byte.
 #[tactic(auto, using(crate::proofs::Laws::Labels::label_parts))]
-pub(crate) fn type_bits(image: &[u8], at: usize) -> u8
+pub fn type_bits(image: &[u8], at: usize) -> u8
     requires { LabelHere image.now at × ((label_in image.now at).tag ≡ number sub_byte_tag) }
     ensures { result ≡ (label_in image.now at).second }
 {
@@ -38,7 +38,7 @@ pub(crate) fn type_bits(image: &[u8], at: usize) -> u8
 
 // The id of a named type.
 #[tactic(auto, using(crate::proofs::Laws::Labels::label_parts))]
-pub(crate) fn type_id(image: &[u8], at: usize) -> u32
+pub fn type_id(image: &[u8], at: usize) -> u32
     requires { LabelHere image.now at × ((label_in image.now at).tag ≡ number named_tag) }
     ensures { result ≡ (label_in image.now at).first }
 {
@@ -47,7 +47,7 @@ pub(crate) fn type_id(image: &[u8], at: usize) -> u32
 
 // The size of a fixed array.
 #[tactic(auto, using(crate::proofs::Laws::Labels::label_parts))]
-pub(crate) fn type_size(image: &[u8], at: usize) -> u64
+pub fn type_size(image: &[u8], at: usize) -> u64
     requires { LabelHere image.now at × ((label_in image.now at).tag ≡ number fixed_array_tag) }
     ensures { result ≡ (label_in image.now at).first }
 {
@@ -56,7 +56,7 @@ pub(crate) fn type_size(image: &[u8], at: usize) -> u64
 
 // The names of bits.
 #[tactic(auto, using(crate::proofs::Laws::Labels::label_parts), unfolding(crate::specs::Promise::bits_in))]
-pub(crate) fn bit_names(image: &[u8], at: usize) -> Run
+pub fn bit_names(image: &[u8], at: usize) -> Run
     requires { LabelHere image.now at × ((label_in image.now at).tag ≡ number bits_tag) }
     ensures { result ≡ bits_in image.now at }
 {
@@ -68,7 +68,7 @@ pub(crate) fn bit_names(image: &[u8], at: usize) -> Run
 
 // Where the first inner type starts.
 #[tactic(auto, using(crate::proofs::Laws::Labels::label_ends))]
-pub(crate) fn label_end(image: &[u8], at: usize) -> usize
+pub fn label_end(image: &[u8], at: usize) -> usize
     requires { LabelHere image.now at }
     ensures { result ≡ label_end image.now at }
 {

@@ -12,7 +12,7 @@ use members::places::Places;
 
 // The place of the item that stands under an ordinal, the last one listed.
 #[tactic(auto, using(crate::proofs::Laws::Passed::founds))]
-pub(crate) fn survivor_item(places: Places<'_>, ordinal: u32) -> Option<usize>
+pub fn survivor_item(places: Places<'_>, ordinal: u32) -> Option<usize>
     ensures { ItemSurvives places.entry ordinal result }
 {
     let mut found = None;
@@ -60,7 +60,7 @@ fn is_nearer(after: Option<u32>, best: Option<(u32, usize)>, ordinal: u32) -> bo
 
 // The least ordinal past `after` under which an item stands, from the start if that is none, with the item's place.
 #[tactic(auto, using(crate::proofs::Laws::Passed::nearings))]
-pub(crate) fn next_item(places: Places<'_>, after: Option<u32>) -> Option<(u32, usize)>
+pub fn next_item(places: Places<'_>, after: Option<u32>) -> Option<(u32, usize)>
     ensures { ItemFollows places.entry after result }
 {
     let mut best = None;
