@@ -11,7 +11,9 @@ use crate::positions::Position;
 // items are read with positions held as u16.
 const NARROW: usize = 65535;
 
-// A count, and as many items, each of which `read` reads.
+// A count, and as many items, each of which `read` reads. Put into its callers: most variants of a union count no fields, and a call for each
+// would take longer than the read.
+#[inline(always)]
 pub(crate) fn read_counted<P: Position, F: Fn(&[u8], P) -> Read>(s: &[u8], at: P, read: F) -> Read
     requires carried { Carries P.carries s.now }
     requires callable { ReadsAt (F.pre read) P.carries }

@@ -11,7 +11,11 @@ use crate::refusals::Refusal;
 fn is_name_byte(b: u8) -> bool
     ensures { result ≡ name_byte b }
 {
-    b.is_ascii_lowercase() || b.is_ascii_uppercase() || b.is_ascii_digit() || b == b'_'
+    // Small letters stand last in the code and are most of a name.
+    if b'a' <= b {
+        return b <= b'z';
+    }
+    b.is_ascii_uppercase() || b.is_ascii_digit() || b == b'_'
 }
 
 // The length is judged before the bytes. `short` is the refusal where the list ends before the name does.

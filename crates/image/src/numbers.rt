@@ -1,5 +1,5 @@
 // Bytes, coded bytes and little-endian numbers.
-ghost use Rattle.std.specs.Prelude.{◌≡◌, ◌+◌, ◌≤◌, ◌<◌, length, drop};
+ghost use Rattle.std.specs.Prelude.{◌≡◌, ◌+◌, ◌^◌, ◌≤◌, ◌<◌, length, drop};
 ghost use Rattle.image.specs.Codes.{number, body_refusal};
 ghost use Rattle.image.specs.Parse.{byte_at, code_at, number_at, little_endian};
 ghost use Rattle.image.specs.Reads.{read_of, skip};
@@ -50,7 +50,21 @@ pub(crate) fn read_number(s: &[u8], at: usize, w: usize) -> Read
     Ok(at + w)
 }
 
-// The number of two bytes that are there, the lowest first.
+// The number of w bytes that are there, the lowest first.
+pub fn number(s: &[u8], at: usize, w: usize) -> u64
+    requires { (w ≤ 8) × (at + w ≤ length s.now) }
+    ensures { (result ≡ little_endian w (drop at s.now)) × (result < 256 ^ w) }
+{
+    let mut i = at + w;
+    let mut value: u64 = 0;
+    while at < i {
+        i -= 1;
+        value = value * 256 + s[i] as u64;
+    }
+    value
+}
+
+// That of two, without a loop.
 #[tactic(auto, using(crate::proofs::Laws::Numbers::lowest_first))]
 pub fn u16_at(s: &[u8], at: usize) -> usize
     requires { at + 2 ≤ length s.now }
