@@ -22,7 +22,7 @@ pub fn ordinal_at(image: &[u8], at: usize) -> u32
 
 // The bytes of the name of an item.
 #[tactic(auto, using(parts::proofs::Laws::Items::bares))]
-pub(crate) fn item_name(image: &[u8], at: usize) -> &[u8]
+pub fn item_name(image: &[u8], at: usize) -> &[u8]
     requires { ItemHere Shape.Bare image.now at }
     ensures { result.now ≡ item_name image.now at }
 {
@@ -43,7 +43,7 @@ fn items_at(image: &[u8], at: usize) -> Run
 
 // The items of a message, an enum, flags or a union.
 #[tactic(auto, using(parts::proofs::Laws::Counted::counts))]
-pub(crate) fn decl_items(image: &[u8], at: usize) -> Run
+pub fn decl_items(image: &[u8], at: usize) -> Run
     requires { DeclHere image.now at × ((decl_in image.now at).kind ≤ number union_kind) }
     ensures { result ≡ items_in image.now at }
 {
@@ -56,16 +56,17 @@ pub(crate) fn decl_items(image: &[u8], at: usize) -> Run
 
 // The fields of a union's variant.
 #[tactic(auto, using(parts::proofs::Laws::Items::variants), unfolding(parts::specs::Promise::variant_items))]
-pub(crate) fn variant_items(image: &[u8], at: usize) -> Run
+pub fn variant_items(image: &[u8], at: usize) -> Run
     requires { ItemHere Shape.Variant image.now at }
     ensures { result ≡ variant_items image.now at }
 {
     items_at(image, name_end(image, at + 4))
 }
 
-// The end of so many fields.
+// The end of so many fields. Kept apart from the ends of items, which are short and asked far more often.
+#[inline(never)]
 #[tactic(auto, using(parts::proofs::Laws::Items::runs))]
-fn fields_end(image: &[u8], at: usize, count: usize) -> usize
+fn fields_passed(image: &[u8], at: usize, count: usize) -> usize
     requires { ItemsHere Shape.Field image.now count at }
     ensures { result ≡ items_end Shape.Field image.now count at }
 {
@@ -74,6 +75,18 @@ fn fields_end(image: &[u8], at: usize, count: usize) -> usize
         next = field_end(image, next);
     }
     next
+}
+
+// The same: most variants have none.
+#[tactic(auto, using(parts::proofs::Laws::Items::runs))]
+fn fields_end(image: &[u8], at: usize, count: usize) -> usize
+    requires { ItemsHere Shape.Field image.now count at }
+    ensures { result ≡ items_end Shape.Field image.now count at }
+{
+    if count == 0 {
+        return at;
+    }
+    fields_passed(image, at, count)
 }
 
 // The numbers that are struck off at a place.
@@ -105,8 +118,7 @@ fn tombstones_end(image: &[u8], at: usize) -> usize
     at
 }
 
-// The end of a union's variant. Kept apart from the ends of other items, which are short and asked far more often.
-#[inline(never)]
+// The end of a union's variant.
 #[tactic(auto, using(parts::proofs::Laws::Items::variants))]
 fn variant_end(image: &[u8], at: usize) -> usize
     requires { ItemHere Shape.Variant image.now at }
@@ -128,7 +140,7 @@ fn bare_end(image: &[u8], at: usize) -> usize
 
 // The place after an item, where the next one starts.
 #[tactic(auto, using(parts::proofs::Laws::Items::numbers))]
-pub(crate) fn item_end(image: &[u8], shape: Shape, at: usize) -> usize
+pub fn item_end(image: &[u8], shape: Shape, at: usize) -> usize
     requires { ItemHere shape image.now at }
     ensures { result ≡ item_end shape image.now at }
 {

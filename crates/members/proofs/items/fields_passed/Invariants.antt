@@ -2,7 +2,7 @@
 use Rattle.std.proofs.Common.{◌≡◌, ◌-◌}
 use Rattle.parts.specs.Promise.{ItemsHere, items_end}
 use Rattle.parts.specs.declared.Shape.{Shape}
-use Rattle.members.proofs.items.fields_end.Given as goal
+use Rattle.members.proofs.items.fields_passed.Given as goal
 
 abbrev pub invariant-loop : goal.invariant-loop
 invariant-loop l =
