@@ -112,7 +112,7 @@ count_few k (c ∷ cs) = go (eqb c.kind k) (count_few k cs)
     go true h = omega arith
     go false h = omega arith
 
-counts_length : (n from : ℕ) (cs : List Change) → length (counts n from cs) ≡ n
+pub counts_length : (n from : ℕ) (cs : List Change) → length (counts n from cs) ≡ n
 unfolding counts
 counts_length zero from cs = refl
 counts_length (suc n) from cs = ap suc (counts_length n (suc from) cs)

@@ -1,2 +1,3 @@
 -- The tally of a list of changes.
 pub mod Tallies
+pub mod Unbounded
