@@ -34,6 +34,9 @@ fn read_opened(mut file: impl Read + Drop, image: &mut [u8]) -> usize
     let mut rest = &mut *image;
     // Each read but the last gives a byte or more.
     for _ in 0..rest.len() {
+        if rest.is_empty() {
+            break;
+        }
         match file.read(rest) {
             Ok(0) => break,
             Ok(n) => rest = &mut rest[n..],

@@ -26,7 +26,9 @@ fn compare(rt: &(impl Print + Eprint), old: &[u8], new: &[u8]) {
 fn list(rt: &(impl Print + Eprint), image: &[u8]) {
     let mut out = [0; ROOM];
     let answer = checked(image, out.len());
-    write_listing(image, &mut out);
+    if answer.is_ok() {
+        write_listing(image, &mut out);
+    }
     printing::print_answer(rt, answer, &out);
 }
 
