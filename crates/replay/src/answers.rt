@@ -7,18 +7,22 @@ use crate::values::Values;
 use std::io::Read;
 
 #[derive(Clone, Copy)]
-pub struct Answer {
+pub struct Answer<'a> {
     values: Values,
     // None of a refusal.
-    report: Option<Text>,
+    report: Option<Text<'a>>,
 }
 
-impl Answer {
-    // Number, side, bump, result, length, counts and report.
-    pub fn read(file: &mut impl Read, counts: usize) -> Result<Answer, Broken> {
+impl<'a> Answer<'a> {
+    // Number, side, bump, result, length, counts and report, which is read into a buffer.
+    pub fn read(
+        file: &mut impl Read,
+        counts: usize,
+        buffer: &'a mut [u8],
+    ) -> Result<Answer<'a>, Broken> {
         let values = Values::read(file, counts)?;
         let report = match values.number() {
-            0 => Some(Text::read(file, values.length())?),
+            0 => Some(Text::read(file, values.length(), buffer)?),
             _ => None,
         };
         Ok(Answer { values, report })

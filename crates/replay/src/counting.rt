@@ -1,5 +1,5 @@
 // What a run has counted.
-use std::fmt;
+use std::io;
 
 // Of so many pairs false answers are compared too, each of which must be counted as a difference.
 const FALSIFIED: u64 = 8;
@@ -38,20 +38,19 @@ impl Tally {
         self.caught = self.caught.saturating_add(u64::from(differs));
     }
 
+    // A line for each count, each written by itself: who reads them may have room for some alone.
+    pub fn print(&self, rt: &impl Print) -> io::Result<()> {
+        println!(rt; "pairs: {}", self.pairs)?;
+        println!(rt; "differences: {}", self.differences)?;
+        println!(rt; "falsified answers: {}", self.falsified)?;
+        println!(rt; "counted as differences: {}", self.caught)
+    }
+
     // A number beside the recorded one, and of the first pairs beside a false one.
     pub fn compare(&mut self, got: u64, recorded: u64) {
         self.tell(got != recorded);
         if self.falsifies() {
             self.falsify(got != u64::from(recorded == 0));
         }
-    }
-}
-
-impl fmt::Display for Tally {
-    fn fmt<W: fmt::Write>(&self, f: &mut fmt::Formatter<W>) -> fmt::Result {
-        writeln!(f, "pairs: {}", self.pairs)?;
-        writeln!(f, "differences: {}", self.differences)?;
-        writeln!(f, "falsified answers: {}", self.falsified)?;
-        write!(f, "counted as differences: {}", self.caught)
     }
 }

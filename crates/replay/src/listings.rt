@@ -1,7 +1,7 @@
 // The listing calls on one image beside what is recorded of it.
 use crate::counting::Tally;
 use crate::file::{Broken, read_u32};
-use crate::texts::{Text, replay_refused};
+use crate::texts::{ROOM, Text, replay_refused};
 use std::io::Read;
 
 // The listing's verdict for a buffer of so many bytes: number, side and length; a refusal is Major and Breaking; and selectors that give 0.
@@ -30,7 +30,8 @@ pub fn replay_listing(
     tally: &mut Tally,
 ) -> Result<(), Broken> {
     let size = read_u32(file)?;
-    let text = Text::read(file, size as usize)?;
+    let mut buffer = [0; ROOM];
+    let text = Text::read(file, size as usize, &mut buffer)?;
     let list = |out: &mut [u8]| vexil_compat::vexil_compat_listing(image, out);
     if number != 0 {
         for room in [0, u64::MAX] {

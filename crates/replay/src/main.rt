@@ -24,19 +24,22 @@ const COUNTS: usize = 64;
 // The header: eight bytes that say what the file is, the number of pairs and of counts, and four largest lengths.
 fn replay_file(rt: &impl Print, mut file: impl Read + Drop) -> Result<Tally, Broken> {
     let magic: [u8; 8] = read_array(&mut file)?;
-    let pairs = read_u32(&mut file)?;
-    let counts = read_u32(&mut file)? as usize;
-    let _lengths: [u8; 16] = read_array(&mut file)?;
-    if magic != *b"VEXANSW6" || COUNTS < counts {
+    if magic != *b"VEXANSW6" {
         return Err(Broken);
     }
+    let pairs = read_u32(&mut file)?;
+    let counts = read_u32(&mut file)? as usize;
+    if COUNTS < counts {
+        return Err(Broken);
+    }
+    let _lengths: [u8; 16] = read_array(&mut file)?;
     Run::new(file, counts).replay(rt, pairs)
 }
 
 fn main(rt: HostRuntime) -> io::Result<()> {
     let file = fs::open(&rt, "answers.bin")?;
     match replay_file(&rt, file) {
-        Ok(tally) => println!(rt; "{tally}"),
+        Ok(tally) => tally.print(&rt),
         Err(broken) => println!(rt; "{broken}"),
     }
 }

@@ -4,6 +4,7 @@ use crate::calls::{Imports, Mended, Pair, Plain, Verdict};
 use crate::counting::Tally;
 use crate::file::{Broken, read_bytes, read_u8, read_u32};
 use crate::listings::replay_listing;
+use crate::texts::ROOM;
 use std::io::{self, Read, Write};
 
 // The largest image that the file may hold.
@@ -91,7 +92,8 @@ impl<R: Read> Run<R> {
 
     // The answer of 01, and then that with imports and the mended one.
     fn replay_answers(&mut self, pair: Pair<'_>) -> Result<(), Broken> {
-        let answer = Answer::read(&mut self.file, self.counts)?;
+        let mut buffer = [0; ROOM];
+        let answer = Answer::read(&mut self.file, self.counts, &mut buffer)?;
         answer.replay::<Plain>(pair, &mut self.tally);
         self.replay_further::<Imports>(pair, &answer)?;
         self.replay_further::<Mended>(pair, &answer)
@@ -101,12 +103,14 @@ impl<R: Read> Run<R> {
     fn replay_further<V: Verdict>(
         &mut self,
         pair: Pair<'_>,
-        answer: &Answer,
+        answer: &Answer<'_>,
     ) -> Result<(), Broken> {
         if read_u8(&mut self.file)? == 0 {
             answer.replay::<V>(pair, &mut self.tally);
         } else {
-            Answer::read(&mut self.file, self.counts)?.replay::<V>(pair, &mut self.tally);
+            let mut buffer = [0; ROOM];
+            let own = Answer::read(&mut self.file, self.counts, &mut buffer)?;
+            own.replay::<V>(pair, &mut self.tally);
         }
         Ok(())
     }

@@ -6,7 +6,7 @@ use std::io::Read;
 
 // The bytes of a buffer: the longest text of the file, and some past it. What is lent to the call is a part at its start, and the rest
 // must stay as it was too.
-const ROOM: usize = 80064;
+pub const ROOM: usize = 80064;
 // What a buffer holds before the call.
 const BLANK: u8 = 165;
 // So many bytes more than the text has.
@@ -14,25 +14,21 @@ const SPARE: usize = 32;
 
 // A text as a call leaves it.
 #[derive(Clone, Copy)]
-pub struct Text {
+pub struct Text<'a> {
     length: usize,
-    // The whole buffer, since what stands past the text is compared too.
-    buffer: [u8; ROOM],
+    // The whole buffer, since what stands past the text is compared too. It is lent, and no text is copied.
+    buffer: &'a [u8],
 }
 
-impl Text {
-    // What a refusal leaves: 0, and the buffer as it was.
-    fn refusal() -> Text {
-        Text {
-            length: 0,
-            buffer: [BLANK; ROOM],
-        }
-    }
-
-    // A text of the file.
-    pub fn read(file: &mut impl Read, length: usize) -> Result<Text, Broken> {
-        let mut buffer = [BLANK; ROOM];
-        read_bytes(file, length, &mut buffer)?;
+impl<'a> Text<'a> {
+    // A text of the file, in a buffer of ROOM bytes.
+    pub fn read(
+        file: &mut impl Read,
+        length: usize,
+        buffer: &'a mut [u8],
+    ) -> Result<Text<'a>, Broken> {
+        buffer.fill(BLANK);
+        read_bytes(file, length, buffer)?;
         Ok(Text { length, buffer })
     }
 
@@ -41,7 +37,7 @@ impl Text {
         requires { F.IsAlwaysCallable call.now }
     {
         let mut out = [BLANK; ROOM];
-        buffers::differs(call, &mut out, lent, self.length as u64, &self.buffer)
+        buffers::differs(call, &mut out, lent, self.length as u64, self.buffer)
     }
 
     // In a buffer that is larger, exact, one byte short and empty; no buffer is too short for an empty text.
@@ -59,28 +55,49 @@ impl Text {
         }
     }
 
-    // A false length, a false byte past the text and a false byte of it, each of which must be told.
+    // A false length, a false byte past the text and a false byte of it, each of which must be told. Kept apart, as what follows is, so that its
+    // buffers are on the stack only as long as it runs.
+    #[inline(never)]
     fn replay_false<F: Fn(&mut [u8]) -> u64>(&self, call: &F, tally: &mut Tally)
         requires { F.IsAlwaysCallable call.now }
     {
         let lent = self.length.saturating_add(SPARE);
-        let mut longer = *self;
-        longer.length = self.length.saturating_add(1);
+        let longer = Text {
+            length: self.length.saturating_add(1),
+            buffer: self.buffer,
+        };
         tally.falsify(longer.differs(call, lent));
         for at in [self.length, 0] {
-            let mut wrong = *self;
-            put(&mut wrong.buffer, at, 1);
+            let mut bytes = [BLANK; ROOM];
+            copy(&mut bytes, self.buffer);
+            put(&mut bytes, at, 1);
+            let wrong = Text {
+                length: self.length,
+                buffer: &bytes,
+            };
             tally.falsify(wrong.differs(call, lent));
         }
     }
 }
 
-// Lent so many bytes, either way, the call refuses.
+// The bytes of a buffer into another.
+fn copy(to: &mut [u8], from: &[u8]) {
+    for (place, byte) in to.iter_mut().zip(from) {
+        *place = *byte;
+    }
+}
+
+// Lent so many bytes, either way, the call refuses: it returns 0 and leaves the buffer as it was.
+#[inline(never)]
 fn replay_untouched<F: Fn(&mut [u8]) -> u64>(call: &F, rooms: [usize; 2], tally: &mut Tally)
     requires { F.IsAlwaysCallable call.now }
 {
+    let refusal = Text {
+        length: 0,
+        buffer: &[BLANK; ROOM],
+    };
     for lent in rooms {
-        tally.tell(Text::refusal().differs(call, lent));
+        tally.tell(refusal.differs(call, lent));
     }
 }
 
