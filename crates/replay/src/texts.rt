@@ -55,8 +55,8 @@ impl<'a> Text<'a> {
         }
     }
 
-    // A false length, a false byte past the text and a false byte of it, each of which must be told. Kept apart, as what follows is, so that its
-    // buffers are on the stack only as long as it runs.
+    // A false length, a false byte past the text and a false byte of it, each of which must be told. Kept apart, as
+    // `replay_untouched` is, so that its buffers are on the stack only as long as it runs.
     #[inline(never)]
     fn replay_false<F: Fn(&mut [u8]) -> u64>(&self, call: &F, tally: &mut Tally)
         requires { F.IsAlwaysCallable call.now }
