@@ -65,7 +65,8 @@ pub(crate) fn put_coding(w: &mut Writer<'_>, coding: Coding)
     }
 }
 
-// A kind of declaration, as `decl_kind_name` spells it, each by its own arm.
+// A kind of declaration, as `decl_kind_name` spells it, each by its own arm. Put into its callers: a line of the listing is little more.
+#[inline(always)]
 #[tactic(auto, using(crate::proofs::Laws::Words::kind_told), unfolding(image::specs::Words::bytes))]
 pub fn put_kind(w: &mut Writer<'_>, kind: Kind)
     ensures { Adds w.old (kind_word (kind_number kind)) w.new }

@@ -43,6 +43,7 @@ impl<'a> Reader<'a> {
 }
 
 // The line of a body's declaration.
+#[inline(always)]
 pub fn put_entry(w: &mut Writer<'_>, id: usize, body: &[u8])
     requires { StartHere body.now 0 }
     ensures { Adds w.old (line_of id (start_kind body.now 0) (start_name body.now 0)) w.new }

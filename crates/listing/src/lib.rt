@@ -19,6 +19,7 @@ use text::Writer;
 use verdicts::{Fault, Verdict};
 
 // The line of an entry; nothing for an empty entry.
+#[inline(always)]
 fn put_one(w: &mut Writer<'_>, image: Image<'_>, id: usize)
     requires { id < length (schema_in image).registry }
     ensures { Adds w.old (entry_in image.entry.bytes.now id) w.new }
@@ -33,7 +34,8 @@ fn put_one(w: &mut Writer<'_>, image: Image<'_>, id: usize)
     put_entry(w, id, &image.bytes[from..end]);
 }
 
-// The listing of an image.
+// The listing of an image. Put into its callers with all that it calls, so that their writers stay in registers, and what only measures makes no text.
+#[inline(always)]
 fn put_listing(w: &mut Writer<'_>, image: Image<'_>)
     ensures { Adds w.old (listing (schema_in image.entry)) w.new }
 {

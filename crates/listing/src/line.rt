@@ -8,6 +8,7 @@ use parts::kinds::Kind;
 use text::Writer;
 
 // "id, the kind's word .. and the name, parted by `;`. Each line ends with byte 10"
+#[inline(always)]
 #[tactic(auto, using(text::proofs::Writers::after_after), unfolding(crate::specs::Listing::line_of, image::specs::Words::bytes))]
 pub fn put_line(w: &mut Writer<'_>, id: usize, kind: Kind, name: &[u8])
     ensures { Adds w.old (line_of id (kind_number kind) name.now) w.new }
