@@ -65,7 +65,7 @@ pub(crate) fn put_coding(w: &mut Writer<'_>, coding: Coding)
     }
 }
 
-// A kind of declaration, as `decl_kind_name` spells it, each by its own arm. Put into its callers: a line of the listing is little more.
+// A kind of declaration, as `decl_kind_name` spells it, each by its own arm. Put into its callers, for the listing's measure: see `number` of a writer.
 #[inline(always)]
 #[tactic(auto, using(crate::proofs::Laws::Words::kind_told), unfolding(image::specs::Words::bytes))]
 pub fn put_kind(w: &mut Writer<'_>, kind: Kind)

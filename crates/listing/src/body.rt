@@ -42,7 +42,7 @@ impl<'a> Reader<'a> {
     }
 }
 
-// The line of a body's declaration.
+// The line of a body's declaration. Put into its caller: see `put_listing`.
 #[inline(always)]
 pub fn put_entry(w: &mut Writer<'_>, id: usize, body: &[u8])
     requires { StartHere body.now 0 }

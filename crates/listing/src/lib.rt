@@ -18,7 +18,7 @@ use tally::Tally;
 use text::Writer;
 use verdicts::{Fault, Verdict};
 
-// The line of an entry; nothing for an empty entry.
+// The line of an entry; nothing for an empty entry. Put into `put_listing`, as what makes up its line is put into it.
 #[inline(always)]
 fn put_one(w: &mut Writer<'_>, image: Image<'_>, id: usize)
     requires { id < length (schema_in image).registry }
@@ -34,7 +34,8 @@ fn put_one(w: &mut Writer<'_>, image: Image<'_>, id: usize)
     put_entry(w, id, &image.bytes[from..end]);
 }
 
-// The listing of an image. Put into its callers with all that it calls, so that their writers stay in registers, and what only measures makes no text.
+// The listing of an image. Put into its callers, with what makes up its lines, so that their writers need no memory, which each byte that is written might
+// change, and `measured`, whose buffer is empty, makes no text.
 #[inline(always)]
 fn put_listing(w: &mut Writer<'_>, image: Image<'_>)
     ensures { Adds w.old (listing (schema_in image.entry)) w.new }

@@ -7,7 +7,7 @@ use display::words::put_kind;
 use parts::kinds::Kind;
 use text::Writer;
 
-// "id, the kind's word .. and the name, parted by `;`. Each line ends with byte 10"
+// "id, the kind's word .. and the name, parted by `;`. Each line ends with byte 10". Put into its caller: see `put_listing`.
 #[inline(always)]
 #[tactic(auto, using(text::proofs::Writers::after_after), unfolding(crate::specs::Listing::line_of, image::specs::Words::bytes))]
 pub fn put_line(w: &mut Writer<'_>, id: usize, kind: Kind, name: &[u8])

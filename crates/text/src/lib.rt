@@ -59,7 +59,8 @@ impl Writer<'_> {
         self.at = at.saturating_add(s.len());
     }
 
-    // A number in decimal after the text so far. Put into its callers, so that one whose buffer has no room for it need not make the digits.
+    // A number in decimal after the text so far. Put into its callers, so that the listing's measure, which knows its buffer empty,
+    // makes no digits.
     #[inline(always)]
     #[tactic(auto, using(crate::proofs::Numbers::showing))]
     pub fn number(&mut self, n: u64)
