@@ -1,5 +1,5 @@
 #!/usr/bin/env python3
-"""All tests of the repository: proofs, must-fail edits, programs and tools. They take 30 to 50 minutes on four cores, by the
+"""All tests of the repository: proofs, must-fail edits, programs and tools. They take 35 to 60 minutes on four cores, by the
 machine, and longer on two; what is proved is kept on that machine, so that a later run takes about 15 minutes. The last line is `N passed, M failed`, the sum of what ran; what could
 not run is named and not counted."""
 
